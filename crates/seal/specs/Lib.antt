@@ -1,0 +1,6 @@
+-- What the contracts of `seal` cite, and laws that the crates above cite.
+pub mod Bytes
+pub mod WindowLaws
+pub mod FieldLaws
+pub mod MoveLaws
+pub mod PartLaws
