@@ -1,7 +1,7 @@
 -- Bytes: little-endian numbers in a list of bytes, a window of a list, a list with a run replaced, a run moved.
 use mathlib.Core.List.{List, [], _∷_, _++_}
-use Prim.Native.Nat.{ℕ, zero, suc, _+_, _*_, _/_, _%_}
-use lib.ListN.{length, take, drop}
+use Prim.Native.Nat.{ℕ, zero, suc, _+_, _*_, _/_, _%_, _<_}
+use lib.ListN.{length, take, drop, getD}
 
 -- the n elements from index i on
 unfoldable pub window : ℕ → ℕ → List ℕ → List ℕ
@@ -38,3 +38,7 @@ u32At = fieldAt 4
 
 abbrev pub u64At : List ℕ → ℕ → ℕ
 u64At = fieldAt 8
+
+-- every element is a byte
+abbrev pub AreBytes : List ℕ → Type 0
+AreBytes l = (i : ℕ) → getD l i 0 < 256

@@ -8,7 +8,7 @@ use native.Mathlib.Omega.{arith}
 use lib.ListN.{length, take, drop, getD, set, replicate, length-append, length-take, length-drop, length-replicate, take-append-drop, drop-of-length-le}
 use lib.Seq.{take-add, drop-drop, drop-cons, length-take-le, take-append-le, drop-append-le, take-append-add, drop-append-add, take-at, drop-at, take-take, take-nil, take-append-seam, sets-eq, set-split, getD-take, getD-drop, append-snoc}
 use lib.Pow.{pow-pos}
-use Rattle.seal.specs.Bytes.{window, splice, le, bytesOf, fieldAt, u16At, u32At, u64At}
+use Rattle.seal.specs.Bytes.{window, splice, le, bytesOf, fieldAt, u16At, u32At, u64At, AreBytes}
 use Rattle.seal.specs.WindowLaws.{length-window, length-splice, window-add, window-one, window-window, splice-two, window-splice-before, window-splice-after, window-splice-same}
 
 pub length-bytesOf : (n x : ℕ) → length (bytesOf n x) ≡ n
@@ -90,3 +90,45 @@ field-after n l i vs j h k = rw window-splice-after
 pub field-window : (n a m : ℕ) (l : List ℕ) (i : ℕ) → i + n ≤ m → fieldAt n (window a m l) i ≡ fieldAt n l (a + i)
 unfolding fieldAt
 field-window n a m l i h = rw window-window
+
+-- ---- lists of bytes
+
+pub bytes-take : (n : ℕ) (l : List ℕ) → AreBytes l → AreBytes (take n l)
+bytes-take zero l h i = omega arith
+bytes-take (suc n) [] h i = omega arith
+bytes-take (suc n) (x ∷ l) h zero = h 0
+bytes-take (suc n) (x ∷ l) h (suc i) = bytes-take n l (λ (j : ℕ). h (suc j)) i
+
+pub bytes-drop : (n : ℕ) (l : List ℕ) → AreBytes l → AreBytes (drop n l)
+bytes-drop n l h i = rw getD-drop (h (n + i))
+
+pub bytes-append : (l k : List ℕ) → AreBytes l → AreBytes k → AreBytes (l ++ k)
+bytes-append [] k h g i = g i
+bytes-append (x ∷ l) k h g zero = h 0
+bytes-append (x ∷ l) k h g (suc i) = bytes-append l k (λ (j : ℕ). h (suc j)) g i
+
+pub bytes-splice : (l : List ℕ) (i : ℕ) (vs : List ℕ) → AreBytes l → AreBytes vs → AreBytes (splice l i vs)
+unfolding splice
+bytes-splice l i vs h g = bytes-append (take i l ++ vs) (drop (i + length vs) l) (bytes-append (take i l) vs (bytes-take i l h) g) (bytes-drop (i + length vs) l h)
+
+pub bytes-bytesOf : (n x : ℕ) → AreBytes (bytesOf n x)
+unfolding bytesOf
+bytes-bytesOf zero x i = omega arith
+bytes-bytesOf (suc n) x zero = omega arith
+bytes-bytesOf (suc n) x (suc i) = bytes-bytesOf n (x / 256) i
+
+le-fits : (n : ℕ) (l : List ℕ) → AreBytes l → le (take n l) < 256 ^ n
+unfolding le
+le-fits zero l h = rw pow-zero (omega arith)
+le-fits (suc n) [] h = rw pow-succ' (omega (arith, le-fits n [] h))
+le-fits (suc n) (x ∷ l) h = rw pow-succ' (omega (arith, h 0, le-fits n l (λ (j : ℕ). h (suc j))))
+
+-- a field of bytes is below what its width can hold
+pub field-fits : (n : ℕ) (l : List ℕ) (i : ℕ) → AreBytes l → fieldAt n l i < 256 ^ n
+unfolding fieldAt window
+field-fits n l i h = le-fits n (drop i l) (bytes-drop i l h)
+
+-- a field of what stands from a on
+pub field-drop : (n a : ℕ) (l : List ℕ) (i : ℕ) → fieldAt n (drop a l) i ≡ fieldAt n l (a + i)
+unfolding fieldAt window
+field-drop n a l i = ap (λ (q : List ℕ). le (take n q)) (drop-drop i a l)

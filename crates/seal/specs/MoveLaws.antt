@@ -75,7 +75,7 @@ turn-up l s a b k n z kn e le h =
 pub moved-done : (l s : List ℕ) (a b k n : ℕ) → k ≤ 0 → s ≡ moved l (a + k) (b + k) (n - k) → s ≡ moved l a b n
 moved-done l s a b k n z e =
     let k0 : k ≡ 0 = omega arith in
-    e ∙ rw (k0, add-zero, add-zero, sub-zero)
+    e ∙ rw (k0, add-zero a, add-zero b, sub-zero)
 
 -- ---- for `search`: each premise is a field of what a need is handed
 

@@ -54,6 +54,10 @@ splice-two l i a b h =
     ∙ ap (λ (q : List ℕ). p ++ b ++ q) (ap (λ (k : ℕ). drop (k + length b) (p ++ r)) (sym e) ∙ drop-append-add p r (length b) ∙ drop-drop (length b) (i + length a) l)
     ∙ simp (append-assoc, length-append, add-assoc)
 
+-- a run, and then the run after it
+pub splice-run : (l l₁ l₂ : List ℕ) (i : ℕ) (a : List ℕ) (j : ℕ) (b : List ℕ) → i + length a ≡ j → j + length b ≤ length l → l₁ ≡ splice l i a → l₂ ≡ splice l₁ j b → l₂ ≡ splice l i (a ++ b)
+splice-run l l₁ l₂ i a j b e h p q = q ∙ ap₂ (λ (k : List ℕ) (n : ℕ). splice k n b) p (sym e) ∙ splice-two l i a b (omega arith)
+
 -- what lies where nothing was replaced
 pub window-splice-before : (l : List ℕ) (i : ℕ) (vs : List ℕ) (j n : ℕ) → j + n ≤ i → i ≤ length l → window j n (splice l i vs) ≡ window j n l
 unfolding window splice

@@ -1,14 +1,12 @@
-use Prim.Native.Nat.{ℕ, suc, _+_, _-_, _*_, _/_, _%_, _≤_, _<_}
+-- `seal::bytes::copy_to` meets its contract. Assumes nothing.
+use Prim.Native.Nat.{_-_, _≤_}
 use borrow.Author.Needs.{needs}
-use native.Mathlib.Omega.{arith}
-use mathlib.Core.Path.{_≡_, refl, sym, ap, _∙_}
-use lib.ListN.{length, take, drop, getD, set}
+use mathlib.Core.Path.{_≡_}
+use lib.ListN.{length, take}
 use Rattle.seal.specs.WindowLaws.{copy-start, copy-next, copy-done}
 use Rattle.seal.specs.Bytes.{splice}
 use Rattle.seal.proofs.bytes.copy_to.Statement.{statement}
 use Rattle.seal.proofs.bytes.copy_to.Tie as tie
-use Rattle.seal.proofs.bytes.copy_to.Reads as reads
-use Rattle.seal.proofs.bytes.copy_to.Lts as lts
 
 ruleset laws = (needs, copy-start, copy-next, copy-done)
 
@@ -18,39 +16,30 @@ Inv-loop src dst₀ at k₀ dst k = (k ≤ length src) × (length dst ≡ length
 abbrev μ-loop : tie.MeasureT-loop
 μ-loop src dst₀ at k₀ dst k = length src - k
 
--- src/bytes.rt:66:5
 loop-holds : tie.Need-loop-holds Inv-loop μ-loop
 loop-holds c = search laws
 
--- src/bytes.rt:67:23
 shared-slice-read-dst : tie.Need-shared-slice-read-dst Inv-loop μ-loop
 shared-slice-read-dst c = search laws
 
--- src/bytes.rt:67:13
 add-dst : tie.Need-add-dst Inv-loop μ-loop
 add-dst c = search laws
 
--- src/bytes.rt:67:9
 slice-write-dst : tie.Need-slice-write-dst Inv-loop μ-loop
 slice-write-dst c = search laws
 
--- src/bytes.rt:68:9
 add-k : tie.Need-add-k Inv-loop μ-loop
 add-k c = search laws
 
--- src/bytes.rt:66:5
 loop-less : tie.Need-loop-less Inv-loop μ-loop
 loop-less c = search laws
 
--- src/bytes.rt:66:5
 loop-again : tie.Need-loop-again Inv-loop μ-loop
 loop-again c = search laws
 
--- src/bytes.rt:61:1
 same-length : tie.Need-same-length Inv-loop μ-loop
 same-length c = search laws
 
--- src/bytes.rt:61:1
 returns : tie.Need-returns Inv-loop μ-loop
 returns c = search laws
 

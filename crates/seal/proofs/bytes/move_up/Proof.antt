@@ -1,11 +1,12 @@
+-- `seal::bytes::move_up` meets its contract. Assumes nothing.
 use Prim.Native.Nat.{_≤_, _-_, _+_}
 use mathlib.Core.Path.{_≡_, sym, ap, _∙_}
 use native.Mathlib.Omega.{arith}
-use native.Mathlib.Nat.{add-zero, sub-self}
+use native.Mathlib.Nat.{sub-self}
 use borrow.Author.Needs.{needs}
 use lib.ListN.{length, length-set}
 use Rattle.seal.specs.Bytes.{moved}
-use Rattle.seal.specs.MoveLaws.{moved-none, turn-down, turn-up, moved-done}
+use Rattle.seal.specs.MoveLaws.{moved-none, turn-up, moved-done}
 use Rattle.seal.proofs.bytes.move_up.Statement.{statement}
 use Rattle.seal.proofs.bytes.move_up.Tie as tie
 

@@ -1,0 +1,3 @@
+-- Blocks and flush: document 01's rules as functions.
+pub mod Space
+pub mod Flush

@@ -1,0 +1,1 @@
+// Block choice and flush.

@@ -1,0 +1,39 @@
+-- `node::slot::offset_of` meets its contract. Assumes nothing.
+use Prim.Native.Nat.{_-_, _≤_}
+use mathlib.Core.Path.{_≡_}
+use borrow.Author.Needs.{needs}
+use Rattle.node.specs.SlotLaws.{at-start, at-lies-below, at-next, at-end}
+use Rattle.node.specs.Records.{recordsLength}
+use Rattle.node.proofs.slot.offset_of.Statement.{statement}
+use Rattle.node.proofs.slot.offset_of.Tie as tie
+
+ruleset laws = (needs, at-start, at-lies-below, at-next, at-end)
+
+abbrev Inv-loop : tie.InvT-loop
+Inv-loop slot n i k₀ at₀ k at = (k ≤ i) × (at ≡ recordsLength k slot)
+
+abbrev μ-loop : tie.MeasureT-loop
+μ-loop slot n i k₀ at₀ k at = i - k
+
+loop-holds : tie.Need-loop-holds Inv-loop μ-loop
+loop-holds c = search laws
+
+next-requires : tie.Need-next-requires Inv-loop μ-loop
+next-requires c κs = search laws
+
+add-k : tie.Need-add-k Inv-loop μ-loop
+add-k c = search laws
+
+loop-less : tie.Need-loop-less Inv-loop μ-loop
+loop-less c = search laws
+
+loop-again : tie.Need-loop-again Inv-loop μ-loop
+loop-again c = search laws
+
+returns : tie.Need-returns Inv-loop μ-loop
+returns c = search laws
+
+pub offset-of-spec : {M : Type 1} → statement M
+offset-of-spec =
+    tie.close
+    (tie.spec Inv-loop μ-loop loop-holds next-requires add-k loop-less loop-again returns)

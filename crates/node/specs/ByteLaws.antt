@@ -1,0 +1,119 @@
+-- Lists of bytes: every element below 256. Assumes nothing.
+use mathlib.Core.Path.{_≡_, refl, ap₂}
+use mathlib.Core.List.{List, [], _∷_, _++_}
+use Prim.Native.Nat.{ℕ, zero, suc, _+_, _*_, _/_, _%_, _^_, _<_}
+use native.Mathlib.Nat.{pow-zero, pow-succ', one-le-pow, suc-inj}
+use native.Mathlib.Omega.{arith}
+use mir.Syntax.{w8}
+use mir.Val.{Fits}
+use lib.ListN.{length, take, drop, getD, replicate}
+use Rattle.seal.specs.Bytes.{window, splice, le, bytesOf, fieldAt}
+
+-- every element is a byte (past the end `getD` answers 0)
+pub record Bytes (l : List ℕ) : Type 0 where
+  pub below : (i : ℕ) → getD l i 0 < 256
+
+-- what a proof knows of a lent slice, `c .. .shared-slice-known .given` or `c .. .slice-known .given`
+pub bytes-known : (l : List ℕ) → ((i : ℕ) → Fits w8 (getD l i 0)) → Bytes l
+bytes-known l h = record { below = λ i. h i .fits }
+
+pub bytes-below : (l : List ℕ) → ((i : ℕ) → getD l i 0 < 256) → Bytes l
+bytes-below l h = record { below = h }
+
+pub bytes-nil : Bytes []
+bytes-nil = record { below = λ i. omega arith }
+
+cons-below : (b : ℕ) (l : List ℕ) → b < 256 → Bytes l → (i : ℕ) → getD (b ∷ l) i 0 < 256
+cons-below b l h k zero = h
+cons-below b l h k (suc i) = k .below i
+
+pub bytes-cons : {b : ℕ} {l : List ℕ} → b < 256 → Bytes l → Bytes (b ∷ l)
+bytes-cons {b} {l} h k = record { below = cons-below b l h k }
+
+pub bytes-head : {b : ℕ} {l : List ℕ} → Bytes (b ∷ l) → b < 256
+bytes-head h = h .below 0
+
+pub bytes-tail : {b : ℕ} {l : List ℕ} → Bytes (b ∷ l) → Bytes l
+bytes-tail h = record { below = λ i. h .below (suc i) }
+
+pub bytes-within : (l : List ℕ) → ((i : ℕ) → i < length l → getD l i 0 < 256) → Bytes l
+bytes-within [] h = bytes-nil
+bytes-within (x ∷ xs) h = bytes-cons (h 0 (omega arith)) (bytes-within xs (λ i k. h (suc i) (omega arith)))
+
+pub bytes-append : (a b : List ℕ) → Bytes a → Bytes b → Bytes (a ++ b)
+bytes-append [] b h k = k
+bytes-append (x ∷ xs) b h k = bytes-cons (bytes-head h) (bytes-append xs b (bytes-tail h) k)
+
+pub bytes-left : (a b : List ℕ) → Bytes (a ++ b) → Bytes a
+bytes-left [] b h = bytes-nil
+bytes-left (x ∷ xs) b h = bytes-cons (bytes-head h) (bytes-left xs b (bytes-tail h))
+
+pub bytes-right : (a b : List ℕ) → Bytes (a ++ b) → Bytes b
+bytes-right [] b h = h
+bytes-right (x ∷ xs) b h = bytes-right xs b (bytes-tail h)
+
+pub bytes-drop : (n : ℕ) (l : List ℕ) → Bytes l → Bytes (drop n l)
+bytes-drop zero l h = h
+bytes-drop (suc n) [] h = h
+bytes-drop (suc n) (x ∷ xs) h = bytes-drop n xs (bytes-tail h)
+
+pub bytes-take : (n : ℕ) (l : List ℕ) → Bytes l → Bytes (take n l)
+bytes-take zero l h = bytes-nil
+bytes-take (suc n) [] h = h
+bytes-take (suc n) (x ∷ xs) h = bytes-cons (bytes-head h) (bytes-take n xs (bytes-tail h))
+
+pub bytes-window : (i n : ℕ) (l : List ℕ) → Bytes l → Bytes (window i n l)
+unfolding window
+bytes-window i n l h = bytes-take n (drop i l) (bytes-drop i l h)
+
+pub bytes-splice : (l : List ℕ) (i : ℕ) (vs : List ℕ) → Bytes l → Bytes vs → Bytes (splice l i vs)
+unfolding splice
+bytes-splice l i vs h k =
+    bytes-append (take i l ++ vs) (drop (i + length vs) l) (bytes-append (take i l) vs (bytes-take i l h) k) (bytes-drop (i + length vs) l h)
+
+pub bytes-bytesOf : (n x : ℕ) → Bytes (bytesOf n x)
+unfolding bytesOf
+bytes-bytesOf zero x = bytes-nil
+bytes-bytesOf (suc n) x = bytes-cons (omega arith) (bytes-bytesOf n (x / 256))
+
+pub bytes-replicate : (n b : ℕ) → b < 256 → Bytes (replicate n b)
+bytes-replicate zero b h = bytes-nil
+bytes-replicate (suc n) b h = bytes-cons h (bytes-replicate n b h)
+
+-- ---- numbers that bytes spell
+
+-- n bytes spell less than 256 ^ n
+pub le-take-below : (n : ℕ) (l : List ℕ) → Bytes l → le (take n l) < 256 ^ n
+unfolding le
+le-take-below zero l h = rw pow-zero (omega arith)
+le-take-below (suc n) [] h = one-le-pow (suc n) 256 (omega arith)
+le-take-below (suc n) (x ∷ xs) h =
+    let r = le-take-below n xs (bytes-tail h) in
+    let b = bytes-head h in
+    rw pow-succ' (omega arith)
+
+pub field-below : (n : ℕ) (l : List ℕ) (i : ℕ) → Bytes l → fieldAt n l i < 256 ^ n
+unfolding fieldAt window
+field-below n l i h = le-take-below n (drop i l) (bytes-drop i l h)
+
+-- bytes that spell one number are the same
+pub le-injective : (a b : List ℕ) → Bytes a → Bytes b → length a ≡ length b → le a ≡ le b → a ≡ b
+unfolding le
+le-injective [] [] h k l e = refl
+le-injective [] (y ∷ ys) h k l e = absurd (omega arith)
+le-injective (x ∷ xs) [] h k l e = absurd (omega arith)
+le-injective (x ∷ xs) (y ∷ ys) h k l e =
+    let p = bytes-head h in
+    let q = bytes-head k in
+    let m : le xs ≡ le ys = omega arith in
+    let t : x ≡ y = omega arith in
+    ap₂ _∷_ t (le-injective xs ys (bytes-tail h) (bytes-tail k) (suc-inj l) m)
+
+pub bytesOf-le : (l : List ℕ) → Bytes l → bytesOf (length l) (le l) ≡ l
+unfolding le bytesOf
+bytesOf-le [] h = refl
+bytesOf-le (x ∷ xs) h =
+    let p = bytes-head h in
+    let m : (x + 256 * le xs) % 256 ≡ x = omega arith in
+    let d : (x + 256 * le xs) / 256 ≡ le xs = omega arith in
+    rw (m, d, bytesOf-le xs (bytes-tail h))

@@ -1,0 +1,39 @@
+// Tree-wide numbers, as `btree_info_t` stores them in a root (BTreeInfo of btree.rs).
+use seal::bytes;
+ghost use mathlib.Core.Path.{_≡_};
+ghost use Prim.Native.Nat.{_≤_, _<_, _^_};
+ghost use lib.ListN.{length};
+ghost use Rattle.node.specs.Read.{infoAt};
+
+pub const BTREE_INFO_SIZE: usize = 40;
+
+pub struct BTreeInfo {
+    pub flags: u64,
+    pub node_size: u64,
+    pub key_size: u64,
+    pub val_size: u64,
+    pub longest_key: u64,
+    pub longest_val: u64,
+    pub key_count: u64,
+    pub node_count: u64,
+}
+
+impl BTreeInfo {
+    // A root's last 40 bytes.
+    pub fn parse(block: &[u8]) -> BTreeInfo
+        requires { ⌜ 40 ≤ length (now block) ⌝ }
+        ensures { λ r. ⌜ (r ≡ infoAt (now (block .entry))) × (r .«key_size» < 2 ^ 32) × (r .«val_size» < 2 ^ 32) ⌝ }
+    {
+        let i = block.len() - BTREE_INFO_SIZE;
+        BTreeInfo {
+            flags: bytes::u32_at(block, i),
+            node_size: bytes::u32_at(block, i + 4),
+            key_size: bytes::u32_at(block, i + 8),
+            val_size: bytes::u32_at(block, i + 12),
+            longest_key: bytes::u32_at(block, i + 16),
+            longest_val: bytes::u32_at(block, i + 20),
+            key_count: bytes::u64_at(block, i + 24),
+            node_count: bytes::u64_at(block, i + 32),
+        }
+    }
+}

@@ -1,0 +1,244 @@
+// A node's entries in a slot: n records at the start of the slot's bytes, in key order; `used` bytes are theirs
+// (`MemNode`'s keys and vals of write/tree.rs). Each function is lent one slot's bytes, so no other slot is touched.
+use crate::order::Order;
+use crate::record;
+use crate::val::Child;
+use crate::val::Val;
+use seal::bytes;
+ghost use mathlib.Core.Path.{_≡_};
+ghost use Prim.Native.Nat.{_+_, _-_, _≤_, _<_, _^_};
+ghost use lib.ListN.{length, drop};
+ghost use Rattle.seal.specs.Bytes.{moved};
+ghost use Rattle.node.specs.Entry.{valueLength};
+ghost use Rattle.node.specs.Records.{markLength, valueOf, recordLength, entryOf, recordsLength, entriesOf};
+ghost use Rattle.node.specs.Slot.{insertAt, removeAt, withKey, withValue, recordsHold, suits, valueMeans};
+ghost use Rattle.node.specs.Find.{foundIn, lastIn};
+
+// Where a key's place is among n records: the entries before it, its offset, and whether the entry there has the key.
+pub struct Found {
+    pub index: u64,
+    pub at: usize,
+    pub found: bool,
+}
+
+// How many entries have a key not above a key, and where the last of them lies: where the first lies if there is none.
+pub struct Last {
+    pub count: u64,
+    pub at: usize,
+}
+
+// Where record i starts.
+pub fn offset_of(slot: &[u8], n: u64, i: u64) -> usize
+    requires { ⌜ (recordsLength n (now slot) ≤ length (now slot)) × (i ≤ n) ⌝ }
+    ensures { λ r. ⌜ r ≡ recordsLength i (now (slot .entry)) ⌝ }
+{
+    let mut k = 0;
+    let mut at = 0;
+    while k < i {
+        at = record::next(slot, at);
+        k += 1;
+    }
+    at
+}
+
+// Whether n records lie within the slot and take `used` bytes. Stops at the first that does not lie within it.
+pub fn records_hold(slot: &[u8], n: u64, used: u64) -> bool
+    ensures { λ r. ⌜ r ≡ recordsHold n used (now (slot .entry)) ⌝ }
+{
+    let mut i = 0;
+    let mut at = 0;
+    while i < n {
+        let inside = record::lies(slot, at);
+        if !inside {
+            return false;
+        }
+        at = record::next(slot, at);
+        i += 1;
+    }
+    at as u64 == used
+}
+
+// Whether the marks suit the level: in a leaf no child, in an index nothing else.
+pub fn marks_suit(slot: &[u8], n: u64, leaf: bool) -> bool
+    requires { ⌜ recordsLength n (now slot) ≤ length (now slot) ⌝ }
+    ensures { λ r. ⌜ r ≡ suits leaf (entriesOf n (now (slot .entry))) ⌝ }
+{
+    let mut i = 0;
+    let mut at = 0;
+    while i < n {
+        let suited = record::suits(slot, at, leaf);
+        if !suited {
+            return false;
+        }
+        at = record::next(slot, at);
+        i += 1;
+    }
+    true
+}
+
+// The key of the record at an offset.
+pub fn key_of(slot: &[u8], at: usize) -> &[u8]
+    requires { ⌜ at + recordLength (drop at (now slot)) ≤ length (now slot) ⌝ }
+    ensures { λ r. ⌜ now r ≡ entryOf (drop at (now (slot .entry))) .key ⌝ }
+{
+    let r = record::record_at(slot, at);
+    let a = r.key;
+    let e = r.value;
+    &slot[a..e]
+}
+
+// The value of the record at an offset; its bytes stay in the slot.
+pub fn value_of(slot: &[u8], at: usize) -> Val
+    requires { ⌜ at + recordLength (drop at (now slot)) ≤ length (now slot) ⌝ }
+    ensures { λ r. ⌜ valueMeans (now (slot .entry)) r ≡ entryOf (drop at (now (slot .entry))) .value ⌝ }
+{
+    let r = record::record_at(slot, at);
+    if r.mark <= 0xFFFC {
+        return Val::Leaf(r.value, r.vlen);
+    }
+    if r.mark == record::GHOST {
+        return Val::Ghost;
+    }
+    let x = bytes::u64_at(slot, r.value);
+    if r.mark == record::DISK {
+        return Val::Child(Child::Disk(x));
+    }
+    Val::Child(Child::Mem(x))
+}
+
+// The place of a key: after the entries whose keys are below it.
+pub fn below(slot: &[u8], n: u64, order: Order, key: &[u8]) -> Found
+    requires { ⌜ recordsLength n (now slot) ≤ length (now slot) ⌝ }
+    ensures { λ r. ⌜ r ≡ foundIn (order .code) (now (key .entry)) n (now (slot .entry)) ⌝ }
+{
+    let mut i = 0;
+    let mut at = 0;
+    while i < n {
+        let k = key_of(slot, at);
+        let lower = order.less(k, key);
+        if !lower {
+            let above = order.less(key, k);
+            return Found {
+                index: i,
+                at: at,
+                found: !above,
+            };
+        }
+        at = record::next(slot, at);
+        i += 1;
+    }
+    Found {
+        index: i,
+        at: at,
+        found: false,
+    }
+}
+
+// The entries whose keys are not above a key: the last of them is where a descent goes on.
+pub fn not_above(slot: &[u8], n: u64, order: Order, key: &[u8]) -> Last
+    requires { ⌜ recordsLength n (now slot) ≤ length (now slot) ⌝ }
+    ensures { λ r. ⌜ r ≡ lastIn (order .code) (now (key .entry)) n (now (slot .entry)) ⌝ }
+{
+    let mut i = 0;
+    let mut at = 0;
+    let mut last = 0;
+    while i < n {
+        let k = key_of(slot, at);
+        if order.less(key, k) {
+            return Last { count: i, at: last };
+        }
+        last = at;
+        at = record::next(slot, at);
+        i += 1;
+    }
+    Last { count: i, at: last }
+}
+
+// n bytes moved from a to b, up or down.
+fn shift(slot: &mut [u8], a: usize, b: usize, n: usize)
+    requires { ⌜ (a + n ≤ length (now slot)) × (b + n ≤ length (now slot)) ⌝ }
+    ensures { λ _. ⌜ now (slot .exit) ≡ moved (now (slot .entry)) a b n ⌝ }
+{
+    if a < b {
+        bytes::move_up(slot, a, b, n);
+        return;
+    }
+    bytes::move_down(slot, a, b, n);
+}
+
+// A record put before record i. The answer of this and the next three is the bytes in use after it.
+pub fn insert(
+    slot: &mut [u8],
+    n: u64,
+    i: u64,
+    used: usize,
+    at: usize,
+    key: &[u8],
+    mark: u64,
+    value: &[u8],
+) -> usize
+    requires { ⌜ (used ≡ recordsLength n (now slot)) × (at ≡ recordsLength i (now slot)) × (i ≤ n) × (used + 4 + length (now key) + length (now value) ≤ length (now slot)) × (length (now key) < 2 ^ 16) × (mark < 2 ^ 16) × (markLength mark ≡ length (now value)) ⌝ }
+    ensures { λ r. ⌜ (r ≡ used + 4 + length (now (key .entry)) + length (now (value .entry))) × (recordsLength (n + 1) (now (slot .exit)) ≡ used + 4 + length (now (key .entry)) + length (now (value .entry))) × (entriesOf (n + 1) (now (slot .exit)) ≡ insertAt i (record { key = now (key .entry); value = valueOf mark (now (value .entry)) }) (entriesOf n (now (slot .entry)))) ⌝ }
+{
+    let next = at + 4 + key.len() + value.len();
+    bytes::move_up(slot, at, next, used - at);
+    record::put(slot, at, key, mark, value);
+    next + (used - at)
+}
+
+pub fn remove(slot: &mut [u8], n: u64, i: u64, used: usize, at: usize) -> usize
+    requires { ⌜ (used ≡ recordsLength n (now slot)) × (at ≡ recordsLength i (now slot)) × (i < n) × (recordsLength n (now slot) ≤ length (now slot)) ⌝ }
+    ensures { λ r. ⌜ (r + recordLength (drop at (now (slot .entry))) ≡ used) × (recordsLength (n - 1) (now (slot .exit)) ≡ r) × (entriesOf (n - 1) (now (slot .exit)) ≡ removeAt i (entriesOf n (now (slot .entry)))) ⌝ }
+{
+    let next = record::next(slot, at);
+    bytes::move_down(slot, next, at, used - next);
+    at + (used - next)
+}
+
+// Record i with another key.
+pub fn set_key(slot: &mut [u8], n: u64, i: u64, used: usize, at: usize, key: &[u8]) -> usize
+    requires { ⌜ (used ≡ recordsLength n (now slot)) × (at ≡ recordsLength i (now slot)) × (i < n) × (used + length (now key) ≤ length (now slot)) × (length (now key) < 2 ^ 16) ⌝ }
+    ensures { λ r. ⌜ (r + length (entryOf (drop at (now (slot .entry))) .key) ≡ used + length (now (key .entry))) × (recordsLength n (now (slot .exit)) ≡ r) × (entriesOf n (now (slot .exit)) ≡ withKey i (now (key .entry)) (entriesOf n (now (slot .entry)))) ⌝ }
+{
+    let r = record::record_at(slot, at);
+    let from = r.value;
+    let klen = key.len();
+    let to = at + 4 + klen;
+    shift(slot, from, to, used - from);
+    bytes::copy_to(key, slot, at + 4);
+    bytes::put_u16(slot, at, klen as u64);
+    to + (used - from)
+}
+
+// Record i with another value.
+pub fn set_value(
+    slot: &mut [u8],
+    n: u64,
+    i: u64,
+    used: usize,
+    at: usize,
+    mark: u64,
+    value: &[u8],
+) -> usize
+    requires { ⌜ (used ≡ recordsLength n (now slot)) × (at ≡ recordsLength i (now slot)) × (i < n) × (used + length (now value) ≤ length (now slot)) × (mark < 2 ^ 16) × (markLength mark ≡ length (now value)) ⌝ }
+    ensures { λ r. ⌜ (r + valueLength (entryOf (drop at (now (slot .entry))) .value) ≡ used + length (now (value .entry))) × (recordsLength n (now (slot .exit)) ≡ r) × (entriesOf n (now (slot .exit)) ≡ withValue i (valueOf mark (now (value .entry))) (entriesOf n (now (slot .entry)))) ⌝ }
+{
+    let r = record::record_at(slot, at);
+    let v = r.value;
+    let from = r.next;
+    let to = v + value.len();
+    shift(slot, from, to, used - from);
+    bytes::copy_to(value, slot, v);
+    bytes::put_u16(slot, at + 2, mark);
+    to + (used - from)
+}
+
+// The records from record i on, copied to the start of another slot. The first i records are what is left here.
+pub fn part_tail(slot: &[u8], n: u64, i: u64, used: usize, at: usize, other: &mut [u8]) -> usize
+    requires { ⌜ (used ≡ recordsLength n (now slot)) × (at ≡ recordsLength i (now slot)) × (i ≤ n) × (used ≤ length (now slot)) × (used ≤ at + length (now other)) ⌝ }
+    ensures { λ r. ⌜ (r ≡ used - at) × (recordsLength (n - i) (now (other .exit)) ≡ used - at) × (entriesOf (n - i) (now (other .exit)) ≡ drop i (entriesOf n (now (slot .entry)))) ⌝ }
+{
+    let tail = &slot[at..used];
+    bytes::copy_to(tail, other, 0);
+    used - at
+}

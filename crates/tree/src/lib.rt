@@ -1,0 +1,1 @@
+// Editing one tree: what is lent, loading, lookups, edits, the object map.
