@@ -4,7 +4,7 @@ use mathlib.Core.Bool.{Bool, true, false, cond, _&&_, _||_, not}
 use Prim.Native.Nat.{ℕ, zero, suc, _+_, _-_, _*_, _/_, _^_}
 use lib.ListN.{length, getD, set}
 use lib.Dec.{leb, eqb}
-use Rattle.tree.specs.Format.{splice, Result, ok, refused, _>>=_, _>>_, check, Entry, Val, ghost, leaf, disk, mem, BTreeInfo, NodeBuild, MemNode, packNode, numberedBy, dataSpace, packedLength}
+use Rattle.tree.specs.Format.{splice, Result, ok, refused, _>>=_, _>>_, check, Entry, Val, ghost, leaf, disk, mem, BTreeInfo, NodeBuild, MemNode, packNode, numbered, dataSpace, packedLength}
 use Rattle.tree.specs.Refusals as refusal
 use Rattle.tree.specs.Lent.{Lent, blocks}
 use Rattle.tree.specs.State.{State, noNode, nodeAt}
@@ -53,7 +53,7 @@ writeAt s xid n x w =
     let isNew : Bool = s .virtual && eqb (length (m .id)) 0 in
     let id : List ℕ = cond isNew (w .next ∷ []) (m .id) in
     let oid : ℕ = cond (s .virtual) (only id) a in
-    let es : List Entry = map (numberedBy (numberOf (s .virtual) (w .nodes))) (m .entries) in
+    let es : List Entry = map (numbered (numberOf (s .virtual) (w .nodes))) (m .entries) in
     record {
       image = splice (w .image) (a * s .info .«node_size») (packNode (buildOf s xid oid n m) es);
       space = taken (w .space) x;

@@ -1,5 +1,6 @@
 -- What is proved over the crates below.
 pub mod Cases
+pub mod CasesHold
 pub mod Plain
 pub mod Walk
 pub mod Calls

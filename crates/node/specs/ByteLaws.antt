@@ -1,4 +1,4 @@
--- Lists of bytes: every element below 256. Assumes nothing.
+-- Lists of bytes, as a record: what `search` finds. `seal` has the predicate and its laws. Assumes nothing.
 use mathlib.Core.Path.{_≡_, refl, ap₂}
 use mathlib.Core.List.{List, [], _∷_, _++_}
 use Prim.Native.Nat.{ℕ, zero, suc, _+_, _*_, _/_, _%_, _^_, _<_}
@@ -7,11 +7,12 @@ use native.Mathlib.Omega.{arith}
 use mir.Syntax.{w8}
 use mir.Val.{Fits}
 use lib.ListN.{length, take, drop, getD, replicate}
-use Rattle.seal.specs.Bytes.{window, splice, le, bytesOf, fieldAt}
+use Rattle.seal.specs.Bytes.{window, splice, le, bytesOf, fieldAt, AreBytes}
+use Rattle.seal.specs.FieldLaws as of
 
 -- every element is a byte (past the end `getD` answers 0)
 pub record Bytes (l : List ℕ) : Type 0 where
-  pub below : (i : ℕ) → getD l i 0 < 256
+  pub below : AreBytes l
 
 -- what a proof knows of a lent slice, `c .. .shared-slice-known .given` or `c .. .slice-known .given`
 pub bytes-known : (l : List ℕ) → ((i : ℕ) → Fits w8 (getD l i 0)) → Bytes l
@@ -41,8 +42,7 @@ bytes-within [] h = bytes-nil
 bytes-within (x ∷ xs) h = bytes-cons (h 0 (omega arith)) (bytes-within xs (λ i k. h (suc i) (omega arith)))
 
 pub bytes-append : (a b : List ℕ) → Bytes a → Bytes b → Bytes (a ++ b)
-bytes-append [] b h k = k
-bytes-append (x ∷ xs) b h k = bytes-cons (bytes-head h) (bytes-append xs b (bytes-tail h) k)
+bytes-append a b h k = record { below = of.bytes-append a b (h .below) (k .below) }
 
 pub bytes-left : (a b : List ℕ) → Bytes (a ++ b) → Bytes a
 bytes-left [] b h = bytes-nil
@@ -53,28 +53,20 @@ bytes-right [] b h = h
 bytes-right (x ∷ xs) b h = bytes-right xs b (bytes-tail h)
 
 pub bytes-drop : (n : ℕ) (l : List ℕ) → Bytes l → Bytes (drop n l)
-bytes-drop zero l h = h
-bytes-drop (suc n) [] h = h
-bytes-drop (suc n) (x ∷ xs) h = bytes-drop n xs (bytes-tail h)
+bytes-drop n l h = record { below = of.bytes-drop n l (h .below) }
 
 pub bytes-take : (n : ℕ) (l : List ℕ) → Bytes l → Bytes (take n l)
-bytes-take zero l h = bytes-nil
-bytes-take (suc n) [] h = h
-bytes-take (suc n) (x ∷ xs) h = bytes-cons (bytes-head h) (bytes-take n xs (bytes-tail h))
+bytes-take n l h = record { below = of.bytes-take n l (h .below) }
 
 pub bytes-window : (i n : ℕ) (l : List ℕ) → Bytes l → Bytes (window i n l)
 unfolding window
 bytes-window i n l h = bytes-take n (drop i l) (bytes-drop i l h)
 
 pub bytes-splice : (l : List ℕ) (i : ℕ) (vs : List ℕ) → Bytes l → Bytes vs → Bytes (splice l i vs)
-unfolding splice
-bytes-splice l i vs h k =
-    bytes-append (take i l ++ vs) (drop (i + length vs) l) (bytes-append (take i l) vs (bytes-take i l h) k) (bytes-drop (i + length vs) l h)
+bytes-splice l i vs h k = record { below = of.bytes-splice l i vs (h .below) (k .below) }
 
 pub bytes-bytesOf : (n x : ℕ) → Bytes (bytesOf n x)
-unfolding bytesOf
-bytes-bytesOf zero x = bytes-nil
-bytes-bytesOf (suc n) x = bytes-cons (omega arith) (bytes-bytesOf n (x / 256))
+bytes-bytesOf n x = record { below = of.bytes-bytesOf n x }
 
 pub bytes-replicate : (n b : ℕ) → b < 256 → Bytes (replicate n b)
 bytes-replicate zero b h = bytes-nil
@@ -93,8 +85,7 @@ le-take-below (suc n) (x ∷ xs) h =
     rw pow-succ' (omega arith)
 
 pub field-below : (n : ℕ) (l : List ℕ) (i : ℕ) → Bytes l → fieldAt n l i < 256 ^ n
-unfolding fieldAt window
-field-below n l i h = le-take-below n (drop i l) (bytes-drop i l h)
+field-below n l i h = of.field-fits n l i (h .below)
 
 -- bytes that spell one number are the same
 pub le-injective : (a b : List ℕ) → Bytes a → Bytes b → length a ≡ length b → le a ≡ le b → a ≡ b

@@ -45,13 +45,3 @@ valueBytes ghost = []
 valueBytes (leaf v) = v
 valueBytes (disk r) = bytesOf 8 r
 valueBytes (mem s) = bytesOf 8 s
-
--- an entry with a child in a slot replaced by the child's number
-unfoldable pub numberedBy : (ℕ → ℕ) → Entry → Entry
-numberedBy f e = record { key = e .key; value = number (e .value) }
-  where
-    number : Val → Val
-    number ghost = ghost
-    number (leaf v) = leaf v
-    number (disk r) = disk r
-    number (mem s) = disk (f s)

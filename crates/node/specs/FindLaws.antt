@@ -9,6 +9,7 @@ use lib.ListN.{length, drop, drop-of-length-le}
 use lib.Dec.{leb, eqb}
 use borrow.Author.Tests.{le-leb, lt-leb, eq-eqb, ne-eqb, leb-true, leb-false, eqb-true, eqb-false, not-true, not-false}
 use Rattle.seal.specs.Bytes.{u16At, window}
+use Rattle.node.specs.TestLaws.{and-left, and-right}
 use Rattle.node.specs.Order.{less}
 use Rattle.node.specs.Entry.{Entry, every}
 use Rattle.node.specs.Records.{markLength, valueOf, recordLength, entryOf, recordsLength, entriesOf}
@@ -43,6 +44,15 @@ hold-end l n used i at a b p h =
     let q : at ≡ recordsLength n l = p ∙ ap (λ (x : ℕ). recordsLength x l) e in
     let h′ : recordsLength n l ≤ length l = omega arith in
     rw (le-leb (recordsLength n l) (length l) h′, ← q)
+
+-- what a caller learns of records that hold
+pub held-used : (n used : ℕ) (l : List ℕ) → recordsHold n used l ≡ true → used ≡ recordsLength n l
+unfolding recordsHold
+held-used n used l h = sym (eqb-true (recordsLength n l) used (and-right (leb (recordsLength n l) (length l)) (eqb (recordsLength n l) used) h))
+
+pub held-room : (n used : ℕ) (l : List ℕ) → recordsHold n used l ≡ true → recordsLength n l ≤ length l
+unfolding recordsHold
+held-room n used l h = leb-true (recordsLength n l) (length l) (and-left (leb (recordsLength n l) (length l)) (eqb (recordsLength n l) used) h)
 
 -- ---- marks that suit
 

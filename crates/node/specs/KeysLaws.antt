@@ -1,23 +1,23 @@
 -- Laws of a node's keys on disk: entry by entry, in order, within bounds. Assumes nothing.
 use mathlib.Core.Path.{_≡_, refl, sym, ap, ap₂, _∙_}
-use mathlib.Core.List.{List, [], _∷_, _++_}
-use mathlib.Core.Bool.{Bool, true, false, cond, _&&_, _||_, not}
-use Prim.Native.Nat.{ℕ, zero, suc, _+_, _-_, _*_, _≤_, _<_, _^_}
-use native.Mathlib.Nat.{add-zero, zero-add, add-suc, suc-add, sub-zero, not-suc-le-zero, le-of-suc-le-suc}
+use mathlib.Core.List.{List, [], _∷_}
+use mathlib.Core.Bool.{Bool, true, false, _&&_, _||_, not}
+use Prim.Native.Nat.{ℕ, zero, suc, _+_, _-_, _≤_, _<_}
+use native.Mathlib.Nat.{add-zero, zero-add, sub-zero, not-suc-le-zero, le-of-suc-le-suc}
 use native.Mathlib.Numerals.{add-one}
 use native.Mathlib.Omega.{arith}
-use lib.ListN.{length, take, drop, getD}
-use lib.Dec.{leb, eqb}
+use lib.ListN.{length}
 use borrow.Author.Tests.{not-true, not-false, eq-eqb, ne-eqb}
 use Rattle.seal.specs.Bytes.{window, u64At}
 use Rattle.seal.specs.WindowLaws.{length-window}
-use Rattle.node.specs.TestLaws.{and-left, and-right, and-true, and-false, never}
+use Rattle.node.specs.TestLaws.{and-left, and-right, and-true, and-false}
 use Rattle.node.specs.ByteLaws.{Bytes, bytes-window}
 use Rattle.node.specs.Order.{less, keyed, keyedLength}
-use Rattle.node.specs.OrderLaws.{Key, key-known}
-use Rattle.node.specs.Entry.{Entry, Val, ghost, leaf, disk, riseAfter, rising, every}
+use Rattle.node.specs.OrderLaws.{key-known}
+use Rattle.node.specs.Entry.{Entry, disk, riseAfter, rising, every}
 use Rattle.node.specs.RisingLaws.{every-and, Keys, KeyBytes, keys-known, lastKey, rising-lower, rising-upper}
-use Rattle.node.specs.Read.{spanAt, isGhost, spanHolds, spansHold, valueAt, entryAt, entriesFrom, inBounds, keysRise, keysWithin, Laid, Sound, valueIn}
+use Rattle.node.specs.Slot.{childMeans, valueMeans}
+use Rattle.node.specs.Read.{spanAt, isGhost, spanHolds, spansHold, valueAt, entryAt, entriesFrom, inBounds, keysRise, keysWithin, Sound}
 use Rattle.node.specs.ReadLaws.{held-key, held-start, held-end, held-no-ghost, held-eight}
 use Rattle.node.specs.declared.read.Node.{Node}
 use Rattle.node.specs.declared.read.Span.{Span}
@@ -280,20 +280,20 @@ module _ (v : Node) (b : List ℕ) (i : ℕ) (s : Span) (e : s ≡ spanAt v b i)
   unfolding entryAt
   value-of = ap (valueAt v b) e
 
-  pub place-ghost : s .voff ≡ 65535 → valueIn b Ghost ≡ entryAt v b i .value
-  unfolding valueIn valueAt isGhost
+  pub place-ghost : s .voff ≡ 65535 → valueMeans b Ghost ≡ entryAt v b i .value
+  unfolding valueMeans childMeans valueAt isGhost
   place-ghost h = sym (sym value-of ∙ rw (eq-eqb (s .voff) 65535 h))
 
-  pub place-leaf : (s .voff ≡ 65535 → ⊥) → v .level ≡ 0 → valueIn b (Leaf (v .vals - s .voff) (s .vlen)) ≡ entryAt v b i .value
-  unfolding valueIn valueAt isGhost
+  pub place-leaf : (s .voff ≡ 65535 → ⊥) → v .level ≡ 0 → valueMeans b (Leaf (v .vals - s .voff) (s .vlen)) ≡ entryAt v b i .value
+  unfolding valueMeans childMeans valueAt isGhost
   place-leaf n h = sym (sym value-of ∙ rw (ne-eqb (s .voff) 65535 n, eq-eqb (v .level) 0 h))
 
   pub disk-of : (r : ℕ) → (s .voff ≡ 65535 → ⊥) → (v .level ≡ 0 → ⊥) → r ≡ u64At b (v .vals - s .voff) → entryAt v b i .value ≡ disk r
   unfolding valueAt isGhost
   disk-of r n h er = sym value-of ∙ rw (ne-eqb (s .voff) 65535 n, ne-eqb (v .level) 0 h, er)
 
-  pub place-child : (r : ℕ) → (s .voff ≡ 65535 → ⊥) → (v .level ≡ 0 → ⊥) → r ≡ u64At b (v .vals - s .voff) → valueIn b (Child (Disk r)) ≡ entryAt v b i .value
-  unfolding valueIn
+  pub place-child : (r : ℕ) → (s .voff ≡ 65535 → ⊥) → (v .level ≡ 0 → ⊥) → r ≡ u64At b (v .vals - s .voff) → valueMeans b (Child (Disk r)) ≡ entryAt v b i .value
+  unfolding valueMeans childMeans
   place-child r n h er = sym (disk-of r n h er)
 
   module _ (h : Sound v b) (lt : i < v .nkeys) where

@@ -27,6 +27,8 @@ pub mod CutLaws
 pub mod ReadLaws
 pub mod KeysLaws
 pub mod LoadLaws
+pub mod AdoptLaws
+pub mod AcceptedLaws
 pub mod HeadLaws
 pub mod SlotLaws
 pub mod FindLaws
@@ -36,3 +38,7 @@ pub mod LayoutLaws
 pub mod HeaderLaws
 pub mod EntryLaws
 pub mod LoadsBack
+pub mod PackSteps
+pub mod PackLaws
+pub mod PackStepLaws
+pub mod PackBlockLaws

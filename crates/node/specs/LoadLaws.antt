@@ -1,16 +1,15 @@
 -- Laws of the load line: each refusal as `read_node` reaches it, and what a node that was read keeps. Assumes nothing.
-use mathlib.Core.Path.{_≡_, refl, sym, ap, ap₂, _∙_}
-use mathlib.Core.List.{List, [], _∷_, _++_}
+use mathlib.Core.Path.{_≡_, refl, sym, ap, _∙_}
+use mathlib.Core.List.{List}
 use mathlib.Core.Bool.{Bool, true, false, cond, _&&_, _||_, not}
-use Prim.Native.Nat.{ℕ, zero, suc, _+_, _-_, _*_, _/_, _%_, _≤_, _<_, _^_}
+use Prim.Native.Nat.{ℕ, _+_, _-_, _*_, _/_, _%_, _≤_}
 use native.Mathlib.Omega.{arith}
 use lib.ListN.{length}
 use lib.Dec.{leb, eqb}
 use borrow.Author.Tests.{not-true, not-false, leb-true, eq-eqb, ne-eqb}
 use Rattle.seal.specs.Checksum.{verified}
-use Rattle.node.specs.TestLaws.{and-left, and-right, and-false}
-use Rattle.node.specs.Result.{Result, ok, refused, _>>_, check}
-use Rattle.node.specs.ResultLaws.{checked-ok}
+use Rattle.node.specs.TestLaws.{and-left, and-right}
+use Rattle.node.specs.Result.{Result, ok, _>>_, check}
 use Rattle.node.specs.Fit.{flag, dataSpace}
 use Rattle.node.specs.Read.{parsed, isFixed, flagsHold, layoutHolds, spansHold, spansLength, entriesHold, entriesFrom, keysRise, keysWithin, keysHold, OnDisk, onDisk, readNode, readOf, Laid, Sound}
 use Rattle.node.specs.declared.read.Node.{Node}
@@ -50,6 +49,12 @@ entries-space p v b h =
     let s : Bool = spansHold v b 0 (v .nkeys) in
     let t : Bool = leb (spansLength v b 0 (v .nkeys)) (dataSpace (length b) (p .root)) in
     leb-true _ _ (and-right s t (and-left (s && t) (not (eqb (v .nkeys) 0) || p .root && eqb (v .level) 0) h))
+
+pub entries-filled : (p : Place) (v : Node) (b : List ℕ) → entriesHold p v b ≡ true → (not (eqb (v .nkeys) 0) || p .root && eqb (v .level) 0) ≡ true
+unfolding entriesHold
+entries-filled p v b h =
+    and-right (spansHold v b 0 (v .nkeys) && leb (spansLength v b 0 (v .nkeys)) (dataSpace (length b) (p .root)))
+    (not (eqb (v .nkeys) 0) || p .root && eqb (v .level) 0) h
 
 pub entries-sound : (p : Place) (v : Node) (b : List ℕ) → Laid v (length b) → entriesHold p v b ≡ true → Sound v b
 unfolding entriesHold dataSpace

@@ -1,6 +1,6 @@
 -- Packing a node that fits (document 01, "Packing"; `build` of btree_write.rs): a block as a list of bytes.
 use mathlib.Core.List.{List, [], _∷_, _++_}
-use mathlib.Core.Bool.{Bool, true, false, cond}
+use mathlib.Core.Bool.{Bool, cond}
 use Prim.Native.Nat.{ℕ, _+_, _-_}
 use lib.ListN.{length, replicate}
 use lib.Dec.{eqb}
@@ -8,8 +8,23 @@ use Rattle.seal.specs.Bytes.{bytesOf}
 use Rattle.seal.specs.Checksum.{sealed}
 use Rattle.node.specs.Entry.{Entry, Val, ghost, leaf, disk, mem, valueLength, valueBytes}
 use Rattle.node.specs.Fit.{padded, dataSpace, fixed, tocLength, keysLength, valuesLength}
+use Rattle.node.specs.Slot.{headAt}
 use Rattle.node.specs.declared.info.BTreeInfo.{BTreeInfo}
 use Rattle.node.specs.declared.build.NodeBuild.{NodeBuild}
+
+-- the number of the child in a slot: of a virtual tree its id, else its block; 0 where there is no such slot
+unfoldable pub childNumber : List ℕ → Bool → ℕ → ℕ
+childNumber heads byId s = cond byId (headAt heads s .id) (headAt heads s .block)
+
+unfoldable pub numberedValue : (ℕ → ℕ) → Val → Val
+numberedValue f ghost = ghost
+numberedValue f (leaf v) = leaf v
+numberedValue f (disk r) = disk r
+numberedValue f (mem s) = disk (f s)
+
+-- an entry as it is packed: a child in a slot by its number. f: the numbers of slots
+unfoldable pub numbered : (ℕ → ℕ) → Entry → Entry
+numbered f e = record { key = e .key; value = numberedValue f (e .value) }
 
 -- bytes with zeros up to n
 unfoldable pub padTo : ℕ → List ℕ → List ℕ

@@ -1,6 +1,6 @@
 -- Reading a node's block: the Reference's fields, and document 01's load line from 3 to 9.
 use mathlib.Core.List.{List, [], _∷_}
-use mathlib.Core.Bool.{Bool, true, false, cond, _&&_, _||_, not}
+use mathlib.Core.Bool.{Bool, true, cond, _&&_, _||_, not}
 use mathlib.Core.Path.{_≡_}
 use Prim.Native.Nat.{ℕ, zero, suc, _+_, _-_, _*_, _%_, _≤_}
 use lib.ListN.{length}
@@ -10,7 +10,7 @@ use Rattle.seal.specs.Checksum.{verified}
 use Rattle.node.specs.Result.{Result, ok, refused, _>>_, check}
 use Rattle.node.specs.Refusals as refusal
 use Rattle.node.specs.Order.{less, keyed}
-use Rattle.node.specs.Entry.{Entry, Val, ghost, leaf, disk, mem, rising, every}
+use Rattle.node.specs.Entry.{Entry, Val, ghost, leaf, disk, rising, every}
 use Rattle.node.specs.Fit.{flag, dataSpace}
 use Rattle.node.specs.declared.info.BTreeInfo.{BTreeInfo}
 use Rattle.node.specs.declared.read.Node.{Node}
@@ -18,9 +18,6 @@ use Rattle.node.specs.declared.read.Span.{Span}
 use Rattle.node.specs.declared.read.Place.{Place}
 use Rattle.node.specs.declared.read.Read.{Read}
 use Rattle.node.specs.declared.read.Read.the-variants.{Refused, Loaded}
-use Rattle.node.specs.declared.val.Val.{Val as InPlace}
-use Rattle.node.specs.declared.val.Val.the-variants.{Ghost, Leaf, Child}
-use Rattle.node.specs.declared.val.Child.the-variants.{Disk, Mem}
 
 -- btree_info_t, the last 40 bytes of a root
 unfoldable pub infoAt : List ℕ → BTreeInfo
@@ -186,10 +183,3 @@ pub record Sound (v : Node) (b : List ℕ) : Type 0 where
   pub laid : Laid v (length b)
   pub held : spansHold v b 0 (v .nkeys) ≡ true
   pub sum : spansLength v b 0 (v .nkeys) ≤ length b
-
--- what a value read in place means, of its block
-unfoldable pub valueIn : List ℕ → InPlace → Val
-valueIn b Ghost = ghost
-valueIn b (Leaf at n) = leaf (window at n b)
-valueIn b (Child (Disk r)) = disk r
-valueIn b (Child (Mem s)) = mem s

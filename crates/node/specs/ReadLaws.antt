@@ -1,32 +1,24 @@
 -- Laws of reading a block: each way out of the reader's functions, and what a node that was read keeps. Assumes nothing.
-use mathlib.Core.Path.{_≡_, refl, sym, ap, ap₂, _∙_}
-use mathlib.Core.List.{List, [], _∷_, _++_}
+use mathlib.Core.Path.{_≡_, sym, ap, _∙_}
+use mathlib.Core.List.{List}
 use mathlib.Core.Bool.{Bool, true, false, cond, _&&_, _||_, not, and-false, and-true, or-false, false≢true}
-use Prim.Native.Nat.{ℕ, zero, suc, _+_, _-_, _*_, _/_, _%_, _≤_, _<_, _^_}
-use native.Mathlib.Nat.{add-zero, zero-add, add-assoc, suc-add, sub-zero}
+use Prim.Native.Nat.{ℕ, suc, _+_, _-_, _*_, _/_, _%_, _≤_, _<_, _^_}
+use native.Mathlib.Nat.{add-zero, zero-add, sub-zero}
 use native.Mathlib.Numerals.{add-one}
 use native.Mathlib.Omega.{arith}
 use lib.ListN.{length, take, drop}
 use lib.Dec.{leb, eqb}
 use borrow.Author.Tests.{le-leb, lt-leb, eq-eqb, ne-eqb, leb-true, eqb-true, eqb-false, not-true, not-false}
 use Rattle.seal.specs.Bytes.{window, u16At, u32At, u64At}
-use Rattle.seal.specs.WindowLaws.{length-window}
+use Rattle.node.specs.TestLaws.{and-left, and-right}
 use Rattle.node.specs.Fit.{flag, dataSpace}
-use Rattle.node.specs.Read.{infoAt, parsed, sameBool, isFixed, flagsHold, layoutHolds, spanAt, isGhost, spanHolds, spanLength, spansHold, spansLength, entriesHold, Laid, Sound}
+use Rattle.node.specs.Read.{infoAt, parsed, sameBool, isFixed, flagsHold, layoutHolds, spanAt, isGhost, spanHolds, spanLength, spansHold, spansLength, entriesHold, Laid}
 use Rattle.node.specs.declared.info.BTreeInfo.{BTreeInfo}
 use Rattle.node.specs.declared.read.Node.{Node}
 use Rattle.node.specs.declared.read.Span.{Span}
 use Rattle.node.specs.declared.read.Place.{Place}
 
 -- ---- tests
-
-pub and-l : (a b : Bool) → (a && b) ≡ true → a ≡ true
-and-l true b e = refl
-and-l false b e = e
-
-pub and-r : (a b : Bool) → (a && b) ≡ true → b ≡ true
-and-r true b e = e
-and-r false b e = absurd (false≢true e)
 
 -- what the second of two says where the first fails
 pub or-r : (a b : Bool) → a ≡ false → (a || b) ≡ true → b ≡ true
@@ -196,34 +188,34 @@ module _ (v : Node) (size : ℕ) (s : Span) where
   -- what an entry that holds keeps
   pub held-key : spanHolds v size s ≡ true → s .key + s .klen ≤ size
   unfolding spanHolds
-  held-key h = leb-true _ _ (and-l _ _ (and-l _ _ h))
+  held-key h = leb-true _ _ (and-left _ _ (and-left _ _ h))
 
   held-value : spanHolds v size s ≡ true → (s .voff ≡ 65535 → ⊥) → (leb (s .voff) (v .vals) && leb (v .vals - s .voff + s .vlen) size) ≡ true
   unfolding spanHolds isGhost
   held-value h n =
       or-r (isGhost s) (leb (s .voff) (v .vals) && leb (v .vals - s .voff + s .vlen) size) (ne-eqb (s .voff) 65535 n)
-      (and-r (leb (s .key + s .klen) size) (isGhost s || leb (s .voff) (v .vals) && leb (v .vals - s .voff + s .vlen) size)
-      (and-l _ (eqb (v .level) 0 || not (isGhost s) && eqb (s .vlen) 8) h))
+      (and-right (leb (s .key + s .klen) size) (isGhost s || leb (s .voff) (v .vals) && leb (v .vals - s .voff + s .vlen) size)
+      (and-left _ (eqb (v .level) 0 || not (isGhost s) && eqb (s .vlen) 8) h))
 
   pub held-start : spanHolds v size s ≡ true → (s .voff ≡ 65535 → ⊥) → s .voff ≤ v .vals
-  held-start h n = leb-true _ _ (and-l (leb (s .voff) (v .vals)) (leb (v .vals - s .voff + s .vlen) size) (held-value h n))
+  held-start h n = leb-true _ _ (and-left (leb (s .voff) (v .vals)) (leb (v .vals - s .voff + s .vlen) size) (held-value h n))
 
   pub held-end : spanHolds v size s ≡ true → (s .voff ≡ 65535 → ⊥) → v .vals - s .voff + s .vlen ≤ size
-  held-end h n = leb-true _ _ (and-r (leb (s .voff) (v .vals)) (leb (v .vals - s .voff + s .vlen) size) (held-value h n))
+  held-end h n = leb-true _ _ (and-right (leb (s .voff) (v .vals)) (leb (v .vals - s .voff + s .vlen) size) (held-value h n))
 
   held-child : spanHolds v size s ≡ true → (v .level ≡ 0 → ⊥) → (not (isGhost s) && eqb (s .vlen) 8) ≡ true
   unfolding spanHolds
   held-child h n =
       or-r (eqb (v .level) 0) (not (isGhost s) && eqb (s .vlen) 8) (ne-eqb (v .level) 0 n)
-      (and-r (leb (s .key + s .klen) size && (isGhost s || leb (s .voff) (v .vals) && leb (v .vals - s .voff + s .vlen) size))
+      (and-right (leb (s .key + s .klen) size && (isGhost s || leb (s .voff) (v .vals) && leb (v .vals - s .voff + s .vlen) size))
       (eqb (v .level) 0 || not (isGhost s) && eqb (s .vlen) 8) h)
 
   pub held-no-ghost : spanHolds v size s ≡ true → (v .level ≡ 0 → ⊥) → s .voff ≡ 65535 → ⊥
   unfolding isGhost
-  held-no-ghost h n = eqb-false (s .voff) 65535 (not-true _ (and-l _ _ (held-child h n)))
+  held-no-ghost h n = eqb-false (s .voff) 65535 (not-true _ (and-left _ _ (held-child h n)))
 
   pub held-eight : spanHolds v size s ≡ true → (v .level ≡ 0 → ⊥) → s .vlen ≡ 8
-  held-eight h n = eqb-true (s .vlen) 8 (and-r (not (isGhost s)) (eqb (s .vlen) 8) (held-child h n))
+  held-eight h n = eqb-true (s .vlen) 8 (and-right (not (isGhost s)) (eqb (s .vlen) 8) (held-child h n))
 
 pub ghost-length : (s : Span) → s .voff ≡ 65535 → s .klen ≡ spanLength s
 unfolding spanLength isGhost

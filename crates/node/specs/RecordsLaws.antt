@@ -6,7 +6,7 @@ use Prim.Native.Nat.{ℕ, zero, suc, _+_, _-_, _*_, _≤_, _<_, _^_}
 use native.Mathlib.Nat.{add-zero, zero-add, suc-add, add-assoc}
 use native.Mathlib.Omega.{arith}
 use lib.ListN.{length, take, drop, length-append, length-drop}
-use lib.Seq.{take-at, drop-at, drop-drop, take-add, take-append-seam}
+use lib.Seq.{take-at, drop-at, drop-drop, take-add, take-append-seam, take-length}
 use lib.Dec.{leb, eqb}
 use borrow.Author.Tests.{le-leb, lt-leb, eq-eqb, ne-eqb, leb-true, leb-false, eqb-true, eqb-false}
 use Rattle.node.specs.TestLaws.{test-ext}
@@ -14,7 +14,7 @@ use Rattle.seal.specs.Bytes.{u16At, fieldAt, le, window, splice, bytesOf}
 use Rattle.seal.specs.WindowLaws.{length-window, splice-two}
 use Rattle.seal.specs.FieldLaws.{field-drop, le-bytesOf, length-bytesOf}
 use Rattle.node.specs.SpliceLaws.{window-local, field-local, drop-local, take-window, field-bytes}
-use Rattle.node.specs.ByteLaws.{Bytes, bytes-drop, bytes-window, bytesOf-le, field-below}
+use Rattle.node.specs.ByteLaws.{Bytes, bytes-drop, bytes-window, bytesOf-le, le-take-below, field-below}
 use Rattle.node.specs.Cut.{entrySize, size}
 use Rattle.node.specs.Entry.{Entry, Val, ghost, leaf, disk, mem, valueBytes, valueLength}
 use Rattle.node.specs.Records.{markOf, markLength, valueOf, recordLength, entryOf, recordsLength, entriesOf, recordBytes, recordOf, recordsOf, recordAt}
@@ -359,6 +359,19 @@ module _ (m : ℕ) (w : List ℕ) (e : length w ≡ markLength m) where
   pub value-length : valueLength (valueOf m w) ≡ markLength m
   value-length = length-cases (leb m 0xFFFC) (eqb m 0xFFFF) (eqb m 0xFFFE) refl refl refl
 
+  small : Bytes w → length w ≡ 8 → le w < 2 ^ 64
+  small b q = let t : take 8 w ≡ w = ap (λ (k : ℕ). take k w) (sym q) ∙ take-length w in rw t at (le-take-below 8 w b)
+
+  held-cases : (a b c : Bool) → Bytes w → leb m 0xFFFC ≡ a → eqb m 0xFFFF ≡ b → eqb m 0xFFFE ≡ c → Held (valueOf m w)
+  unfolding valueOf markLength
+  held-cases true b c s p q r = let f : m ≤ 0xFFFC = leb-true m 0xFFFC p in let g : length w ≡ m = rw p at e in rw p (omega arith)
+  held-cases false true c s p q r = rw (p, q) tt
+  held-cases false false true s p q r = rw (p, q, r) (small s (rw (p, q) at e))
+  held-cases false false false s p q r = rw (p, q, r) (small s (rw (p, q) at e))
+
+  pub value-held : Bytes w → Held (valueOf m w)
+  value-held s = held-cases (leb m 0xFFFC) (eqb m 0xFFFF) (eqb m 0xFFFE) s refl refl refl
+
 module _ (l : List ℕ) (h : recordLength l ≤ length l) where
   head-room : 4 + u16At l 0 + markLength (u16At l 2) ≤ length l
   unfolding recordLength
@@ -394,6 +407,17 @@ module _ (l : List ℕ) (h : recordLength l ≤ length l) where
       ∙ ap (λ (x : List ℕ). take 2 l ++ window 2 2 l ++ k ++ x) b3
       ∙ sym (take-window l (4 + kl) (markLength m) ∙ ap (λ (x : List ℕ). x ++ w) (take-window l 4 kl ∙ ap (λ (x : List ℕ). x ++ k) (take-window l 2 2)))
 
+  -- what is decoded can be encoded
+  pub entry-storable : Bytes l → Storable (entryOf l)
+  unfolding entryOf
+  entry-storable b =
+      let k = length-key in
+      let f : u16At l 0 < 256 ^ 2 = field-below 2 l 0 b in
+      record {
+        short = omega arith;
+        held = value-held (u16At l 2) (window (4 + u16At l 0) (markLength (u16At l 2)) l) length-value (bytes-window (4 + u16At l 0) (markLength (u16At l 2)) l b);
+      }
+
   pub entry-size : entrySize (entryOf l) ≡ recordLength l + 4
   unfolding entrySize entryOf recordLength
   entry-size =
@@ -410,6 +434,14 @@ records-whole (suc n) l h b =
     let rest : recordsLength n (drop r l) ≤ length (drop r l) = rw length-drop (omega arith) in
     ap₂ (λ (x y : List ℕ). x ++ y) (record-whole l (omega arith) b) (records-whole n (drop r l) rest (bytes-drop r l b))
     ∙ sym (take-add r (recordsLength n (drop r l)) l)
+
+pub records-storable : (n : ℕ) (l : List ℕ) → recordsLength n l ≤ length l → Bytes l → Storables (entriesOf n l)
+unfolding entriesOf recordsLength
+records-storable zero l h b = none
+records-storable (suc n) l h b =
+    let r : ℕ = recordLength l in
+    let rest : recordsLength n (drop r l) ≤ length (drop r l) = rw length-drop (omega arith) in
+    more (entry-storable l (omega arith) b) (records-storable n (drop r l) rest (bytes-drop r l b))
 
 -- the bytes in use are the sum of the entries' sizes, less 4 each
 pub records-size : (n : ℕ) (l : List ℕ) → recordsLength n l ≤ length l → recordsLength n l + 4 * n ≡ size (entriesOf n l)

@@ -15,7 +15,8 @@ ghost use lib.Dec.{eqb};
 ghost use Rattle.seal.specs.Bytes.{window};
 ghost use Rattle.node.specs.Order.{less, keyed};
 ghost use Rattle.node.specs.Entry.{disk};
-ghost use Rattle.node.specs.Read.{parsed, sameBool, isFixed, flagsHold, layoutHolds, spanAt, isGhost, spanHolds, spanLength, entriesHold, entryAt, entriesFrom, inBounds, keysRise, keysWithin, readNode, readOf, Laid, Sound, valueIn};
+ghost use Rattle.node.specs.Slot.{valueMeans};
+ghost use Rattle.node.specs.Read.{parsed, sameBool, isFixed, flagsHold, layoutHolds, spanAt, isGhost, spanHolds, spanLength, entriesHold, entryAt, entriesFrom, inBounds, keysRise, keysWithin, readNode, readOf, Laid, Sound};
 
 pub const BTNODE_ROOT: u64 = 1;
 
@@ -457,7 +458,7 @@ pub fn read_node(block: &[u8], order: Order, place: Place, lower: &[u8], upper: 
 pub fn value_at(block: &[u8], node: Node, i: usize) -> Val
     requires { ⌜ Sound node (now block) ⌝ }
     requires { ⌜ i < node .nkeys ⌝ }
-    ensures { λ r. ⌜ valueIn (now (block .entry)) r ≡ entryAt node (now (block .entry)) i .value ⌝ }
+    ensures { λ r. ⌜ valueMeans (now (block .entry)) r ≡ entryAt node (now (block .entry)) i .value ⌝ }
 {
     let s = span_at(block, node, i);
     if s.voff == BTOFF_INVALID {
