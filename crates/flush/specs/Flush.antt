@@ -42,8 +42,8 @@ buildOf s xid oid n m =
     record { oid = oid; xid = xid; otype = typeOf (s .virtual) root; subtype = s .subtype; level = m .level; root = root; info = s .info }
 
 -- a node that was written: its new block, its id, clean
-unfoldable pub settled : MemNode → ℕ → List ℕ → MemNode
-settled m a id = record { level = m .level; entries = m .entries; block = a ∷ []; id = id; dirty = false; dead = m .dead }
+unfoldable pub rewritten : MemNode → ℕ → List ℕ → MemNode
+rewritten m a id = record { level = m .level; entries = m .entries; block = a ∷ []; id = id; dirty = false; dead = m .dead }
 
 -- a dirty node in the block chosen for it: its old block freed, packed and sealed; a virtual one without an id takes the next
 unfoldable pub writeAt : State → ℕ → ℕ → Choice → Flushing → Flushing
@@ -57,7 +57,7 @@ writeAt s xid n x w =
     record {
       image = splice (w .image) (a * s .info .«node_size») (packNode (buildOf s xid oid n m) es);
       space = taken (w .space) x;
-      nodes = set (w .nodes) n (settled m a id);
+      nodes = set (w .nodes) n (rewritten m a id);
       next = w .next + cond isNew 1 0;
       freed = w .freed ++ m .block;
       removed = w .removed;

@@ -1,1 +1,2 @@
 // Block choice and flush.
+pub mod space;

@@ -2,7 +2,7 @@
 use mathlib.Core.List.{List, [], _∷_, _++_}
 use mathlib.Core.Bool.{Bool, true, false, cond}
 use Prim.Native.Nat.{ℕ, zero, suc}
-use Rattle.tree.specs.Format.{Result, ok, refused, _>>=_, Entry, Val, leaf, pairKey, isThere}
+use Rattle.tree.specs.Format.{Result, ok, refused, _>>=_, Entry, Val, leaf, pairKey}
 use Rattle.tree.specs.Lent.{Lent}
 use Rattle.tree.specs.State.{State, nodeAt}
 use Rattle.tree.specs.Load.{unbounded, At, loadChild}
@@ -12,7 +12,7 @@ use Rattle.tree.specs.Remove.{remove, Removed, removed}
 use Rattle.tree.specs.Omap.{omapPut, omapDrop, omapValue, versionsEnd}
 use Rattle.flush.specs.Space.{Space}
 use Rattle.flush.specs.Flush.{flush}
-use Rattle.history.specs.Plain.{plainGet, plainFloor, plainRange, plainUpsert, plainRemove, plainPut, plainDrop}
+use Rattle.history.specs.Plain.{plainGet, plainFloor, plainRange, plainUpsert, plainRemove, plainHas, plainPut, plainDrop}
 
 -- a call and its arguments. room: the length of the output lent. A flush is lent bitmap and counts, and its report lists' lengths
 pub data Call : Type 0 where
@@ -46,6 +46,7 @@ step l (upsertCall k v) s = upsert l s k v >>= λ t. ok (record { state = t; ans
 step l (removeCall k) s = remove l s k >>= λ r. ok (record { state = r .state; answer = present (r .present) })
 step l (putCall id xid address size) s = omapPut l s id xid address size >>= λ t. ok (record { state = t; answer = done })
 step l (dropCall id) s = omapDrop l s id >>= λ t. ok (record { state = t; answer = done })
+-- a flush that is accepted ends the tree: no call follows it
 step l (flushCall p lists xid next) s = flush l p lists s xid next >>= λ f. ok (record { state = s; answer = done })
 
 -- the tree after a call: a refused call leaves it as it is
@@ -59,7 +60,7 @@ plainAnswer o (getCall room k) es = values (plainGet o k es)
 plainAnswer o (floorCall room k) es = entries (plainFloor o k es)
 plainAnswer o (rangeCall room lo hi) es = entries (plainRange o lo hi es)
 plainAnswer o (upsertCall k v) es = done
-plainAnswer o (removeCall k) es = present (isThere o k es)
+plainAnswer o (removeCall k) es = present (plainHas o k es)
 plainAnswer o (putCall id xid address size) es = done
 plainAnswer o (dropCall id) es = done
 plainAnswer o (flushCall p lists xid next) es = done

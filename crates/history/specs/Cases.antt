@@ -24,6 +24,7 @@ use Rattle.tree.specs.Remove.{Removed, remove}
 use Rattle.tree.specs.Omap.{omapPut, omapValue}
 use Rattle.flush.specs.Space.{Space, Choice, choose}
 use Rattle.flush.specs.Flush.{Flushed, flush}
+use Rattle.history.specs.Walk.{Disk, wellFormed}
 
 -- ---- rows
 
@@ -177,6 +178,7 @@ table =
     }
     ∷ record { name = "P11"; gives = blocksOf (choose 512 (record { bitmap = 0xFF ∷ 0xFE ∷ replicate 510 0; counts = 16 ∷ []; free = 1 ∷ [] })); says = 8 ∷ [] }
     ∷ record { name = "P12"; gives = outcome (λ a. a ∷ []) (mapAddress (lent512 (rootOf (tree512 16 16) 0 versions)) 8 5 0); says = 0 ∷ 3 ∷ [] }
+    ∷ record { name = "dock: the disk of (new) is well formed"; gives = number (wellFormed (record { lent = lent512 (rootOf (tree512 16 16) 0 []); order = pair; xid = 1; moved = [] }) 0) ∷ []; says = 1 ∷ [] }
     ∷ record { name = "dock: put 0 1, put 0 1, flush 0 1 1 1 1 23"; gives = listing; says = 0 ∷ 1 ∷ 0 ∷ 1 ∷ 0 ∷ 1 ∷ 1 ∷ 1 ∷ 1 ∷ 23 ∷ [] }
     ∷ []
   where

@@ -1,20 +1,28 @@
--- Demand 3's plain list: entries with rising keys, and what each call does to it (document 01, "Demand 3's plain list").
+-- Demand 3's plain list: entries with rising keys, and what each call does to it (document 01, "Demand 3's plain list"). It goes by the
+-- order of keys alone and shares no function with the tree.
 use mathlib.Core.List.{List, [], _∷_}
-use mathlib.Core.Bool.{Bool, true, false, cond}
+use mathlib.Core.Bool.{Bool, true, false, cond, _&&_, not}
 use Prim.Native.Nat.{ℕ}
 use lib.Dec.{eqb}
-use Rattle.tree.specs.Format.{Entry, Val, leaf, u64At, pairKey, placeOf, isThere, lastNotAbove, removeAt}
-use Rattle.tree.specs.Lookup.{held, between}
-use Rattle.tree.specs.Upsert.{putEntry}
+use Rattle.tree.specs.Format.{Entry, Val, leaf, u64At, less, pairKey}
 use Rattle.tree.specs.Omap.{omapValue}
 
--- upsert replaces or inserts
+-- upsert replaces its key's value, or inserts
 unfoldable pub plainUpsert : ℕ → List ℕ → Val → List Entry → List Entry
-plainUpsert o k v es = putEntry o (record { key = k; value = v }) es
+plainUpsert o k v [] = record { key = k; value = v } ∷ []
+plainUpsert o k v (e ∷ es) =
+    cond (less o (e .key) k) (e ∷ plainUpsert o k v es)
+    (cond (less o k (e .key)) (record { key = k; value = v } ∷ e ∷ es) (record { key = e .key; value = v } ∷ es))
 
--- remove takes its key out, if it is there
+-- remove takes its key out
 unfoldable pub plainRemove : ℕ → List ℕ → List Entry → List Entry
-plainRemove o k es = cond (isThere o k es) (removeAt (placeOf o k es) es) es
+plainRemove o k [] = []
+plainRemove o k (e ∷ es) = cond (less o (e .key) k) (e ∷ plainRemove o k es) (cond (less o k (e .key)) (e ∷ es) es)
+
+-- whether a key is there
+unfoldable pub plainHas : ℕ → List ℕ → List Entry → Bool
+plainHas o k [] = false
+plainHas o k (e ∷ es) = cond (less o (e .key) k) (plainHas o k es) (not (less o k (e .key)))
 
 -- drop takes out its id's entries
 unfoldable pub plainDrop : ℕ → List Entry → List Entry
@@ -27,12 +35,20 @@ plainPut o id xid address size es = plainUpsert o (pairKey id xid) (leaf (omapVa
 
 -- get: what the key holds, none or one
 unfoldable pub plainGet : ℕ → List ℕ → List Entry → List Val
-plainGet = held
+plainGet o k [] = []
+plainGet o k (e ∷ es) = cond (less o (e .key) k) (plainGet o k es) (cond (less o k (e .key)) [] (e .value ∷ []))
+
+-- the last of two answers
+unfoldable pub orLater : Entry → List Entry → List Entry
+orLater e [] = e ∷ []
+orLater e (f ∷ fs) = f ∷ fs
 
 -- floor: the last key not above, none or one
 unfoldable pub plainFloor : ℕ → List ℕ → List Entry → List Entry
-plainFloor = lastNotAbove
+plainFloor o k [] = []
+plainFloor o k (e ∷ es) = cond (less o k (e .key)) [] (orLater e (plainFloor o k es))
 
 -- range: lo ≤ key < hi
 unfoldable pub plainRange : ℕ → List ℕ → List ℕ → List Entry → List Entry
-plainRange o lo hi es = between o lo (hi ∷ []) es
+plainRange o lo hi [] = []
+plainRange o lo hi (e ∷ es) = cond (not (less o (e .key) lo) && less o (e .key) hi) (e ∷ plainRange o lo hi es) (plainRange o lo hi es)

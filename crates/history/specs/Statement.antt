@@ -1,11 +1,13 @@
--- Demand 3, one statement over any list of calls on a well-formed tree. Every word of it is a definition that the contracts cite.
+-- Demand 3, one statement over any list of calls on a well-formed tree, from the definitions that the contracts cite, the walk and the plain list.
 use mathlib.Core.Path.{_≡_}
 use mathlib.Core.List.{List, [], _∷_, _++_}
 use mathlib.Core.Bool.{Bool, true, false, cond, _&&_, not}
-use Prim.Native.Nat.{ℕ, zero, suc, _+_, _*_, _≤_, _<_}
+use Prim.Native.Nat.{ℕ, zero, suc, _+_, _*_, _^_, _≤_, _<_}
 use lib.ListN.{length}
-use lib.Dec.{eqb}
-use Rattle.tree.specs.Format.{Result, ok, refused, Entry}
+use lib.Dec.{leb, eqb}
+use Rattle.seal.specs.Bytes.{AreBytes}
+use Rattle.node.specs.Entry.{valueBytes}
+use Rattle.tree.specs.Format.{Result, ok, refused, Entry, rising}
 use Rattle.tree.specs.Lent.{Lent, blocks, blockAt, sizesHold}
 use Rattle.tree.specs.State.{State}
 use Rattle.tree.specs.Hold.{lentHolds}
@@ -50,24 +52,38 @@ oldIds g = idsOf (nodesOf (walkFrom (g .disk) (g .root)))
 -- open is accepted, and the tree is well formed
 pub record Begins (g : Start) : Type 0 where
   pub unmoved : g .disk .moved ≡ []
+  pub bytes : AreBytes (g .disk .lent .image)
   pub formed : wellFormed (g .disk) (g .root) ≡ true
   pub opens : opened (g .disk .lent) (g .root) (g .disk .order) (g .disk .xid) ≡ ok (g .state)
 
 -- ---- what each call is lent
 
--- the same size, map and slots; an image that is no shorter and agrees with the first on the old blocks
+-- the same size, map and slots; an image of bytes that is no shorter and agrees with the first on the old blocks
 pub record Lends (g : Start) (l : Lent) : Type 0 where
   pub sameSize : l .size ≡ g .disk .lent .size
   pub sameMap : l .map ≡ g .disk .lent .map
   pub sameSlots : l .slots ≡ g .disk .lent .slots
+  pub bytes : AreBytes (l .image)
   pub noShorter : length (g .disk .lent .image) ≤ length (l .image)
   pub agrees : (a : ℕ) → 1 ≤ uses a (oldBlocks g) → blockAt l a ≡ blockAt (g .disk .lent) a
 
--- flush is lent a bitmap in which the old blocks are marked used, and, for a virtual tree, ids that no old node has
-pub record LendsFlush (g : Start) (l : Lent) (p : Space) (next : ℕ) : Type 0 where
+-- flush is lent a bitmap in which the old blocks are marked used, and, for a virtual tree, takes ids that no old node has
+pub record LendsFlush (g : Start) (l : Lent) (p : Space) (xid next : ℕ) (f : Flushed) : Type 0 where
   pub lends : Lends g l
+  pub stamp : xid < 2 ^ 64
   pub marked : (a : ℕ) → 1 ≤ uses a (oldBlocks g) → isUsed (p .bitmap) a ≡ true
-  pub unused : g .state .virtual ≡ true → (i : ℕ) → next ≤ i → uses i (oldIds g) ≡ 0
+  pub unused : g .state .virtual ≡ true → (i : ℕ) → next ≤ i → i < f .after .next → uses i (oldIds g) ≡ 0
+
+-- arguments are what their types hold: keys and values are bytes, ids are u64
+abbrev pub Typed : Call → Type 0
+Typed (getCall room k) = AreBytes k
+Typed (floorCall room k) = AreBytes k
+Typed (rangeCall room lo hi) = AreBytes lo × AreBytes hi
+Typed (upsertCall k v) = AreBytes k × AreBytes (valueBytes v)
+Typed (removeCall k) = AreBytes k
+Typed (putCall id xid address size) = (id < 2 ^ 64) × (xid < 2 ^ 64)
+Typed (dropCall id) = id < 2 ^ 64
+Typed (flushCall p lists xid next) = Unit {0}
 
 -- a call with what it is lent
 pub record Turn : Type 0 where
@@ -95,7 +111,7 @@ passes (t ∷ ts) s = ifAccepted (step (t .lent) (t .call) s) ++ passes ts (afte
     ifAccepted (refused n) = []
     ifAccepted (ok r) = passed (t .lent) (t .call) s
 
--- a call that is no accepted flush
+-- whether a call is a flush
 unfoldable pub isFlush : Call → Bool
 isFlush (getCall room k) = false
 isFlush (floorCall room k) = false
@@ -106,12 +122,11 @@ isFlush (putCall id xid address size) = false
 isFlush (dropCall id) = false
 isFlush (flushCall p lists xid next) = true
 
--- every call is lent what it should be, and no flush is accepted before the last call
+-- every accepted call was lent what it should be, and no flush is accepted before the last call
 abbrev pub AllLend : Start → List Turn → State → Type 0
 AllLend g [] s = Unit {0}
 AllLend g (t ∷ ts) s =
-    Lends g (t .lent)
-    × (isFlush (t .call) ≡ true → (r : Stepped) → step (t .lent) (t .call) s ≡ ok r → ⊥)
+    ((r : Stepped) → step (t .lent) (t .call) s ≡ ok r → Lends g (t .lent) × Typed (t .call) × (isFlush (t .call) ≡ false))
     × AllLend g ts (afterStep s (step (t .lent) (t .call) s))
 
 -- each accepted call answers as the plain list
@@ -148,9 +163,12 @@ pub record Flushes (g : Start) (es : List Entry) (through : List ℕ) (l : Lent)
   -- old + written = new + freed, each at most once
   pub books : (a : ℕ) → uses a (treeBlocks g) + cond (written p f a) 1 0 ≡ uses a (blocksOf (nodesOf (walkFrom (leftBy g l f) (f .root)))) + uses a (f .after .freed)
   pub once : (a : ℕ) → uses a (treeBlocks g) + cond (written p f a) 1 0 ≤ 1
+  -- bits that were set stay set; a virtual root keeps its id
+  pub stay : (a : ℕ) → isUsed (p .bitmap) a ≡ true → isUsed (f .after .space .bitmap) a ≡ true
+  pub sameRoot : g .state .virtual ≡ true → f .root ≡ g .root
   -- the figures are those counts
   pub allocated : f .allocated ≡ countBelow (written p f) (blocks l)
-  pub freed : f .freedCount ≡ length (f .after .freed)
+  pub freed : f .freedCount ≡ countBelow (λ a. leb 1 (uses a (f .after .freed))) (blocks l)
   pub keys : f .keys ≡ length es
   -- a block is freed only if an accepted edit passed through it or it became the root
   pub freedOnly : (a : ℕ) → 1 ≤ uses a (f .after .freed) → 1 ≤ uses a through
@@ -158,13 +176,14 @@ pub record Flushes (g : Start) (es : List Entry) (through : List ℕ) (l : Lent)
 pub record Holds (g : Start) (ts : List Turn) : Type 0 where
   -- each accepted lookup and remove answers as the plain list
   pub answers : AllAnswer (g .disk .order) ts (g .state) (entriesOf (walkFrom (g .disk) (g .root)))
-  -- the key count is the plain list's length
+  -- the plain list's keys rise, and the key count is its length
+  pub rises : rising (g .disk .order) (plains (g .disk .order) ts (g .state) (entriesOf (walkFrom (g .disk) (g .root)))) ≡ true
   pub keys : states ts (g .state) .info .«key_count» ≡ length (plains (g .disk .order) ts (g .state) (entriesOf (walkFrom (g .disk) (g .root))))
   -- the slots hold together: where the sizes are right no call is refused with 1
   pub hold : (l : Lent) → Lends g l → sizesHold l ≡ true → lentHolds l (states ts (g .state)) ≡ true
   -- a flush that is accepted then
   pub flushes : (l : Lent) (p : Space) (lists : List ℕ) (xid next : ℕ) (f : Flushed)
-      → LendsFlush g l p next
+      → LendsFlush g l p xid next f
       → flush l p lists (states ts (g .state)) xid next ≡ ok f
       → Flushes g (plains (g .disk .order) ts (g .state) (entriesOf (walkFrom (g .disk) (g .root)))) (passes ts (g .state)) l p f
 

@@ -39,6 +39,7 @@ pub record Walk : Type 0 where
   pub nodes : List Visit
   pub entries : List Entry
 
+-- a node before what is below it, and then what follows
 unfoldable pub joined : Visit → Walk → Walk → Walk
 joined v w rest = record { nodes = v ∷ w .nodes ++ rest .nodes; entries = w .entries ++ rest .entries }
 
@@ -86,14 +87,14 @@ mapDisk x =
     record { lent = record { image = x .lent .image; size = x .lent .size; map = []; slots = x .lent .slots }; order = pair; xid = x .xid; moved = [] }
 
 -- its keys and values are fixed at 16
-unfoldable pub is16 : Result Walked → Bool
-is16 (refused n) = false
-is16 (ok w) = eqb (w .info .«key_size») 16 && eqb (w .info .«val_size») 16
+unfoldable pub lengthsAre16 : Result Walked → Bool
+lengthsAre16 (refused n) = false
+lengthsAre16 (ok w) = eqb (w .info .«key_size») 16 && eqb (w .info .«val_size») 16
 
 -- the same holds of a lent object map
 unfoldable pub mapFormed : Disk → List ℕ → Bool
 mapFormed x [] = true
-mapFormed x (m ∷ ms) = countsHold (walkFrom (mapDisk x) m) && is16 (walkFrom (mapDisk x) m)
+mapFormed x (m ∷ ms) = countsHold (walkFrom (mapDisk x) m) && lengthsAre16 (walkFrom (mapDisk x) m)
 
 -- well-formed: open accepts, every reachable node loads (slots aside), stored counts are the walk's, and the same of a lent map
 unfoldable pub wellFormed : Disk → ℕ → Bool

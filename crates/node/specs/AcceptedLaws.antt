@@ -1,7 +1,7 @@
 -- What holds of every node that the reader accepts. Assumes nothing.
 use mathlib.Core.Path.{_≡_, refl, sym, ap, _∙_}
 use mathlib.Core.List.{List, _++_}
-use mathlib.Core.Bool.{Bool, true, false, cond, _&&_, _||_, not}
+use mathlib.Core.Bool.{Bool, true, false, _&&_, _||_, not}
 use Prim.Native.Nat.{ℕ, zero, suc, _+_, _-_, _*_, _≤_, _<_, _^_}
 use native.Mathlib.Nat.{add-zero, not-suc-le-zero, le-of-suc-le-suc}
 use native.Mathlib.Omega.{arith}
@@ -9,19 +9,19 @@ use lib.ListN.{length, drop, getD}
 use lib.Dec.{eqb}
 use borrow.Author.Tests.{eqb-false, ne-eqb}
 use Rattle.seal.specs.Bytes.{window, splice, u64At}
-use Rattle.seal.specs.WindowLaws.{length-window}
 use Rattle.seal.specs.Checksum.{verified}
 use Rattle.node.specs.TestLaws.{by-test, and-left, and-right}
 use Rattle.node.specs.ByteLaws.{Bytes, field-below}
-use Rattle.node.specs.Result.{ok, refused}
+use Rattle.node.specs.ResultLaws.{no-answer}
+use Rattle.node.specs.Result.{ok}
 use Rattle.node.specs.Fit.{flag, dataSpace}
-use Rattle.node.specs.Entry.{Entry, disk, valueLength, every}
+use Rattle.node.specs.Entry.{Entry, disk, every}
 use Rattle.node.specs.Cut.{entrySize, size}
 use Rattle.node.specs.Records.{recordsOf, recordsLength, entriesOf}
-use Rattle.node.specs.RecordsLaws.{Held, Storable, Storables, none, more, entries-back, lengths-back}
+use Rattle.node.specs.RecordsLaws.{Held, Storable, Storables, none, more, entries-back, records-back}
 use Rattle.node.specs.Slot.{isChild, suit, suits}
 use Rattle.node.specs.Read.{parsed, isGhost, spanAt, spanHolds, spanLength, layoutHolds, spansHold, spansLength, entriesHold, valueAt, entryAt, entriesFrom, keysRise, keysWithin, OnDisk, onDisk, readNode, readOf, Sound}
-use Rattle.node.specs.ReadLaws.{held-key, held-end, held-no-ghost, held-eight}
+use Rattle.node.specs.ReadLaws.{held-no-ghost, key-counts, leaf-counts, value-counts}
 use Rattle.node.specs.KeysLaws.{sound-span, disk-of}
 use Rattle.node.specs.LoadLaws.{layout-laid, layout-level, entries-space, entries-filled, entries-sound, line, isKind, isLevel, node-line}
 use Rattle.node.specs.declared.read.Node.{Node}
@@ -53,9 +53,6 @@ pub record Passed (t3 t4 t5 t6 t7 t8 t9 : Bool) (x y : OnDisk) : Type 0 where
   pub is8 : t8 ≡ true
   pub is9 : t9 ≡ true
   pub same : x ≡ y
-
-no-answer : {A : Type 0} {C : Type 0} (n : ℕ) (a : A) → refused n ≡ ok a → C
-no-answer n a e = let z : _≡_ {A = ℕ} 0 1 = cc in absurd (omega arith)
 
 line-ok : (t3 t4 t5 t6 t7 t8 t9 : Bool) (x y : OnDisk) → line t3 t4 t5 t6 t7 t8 t9 x ≡ ok y → Passed t3 t4 t5 t6 t7 t8 t9 x y
 unfolding line
@@ -129,22 +126,11 @@ at-from v b i (suc n) (suc k) d lt =
     let e : suc i + k ≡ i + suc k = omega arith in
     at-from v b (suc i) n k d (le-of-suc-le-suc lt) ∙ ap (entryAt v b) e
 
--- a value's length, as its node counts it
-value-counts : (v : Node) (b : List ℕ) (s : Span) → spanHolds v (length b) s ≡ true → valueLength (valueAt v b s) ≡ cond (isGhost s) 0 (s .vlen)
-unfolding valueAt valueLength isGhost
-value-counts v b s h =
-    by-test (isGhost s)
-    (λ g. rw g)
-    (λ g.
-    by-test (eqb (v .level) 0)
-    (λ z. rw (g, z) (length-window (v .vals - s .voff) (s .vlen) b (held-end v (length b) s h (eqb-false (s .voff) 65535 g))))
-    (λ z. rw (g, z) (sym (held-eight v (length b) s h (eqb-false (v .level) 0 z)))))
-
 entry-counts : (v : Node) (b : List ℕ) (i : ℕ) → spanHolds v (length b) (spanAt v b i) ≡ true → entrySize (entryAt v b i) ≡ spanLength (spanAt v b i) + 8
 unfolding entrySize entryAt spanLength
 entry-counts v b i h =
     let s : Span = spanAt v b i in
-    let k : length (window (s .key) (s .klen) b) ≡ s .klen = length-window (s .key) (s .klen) b (held-key v (length b) s h) in
+    let k : length (window (s .key) (s .klen) b) ≡ s .klen = key-counts v b s h in
     rw (k, value-counts v b s h)
 
 -- their size is what 8 counts, with 8 for each
@@ -186,7 +172,7 @@ held-one v b i bb h fit =
     (λ g.
     by-test (eqb (v .level) 0)
     (λ z.
-    let l : length (window (v .vals - s .voff) (s .vlen) b) ≡ s .vlen = length-window (v .vals - s .voff) (s .vlen) b (held-end v (length b) s h (eqb-false (s .voff) 65535 g)) in
+    let l : length (window (v .vals - s .voff) (s .vlen) b) ≡ s .vlen = leaf-counts v b s h g in
     let f : s .klen + s .vlen ≤ 65532 = rw g at fit in
     rw (g, z) (omega arith))
     (λ z. rw (g, z) (field-below 8 b (v .vals - s .voff) bb)))
@@ -195,7 +181,7 @@ storable-one : (v : Node) (b : List ℕ) (i : ℕ) → Bytes b → spanHolds v (
 unfolding entryAt spanLength
 storable-one v b i bb h fit =
     let s : Span = spanAt v b i in
-    let k : length (window (s .key) (s .klen) b) ≡ s .klen = length-window (s .key) (s .klen) b (held-key v (length b) s h) in
+    let k : length (window (s .key) (s .klen) b) ≡ s .klen = key-counts v b s h in
     record { short = omega arith; held = held-one v b i bb h fit }
 
 pub storable-from : (v : Node) (b : List ℕ) (i n : ℕ) → Bytes b → spansHold v b i n ≡ true → spansLength v b i n ≤ 65532 → Storables (entriesFrom v b i n)
@@ -240,4 +226,4 @@ module _ (o : ℕ) (p : Place) (lower upper b : List ℕ) (v : Node) (bb : Bytes
   adopted-length l s e =
       let es : List Entry = entriesFrom v b 0 (v .nkeys) in
       let t : List ℕ = drop (0 + length (recordsOf es)) l in
-      ap (recordsLength (v .nkeys)) e ∙ ap (λ (n : ℕ). recordsLength n (recordsOf es ++ t)) (sym (length-from v b 0 (v .nkeys))) ∙ lengths-back es t accepted-storable
+      ap (recordsLength (v .nkeys)) e ∙ ap (λ (n : ℕ). recordsLength n (recordsOf es ++ t)) (sym (length-from v b 0 (v .nkeys))) ∙ records-back es t accepted-storable

@@ -7,23 +7,18 @@ use native.Mathlib.Nat.{add-zero, zero-add, add-assoc, suc-add}
 use native.Mathlib.Numerals.{add-one}
 use native.Mathlib.Omega.{arith}
 use lib.ListN.{length, take, drop, length-append}
-use lib.Dec.{eqb}
 use borrow.Author.Tests.{eq-eqb, ne-eqb, eqb-true, eqb-false}
 use Rattle.seal.specs.Bytes.{window, splice, bytesOf, u64At}
 use Rattle.seal.specs.WindowLaws.{length-window, splice-none, splice-run}
 use Rattle.seal.specs.FieldLaws.{length-bytesOf}
-use Rattle.node.specs.TestLaws.{by-test}
 use Rattle.node.specs.Entry.{Val, ghost, leaf, disk, valueBytes}
 use Rattle.node.specs.Records.{markOf, recordOf, recordsOf}
+use Rattle.node.specs.RecordsLaws.{length-valueBytes, length-head-key}
 use Rattle.node.specs.Read.{spanAt, isGhost, spanHolds, spanLength, spansLength, valueAt, entryAt, entriesFrom, Sound}
-use Rattle.node.specs.ReadLaws.{held-key, held-start, held-end, held-eight, ghost-length, value-length, few, part-window}
-use Rattle.node.specs.KeysLaws.{sound-span, key-of}
+use Rattle.node.specs.ReadLaws.{held-start, held-end, held-eight, ghost-length, value-length, key-counts, leaf-counts, value-counts, few, part-window}
+use Rattle.node.specs.KeysLaws.{sound-span, key-of, value-of}
 use Rattle.node.specs.declared.read.Node.{Node}
 use Rattle.node.specs.declared.read.Span.{Span}
-
-no-ghost : (s : Span) → isGhost s ≡ false → s .voff ≡ 65535 → ⊥
-unfolding isGhost
-no-ghost s g = eqb-false (s .voff) 65535 g
 
 -- a part by its start and its end
 pub part-long : (l : List ℕ) (a n : ℕ) → a + n ≤ length l → length (take (a + n - a) (drop a l)) ≡ n
@@ -31,28 +26,9 @@ part-long l a n h = ap length (part-window l a n) ∙ length-window a n l h
 
 -- ---- one record
 
-pub length-head : (k : List ℕ) (m : ℕ) → length (bytesOf 2 (length k) ++ bytesOf 2 m) ≡ 4
-length-head k m = simp (length-append, length-bytesOf)
-
-pub length-head-key : (k : List ℕ) (m : ℕ) → length (bytesOf 2 (length k) ++ bytesOf 2 m ++ k) ≡ 4 + length k
-length-head-key k m = simp (length-append, length-bytesOf)
-
-pub head-joined : (l l₁ l₂ l₃ k : List ℕ) (at m : ℕ) → at + 4 + length k ≤ length l → l₁ ≡ splice l at (bytesOf 2 (length k)) → l₂ ≡ splice l₁ (at + 2) (bytesOf 2 m)
-    → l₃ ≡ splice l₂ (at + 4) k → l₃ ≡ splice l at (bytesOf 2 (length k) ++ bytesOf 2 m ++ k)
-head-joined l l₁ l₂ l₃ k at m h p q r =
-    let a : length (bytesOf 2 (length k)) ≡ 2 = length-bytesOf 2 (length k) in
-    let b : length (bytesOf 2 m) ≡ 2 = length-bytesOf 2 m in
-    let d : length (bytesOf 2 (length k) ++ bytesOf 2 m) ≡ 4 = length-head k m in
-    let pq : l₂ ≡ splice l at (bytesOf 2 (length k) ++ bytesOf 2 m) = splice-run l l₁ l₂ at (bytesOf 2 (length k)) (at + 2) (bytesOf 2 m) (omega arith) (omega arith) p q in
-    splice-run l l₂ l₃ at (bytesOf 2 (length k) ++ bytesOf 2 m) (at + 4) k (omega arith) (omega arith) pq r
-
 module _ (v : Node) (b : List ℕ) (i : ℕ) (s : Span) (e : s ≡ spanAt v b i) (h : Sound v b) (lt : i < v .nkeys) where
   span-held : spanHolds v (length b) s ≡ true
   span-held = sound-span v b i s h lt e
-
-  value-there : valueAt v b s ≡ entryAt v b i .value
-  unfolding entryAt
-  value-there = ap (valueAt v b) e
 
   length-of : spanLength s ≡ spanLength (spanAt v b i)
   length-of = ap spanLength e
@@ -63,7 +39,7 @@ module _ (v : Node) (b : List ℕ) (i : ℕ) (s : Span) (e : s ≡ spanAt v b i)
     key-is = ek ∙ key-of v b i s e
 
     pub key-long : length k ≡ s .klen
-    key-long = ap length ek ∙ length-window (s .key) (s .klen) b (held-key v (length b) s span-held)
+    key-long = ap length ek ∙ key-counts v b s span-held
 
     record-is : (x : Val) → x ≡ entryAt v b i .value → bytesOf 2 (length k) ++ bytesOf 2 (markOf x) ++ k ++ valueBytes x ≡ recordOf (entryAt v b i)
     unfolding recordOf
@@ -72,7 +48,7 @@ module _ (v : Node) (b : List ℕ) (i : ℕ) (s : Span) (e : s ≡ spanAt v b i)
     pub ghost-record : (l l₁ : List ℕ) (at : ℕ) → isGhost s ≡ true → l₁ ≡ splice l at (bytesOf 2 (length k) ++ bytesOf 2 0xFFFF ++ k) → l₁ ≡ splice l at (recordOf (entryAt v b i))
     unfolding valueAt markOf valueBytes
     ghost-record l l₁ at g p =
-        let x : ghost ≡ entryAt v b i .value = sym (sym value-there ∙ rw g) in
+        let x : ghost ≡ entryAt v b i .value = sym (sym (value-of v b i s e) ∙ rw g) in
         p ∙ ap (splice l at) (sym (append-nil _) ∙ record-is ghost x)
 
     pub leaf-record : (l l₁ l₂ w : List ℕ) (at : ℕ) → isGhost s ≡ false → v .level ≡ 0 → at + (4 + spanLength (spanAt v b i)) ≤ length l
@@ -81,8 +57,8 @@ module _ (v : Node) (b : List ℕ) (i : ℕ) (s : Span) (e : s ≡ spanAt v b i)
     unfolding valueAt markOf valueBytes isGhost
     leaf-record l l₁ l₂ w at g z room p ew q =
         let ng : s .voff ≡ 65535 → ⊥ = eqb-false (s .voff) 65535 g in
-        let lw : length w ≡ s .vlen = ap length ew ∙ length-window (v .vals - s .voff) (s .vlen) b (held-end v (length b) s span-held ng) in
-        let x : leaf w ≡ entryAt v b i .value = ap leaf ew ∙ sym (sym value-there ∙ rw (g, eq-eqb (v .level) 0 z)) in
+        let lw : length w ≡ s .vlen = ap length ew ∙ leaf-counts v b s span-held g in
+        let x : leaf w ≡ entryAt v b i .value = ap leaf ew ∙ sym (sym (value-of v b i s e) ∙ rw (g, eq-eqb (v .level) 0 z)) in
         let hl : length (bytesOf 2 (length k) ++ bytesOf 2 (s .vlen) ++ k) ≡ 4 + length k = length-head-key k (s .vlen) in
         let sl : s .klen + s .vlen ≡ spanLength (spanAt v b i) = value-length s ng ∙ length-of in
         let kl = key-long in
@@ -97,7 +73,7 @@ module _ (v : Node) (b : List ℕ) (i : ℕ) (s : Span) (e : s ≡ spanAt v b i)
     child-record l l₁ l₂ at r g z room p er q =
         let ng : s .voff ≡ 65535 → ⊥ = eqb-false (s .voff) 65535 g in
         let lw : length (bytesOf 8 r) ≡ 8 = length-bytesOf 8 r in
-        let x : disk r ≡ entryAt v b i .value = ap disk er ∙ sym (sym value-there ∙ rw (g, ne-eqb (v .level) 0 z)) in
+        let x : disk r ≡ entryAt v b i .value = ap disk er ∙ sym (sym (value-of v b i s e) ∙ rw (g, ne-eqb (v .level) 0 z)) in
         let hl : length (bytesOf 2 (length k) ++ bytesOf 2 0xFFFE ++ k) ≡ 4 + length k = length-head-key k 0xFFFE in
         let sl : s .klen + s .vlen ≡ spanLength (spanAt v b i) = value-length s ng ∙ length-of in
         let e8 : s .vlen ≡ 8 = held-eight v (length b) s span-held z in
@@ -121,9 +97,6 @@ module _ (v : Node) (b : List ℕ) (i : ℕ) (s : Span) (e : s ≡ spanAt v b i)
       omega arith
 
   -- bounds
-  pub klen-small : s .klen ≤ length b
-  klen-small = omega (arith, held-key v (length b) s span-held)
-
   pub next-room : (at n : ℕ) → at + (4 + spanLength (spanAt v b i)) ≤ n → at + 4 + s .klen ≤ n
   unfolding spanLength
   next-room at n r = let x = length-of in omega arith
@@ -140,11 +113,6 @@ module _ (v : Node) (b : List ℕ) (i : ℕ) (s : Span) (e : s ≡ spanAt v b i)
   pub leaf-room : (at m n : ℕ) → isGhost s ≡ false → at + (4 + spanLength (spanAt v b i)) ≤ m → n ≡ m
       → at + 4 + s .klen + length (take (v .vals - s .voff + s .vlen - (v .vals - s .voff)) (drop (v .vals - s .voff) b)) ≤ n
   leaf-room at m n g r e = omega (arith, part-long b (v .vals - s .voff) (s .vlen) (leaf-end g), leaf-next at g)
-
-  pub child-end : isGhost s ≡ false → (v .level ≡ 0 → ⊥) → v .vals - s .voff + 8 ≤ length b
-  child-end g z =
-      let e8 : s .vlen ≡ 8 = held-eight v (length b) s span-held z in
-      omega (arith, leaf-end g)
 
 -- ---- several records
 
@@ -178,14 +146,7 @@ records-snoc v b j (suc i) =
 
 -- the bytes of a value as a record stores it
 value-long : (v : Node) (b : List ℕ) (s : Span) → spanHolds v (length b) s ≡ true → length (valueBytes (valueAt v b s)) ≡ cond (isGhost s) 0 (s .vlen)
-unfolding valueAt valueBytes
-value-long v b s h =
-    by-test (isGhost s)
-    (λ g. rw g)
-    (λ g.
-    by-test (eqb (v .level) 0)
-    (λ z. rw (g, z) (length-window (v .vals - s .voff) (s .vlen) b (held-end v (length b) s h (no-ghost s g))))
-    (λ z. rw (g, z) (length-bytesOf 8 (u64At b (v .vals - s .voff)) ∙ sym (held-eight v (length b) s h (eqb-false (v .level) 0 z)))))
+value-long v b s h = length-valueBytes (valueAt v b s) ∙ value-counts v b s h
 
 module _ (v : Node) (b : List ℕ) (h : Sound v b) (i : ℕ) (lt : i < v .nkeys) where
   pub record-long : length (recordOf (entryAt v b i)) ≡ 4 + spanLength (spanAt v b i)
@@ -193,7 +154,7 @@ module _ (v : Node) (b : List ℕ) (h : Sound v b) (i : ℕ) (lt : i < v .nkeys)
   record-long =
       let s : Span = spanAt v b i in
       let held : spanHolds v (length b) s ≡ true = sound-span v b i s h lt refl in
-      let k : length (window (s .key) (s .klen) b) ≡ s .klen = length-window (s .key) (s .klen) b (held-key v (length b) s held) in
+      let k : length (window (s .key) (s .klen) b) ≡ s .klen = key-counts v b s held in
       simp (length-append, length-bytesOf, k, value-long v b s held) (omega arith)
 
   pub adopt-room : (at : ℕ) (l : List ℕ) → at ≡ 4 * i + spansLength v b 0 i → 2 * length b ≤ length l → at + (4 + spanLength (spanAt v b i)) ≤ length l

@@ -2,7 +2,7 @@
 use mathlib.Core.Path.{_≡_, refl, ap₂}
 use mathlib.Core.List.{List, [], _∷_, _++_}
 use Prim.Native.Nat.{ℕ, zero, suc, _+_, _*_, _/_, _%_, _^_, _<_}
-use native.Mathlib.Nat.{pow-zero, pow-succ', one-le-pow, suc-inj}
+use native.Mathlib.Nat.{suc-inj}
 use native.Mathlib.Omega.{arith}
 use mir.Syntax.{w8}
 use mir.Val.{Fits}
@@ -76,13 +76,8 @@ bytes-replicate (suc n) b h = bytes-cons h (bytes-replicate n b h)
 
 -- n bytes spell less than 256 ^ n
 pub le-take-below : (n : ℕ) (l : List ℕ) → Bytes l → le (take n l) < 256 ^ n
-unfolding le
-le-take-below zero l h = rw pow-zero (omega arith)
-le-take-below (suc n) [] h = one-le-pow (suc n) 256 (omega arith)
-le-take-below (suc n) (x ∷ xs) h =
-    let r = le-take-below n xs (bytes-tail h) in
-    let b = bytes-head h in
-    rw pow-succ' (omega arith)
+unfolding fieldAt window
+le-take-below n l h = of.field-fits n l 0 (h .below)
 
 pub field-below : (n : ℕ) (l : List ℕ) (i : ℕ) → Bytes l → fieldAt n l i < 256 ^ n
 field-below n l i h = of.field-fits n l i (h .below)

@@ -2,19 +2,21 @@
 use mathlib.Core.Path.{_≡_, refl, sym, ap, ap₂, _∙_}
 use mathlib.Core.List.{List, [], _∷_, _++_}
 use mathlib.Core.Logic.{_↔_}
-use mathlib.Core.Bool.{Bool, true, false, cond, _&&_, _||_, not, and-eq-true-iff, false≢true, true≢false}
+use mathlib.Core.Bool.{Bool, true, false, cond, _&&_, _||_, not, false≢true, true≢false}
 use Prim.Native.Nat.{ℕ, zero, suc, _+_, _-_, _*_, _/_, _^_, _≤_, _<_}
 use native.Mathlib.Nat.{zero-add, add-assoc, le-refl, le-trans}
 use native.Mathlib.Numerals.{add-one}
 use native.Mathlib.Omega.{arith}
 use lib.ListN.{length, take, drop, length-take, length-drop, take-append-drop}
-use lib.Seq.{take-take, take-at, drop-at}
+use lib.Seq.{take-take}
 use lib.Dec.{leb}
 use borrow.Author.Tests.{le-leb, lt-leb, leb-true, leb-false, not-true, not-false}
+use Rattle.node.specs.TestLaws.{and-split, and-left}
 use Rattle.node.specs.Entry.{Entry}
 use Rattle.node.specs.Records.{recordLength, recordsLength, entriesOf}
 use Rattle.node.specs.Fit.{greater, roomOf, fitsSums, fits, lengthsOf, longerOf}
-use Rattle.node.specs.FitLaws.{records-less, entries-add, length-entries, record-in, record-sum, entry-key, entry-value, room-append, fits-is, fits-take, fits-drop, lengths-none, lengths-next, lengths-room, lengths-in, lengths-keys, lengths-values}
+use Rattle.node.specs.RecordsLaws.{length-entries, records-less, record-in, entries-front, records-size}
+use Rattle.node.specs.FitLaws.{room-append, fits-is, fits-take, fits-drop, lengths-none, lengths-next, lengths-room, lengths-in, lengths-keys, lengths-values}
 use Rattle.node.specs.Cut.{entrySize, size, leftPart, keptWithin, shorten, lengthen, cutPlace, tooLarge, nowhere, after, cut, cutMeans, placeOf, startOf, leftOf, furtherSums, partsFit}
 use Rattle.node.specs.declared.info.BTreeInfo.{BTreeInfo}
 use Rattle.node.specs.declared.fit.Lengths.{Lengths}
@@ -123,10 +125,7 @@ record Long (fit : List Entry → Bool) (es : List Entry) (c m d : ℕ) : Type 0
 
 -- what the test of a turn says
 pick-turn : (a b : Bool) → (not a && b) ≡ true → (a ≡ false) × (b ≡ true)
-pick-turn true true e = absurd (false≢true e)
-pick-turn true false e = absurd (false≢true e)
-pick-turn false true e = (refl, refl)
-pick-turn false false e = absurd (false≢true e)
+pick-turn a b e = let (p, q) = and-split (not a) b e in (not-true a p, q)
 
 pick-stop : (a b : Bool) → (not a && b) ≡ false → b ≡ true → a ≡ true
 pick-stop true b e f = refl
@@ -240,10 +239,6 @@ module _ (fit : List Entry → Bool) (es : List Entry) (falls : Falls fit es) wh
 unfoldable pub goesOn : (List Entry → Bool) → List Entry → ℕ → Bool
 goesOn fit es c = fit (take (c + 1) es) && (leb (size (take (c + 1) es)) (size es / 2) || not (fit (drop c es)))
 
-on-left : (a b d : Bool) → (a && (b || not d)) ≡ true → a ≡ true
-on-left true b d e = refl
-on-left false b d e = absurd (false≢true e)
-
 on-half : (a b d : Bool) → (a && (b || not d)) ≡ true → d ≡ true → b ≡ true
 on-half true true d e f = refl
 on-half true false true e f = absurd (false≢true e)
@@ -272,7 +267,7 @@ place-on fit es c d p h k on = pick (leb d c) refl
         let o : goesOn fit es d ≡ true = ap (goesOn fit es) q ∙ on in
         let a : Bool = fit (take (d + 1) es) in
         let b : Bool = leb (size (take (d + 1) es)) (size es / 2) in
-        let s = p .stops (omega arith) (on-left a b (fit (drop d es)) o) in
+        let s = p .stops (omega arith) (and-left a (b || not (fit (drop d es))) o) in
         let t = leb-true (size (take (d + 1) es)) (size es / 2) (on-half a b (fit (drop d es)) o (s .0)) in
         absurd (omega (arith, s .1))
 
@@ -347,7 +342,7 @@ cut-parts t level es c e =
     let d : ℕ = cutPlace (fits t false level) es in
     let a = after-same (leb (length es) 1) (fits t false level (take d es) && fits t false level (drop d es)) d c e in
     let n : 1 < length es = leb-false (length es) 1 (a .0) in
-    let b = and-eq-true-iff (fits t false level (take d es)) (fits t false level (drop d es)) .0 (a .1) in
+    let b = and-split (fits t false level (take d es)) (fits t false level (drop d es)) (a .1) in
     let p : Placed (fits t false level) es d = cut-placed t level es n in
     let r : Parted t level es d =
     record {
@@ -401,33 +396,10 @@ large-iff t level es =
 
 -- ---- parts of a slot's records
 
-pub take-entries : (i n : ℕ) (l : List ℕ) → i ≤ n → take i (entriesOf n l) ≡ entriesOf i l
-take-entries i n l h =
-    let e : n ≡ i + (n - i) = omega arith in
-    ap (λ (k : ℕ). take i (entriesOf k l)) e ∙ ap (take i) (entries-add i (n - i) l)
-    ∙ take-at (entriesOf i l) (entriesOf (n - i) (drop (recordsLength i l) l)) i (length-entries i l)
-
-pub drop-entries : (i n : ℕ) (l : List ℕ) → i ≤ n → drop i (entriesOf n l) ≡ entriesOf (n - i) (drop (recordsLength i l) l)
-drop-entries i n l h =
-    let e : n ≡ i + (n - i) = omega arith in
-    ap (λ (k : ℕ). drop i (entriesOf k l)) e ∙ ap (drop i) (entries-add i (n - i) l)
-    ∙ drop-at (entriesOf i l) (entriesOf (n - i) (drop (recordsLength i l) l)) i (length-entries i l)
-
--- an entry's size is 4 more than its record
-pub size-entries : (n : ℕ) (l : List ℕ) → recordsLength n l ≤ length l → size (entriesOf n l) ≡ recordsLength n l + 4 * n
-unfolding recordsLength entriesOf size entrySize
-size-entries zero l h = refl
-size-entries (suc n) l h =
-    let r : ℕ = recordLength l in
-    let e : length (drop r l) ≡ length l - r = length-drop r l in
-    let f : recordLength l ≤ length l = omega arith in
-    let g : recordsLength n (drop r l) ≤ length (drop r l) = omega arith in
-    omega (arith, size-entries n (drop r l) g, entry-key l f, entry-value l f, record-sum l)
-
 module _ (t : BTreeInfo) (n : ℕ) (l : List ℕ) (h : recordsLength n l ≤ length l) where
   -- the first c entries and the others, by sums
   pub left-sums : (level c : ℕ) (s : Lengths) → c ≤ n → s ≡ lengthsOf t c l → fitsSums t false level c (s .keys + s .values) ≡ fits t false level (take c (entriesOf n l))
-  left-sums level c s k e = fits-is t false level c l s (fitsSums t false level c (s .keys + s .values)) e refl ∙ ap (fits t false level) (sym (take-entries c n l k))
+  left-sums level c s k e = fits-is t false level c l s (fitsSums t false level c (s .keys + s .values)) e refl ∙ ap (fits t false level) (sym (entries-front c n l k))
 
   room-sums : (c : ℕ) (s w : Lengths) → c ≤ n → s ≡ lengthsOf t c l → w ≡ lengthsOf t n l
       → w .keys + w .values ≡ s .keys + s .values + roomOf t (drop c (entriesOf n l))
@@ -435,7 +407,7 @@ module _ (t : BTreeInfo) (n : ℕ) (l : List ℕ) (h : recordsLength n l ≤ len
   room-sums c s w k e f =
       let p : roomOf t (entriesOf n l) ≡ roomOf t (take c (entriesOf n l)) + roomOf t (drop c (entriesOf n l)) =
       ap (roomOf t) (sym (take-append-drop c (entriesOf n l))) ∙ room-append t (take c (entriesOf n l)) (drop c (entriesOf n l)) in
-      rw (e, f) (p ∙ ap (λ (x : List Entry). roomOf t x + roomOf t (drop c (entriesOf n l))) (take-entries c n l k))
+      rw (e, f) (p ∙ ap (λ (x : List Entry). roomOf t x + roomOf t (drop c (entriesOf n l))) (entries-front c n l k))
 
   pub right-sums : (level c : ℕ) (s w : Lengths) → c ≤ n → s ≡ lengthsOf t c l → w ≡ lengthsOf t n l
       → fitsSums t false level (n - c) (w .keys + w .values - (s .keys + s .values)) ≡ fits t false level (drop c (entriesOf n l))
@@ -450,11 +422,11 @@ module _ (t : BTreeInfo) (n : ℕ) (l : List ℕ) (h : recordsLength n l ≤ len
 
   size-sums : (c : ℕ) (s : Lengths) → c ≤ n → s ≡ lengthsOf t c l → s .at + 4 * c ≡ size (take c (entriesOf n l))
   unfolding lengthsOf
-  size-sums c s k e = rw e (sym (ap size (take-entries c n l k) ∙ size-entries c l (le-trans (records-less c n l k) h)))
+  size-sums c s k e = rw e (records-size c l (le-trans (records-less c n l k) h) ∙ ap size (sym (entries-front c n l k)))
 
   size-whole : (w : Lengths) → w ≡ lengthsOf t n l → w .at + 4 * n ≡ size (entriesOf n l)
   unfolding lengthsOf
-  size-whole w e = rw e (sym (size-entries n l h))
+  size-whole w e = rw e (records-size n l h)
 
   further-is : (level c : ℕ) (w s r : Lengths) → c < n → w ≡ lengthsOf t n l → s ≡ lengthsOf t c l → r ≡ lengthsOf t (c + 1) l
       → furtherSums t level n w (record { place = c; lengths = s }) r ≡ goesOn (fits t false level) (entriesOf n l) c

@@ -15,19 +15,13 @@ use Rattle.node.specs.Pack.{padTo, valueOffset, tocEntry, toc, keyArea, 
 use Rattle.node.specs.Read.{isFixed, spanAt, isGhost, spanHolds, spanLength, spansHold, spansLength, valueAt, entryAt, entriesFrom}
 use Rattle.node.specs.Packable.{valueSuits, suits}
 use Rattle.node.specs.StandsLaws.{Stands, stands-left, stands-after, stands-field, fields, Read, table-read}
-use Rattle.node.specs.LayoutLaws.{both, first-of, second-of, padded-least, length-padTo, length-valueBytes, length-tocEntry, length-valueArea}
+use Rattle.node.specs.TestLaws.{never, and-both, and-left, and-right, or-right}
+use Rattle.node.specs.RecordsLaws.{length-valueBytes}
+use Rattle.node.specs.FitLaws.{padded-least}
+use Rattle.node.specs.LayoutLaws.{length-padTo, length-tocEntry, length-valueArea}
 use Rattle.node.specs.declared.info.BTreeInfo.{BTreeInfo}
 use Rattle.node.specs.declared.read.Node.{Node}
 use Rattle.node.specs.declared.read.Span.{Span}
-
--- ---- tests
-
-either : (a b : Bool) → (not a || b) ≡ true → a ≡ true → b ≡ true
-either true b h e = h
-either false b h e = let z : _≡_ {A = ℕ} 0 1 = cc in absurd (omega arith)
-
-never : {A : Type 0} → false ≡ true → A
-never h = let z : _≡_ {A = ℕ} 0 1 = cc in absurd (omega arith)
 
 pub fixed-is : (v : Node) (t : BTreeInfo) → v .ksize ≡ t .«key_size» → isFixed v ≡ fixed t
 unfolding isFixed fixed
@@ -92,10 +86,10 @@ spanOf t v ko vo k w =
 -- the length that is read is the value's
 stored-leaf : (t : BTreeInfo) (level : ℕ) (x : List ℕ) → valueSuits t level (leaf x) ≡ true → cond (fixed t) (fixedValue t level) (length x) ≡ length x
 unfolding valueSuits fixedValue
-stored-leaf t level x h = go (fixed t) (second-of (eqb level 0) (not (fixed t) || eqb (length x) (t .«val_size»)) h)
+stored-leaf t level x h = go (fixed t) (and-right (eqb level 0) (not (fixed t) || eqb (length x) (t .«val_size»)) h)
   where
     l : eqb level 0 ≡ true
-    l = first-of (eqb level 0) (not (fixed t) || eqb (length x) (t .«val_size»)) h
+    l = and-left (eqb level 0) (not (fixed t) || eqb (length x) (t .«val_size»)) h
 
     go : (q : Bool) → (not q || eqb (length x) (t .«val_size»)) ≡ true → cond q (cond (eqb level 0) (t .«val_size») 8) (length x) ≡ length x
     go true f = rw l (sym (eqb-true (length x) (t .«val_size») f))
@@ -111,15 +105,15 @@ stored-child t level l = rw l (go (fixed t))
 
 leaf-level : (t : BTreeInfo) (level : ℕ) (x : List ℕ) → valueSuits t level (leaf x) ≡ true → eqb level 0 ≡ true
 unfolding valueSuits
-leaf-level t level x h = first-of (eqb level 0) (not (fixed t) || eqb (length x) (t .«val_size»)) h
+leaf-level t level x h = and-left (eqb level 0) (not (fixed t) || eqb (length x) (t .«val_size»)) h
 
 child-level : (t : BTreeInfo) (level r : ℕ) → valueSuits t level (disk r) ≡ true → eqb level 0 ≡ false
 unfolding valueSuits
-child-level t level r h = not-true (eqb level 0) (first-of (not (eqb level 0)) (ltb r (2 ^ 64)) h)
+child-level t level r h = not-true (eqb level 0) (and-left (not (eqb level 0)) (ltb r (2 ^ 64)) h)
 
 child-small : (t : BTreeInfo) (level r : ℕ) → valueSuits t level (disk r) ≡ true → r < 2 ^ 64
 unfolding valueSuits
-child-small t level r h = ltb-true r (2 ^ 64) (second-of (not (eqb level 0)) (ltb r (2 ^ 64)) h)
+child-small t level r h = ltb-true r (2 ^ 64) (and-right (not (eqb level 0)) (ltb r (2 ^ 64)) h)
 
 -- what is shown of entry i
 record Entry-back (t : BTreeInfo) (v : Node) (b : List ℕ) (i : ℕ) (k : List ℕ) (w : Val) : Type 0 where
@@ -218,7 +212,7 @@ module _ (t : BTreeInfo) (v : Node) (b : List ℕ) (ks : v .ksize ≡ t .«key_s
         let c : spanLength s ≡ length k + 8 = rw g (ap (λ (a : ℕ). length k + a) l) in
         from-span (disk r) e (holds-child v (length b) s (omega arith) g (omega arith) (omega arith) z l) (omega arith)
         (value-child v b s r g z (stands-field b (v .vals - vo) 8 r vb (child-small t (v .level) r fit)))
-    entry-back (mem s) fit st vb room less = never fit
+    entry-back (mem s) fit st vb room less = never fit refl
 
   -- ---- all entries
 
@@ -240,10 +234,10 @@ module _ (t : BTreeInfo) (v : Node) (b : List ℕ) (ks : v .ksize ≡ t .«key_s
         let mw = padded-least t (valueLength w) in
         let lw = length-valueBytes w in
         let keyed : Bool = not (fixed t) || eqb (length k) (t .«key_size») in
-        let suit : suits t (v .level) e ≡ true = first-of (suits t (v .level) e) (every (suits t (v .level)) es) fit in
+        let suit : suits t (v .level) e ≡ true = and-left (suits t (v .level) e) (every (suits t (v .level)) es) fit in
         let suit-key : fixed t ≡ true → length k ≡ t .«key_size» =
-        λ (q : fixed t ≡ true). eqb-true (length k) (t .«key_size») (either (fixed t) (eqb (length k) (t .«key_size»)) (first-of keyed (valueSuits t (v .level) w) suit) q) in
-        let rest-fit : every (suits t (v .level)) es ≡ true = second-of (suits t (v .level) e) (every (suits t (v .level)) es) fit in
+        λ (q : fixed t ≡ true). eqb-true (length k) (t .«key_size») (or-right (not (fixed t)) (eqb (length k) (t .«key_size»)) (ap not q) (and-left keyed (valueSuits t (v .level) w) suit)) in
+        let rest-fit : every (suits t (v .level)) es ≡ true = and-right (suits t (v .level) e) (every (suits t (v .level)) es) fit in
         let slot : List ℕ = tocEntry t ko vo′ e in
         let slots : List ℕ = toc t (ko + n) vo′ es in
         let kbytes : List ℕ = padTo n k in
@@ -255,7 +249,7 @@ module _ (t : BTreeInfo) (v : Node) (b : List ℕ) (ks : v .ksize ≡ t .«key_s
         let at-slot : v .toc + i * slotWidth t + slotWidth t ≡ v .toc + suc i * slotWidth t = omega arith in
         let one =
         entry-back i ko vo′ k suit-key (stands-left b (v .keys + ko) k (replicate (n - length k) 0) (stands-left b (v .keys + ko) kbytes (keyArea t es) kb)) start most block w
-        (second-of keyed (valueSuits t (v .level) w) suit) (stands-left b (v .toc + i * slotWidth t) slot slots st)
+        (and-right keyed (valueSuits t (v .level) w) suit) (stands-left b (v .toc + i * slotWidth t) slot slots st)
         (stands-left b (v .vals - vo′) (valueBytes w) (replicate (m - length (valueBytes w)) 0) (subst (λ (a : ℕ). Stands b a vbytes) at-vo here)) (omega arith) (omega arith) in
         let all =
         entries-back es (suc i) (ko + n) vo′ rest-fit
@@ -265,7 +259,7 @@ module _ (t : BTreeInfo) (v : Node) (b : List ℕ) (ks : v .ksize ≡ t .«key_s
         let f = one .short in
         let g = all .short in
         record {
-          holds = both (spanHolds v (length b) (spanAt v b i)) (spansHold v b (suc i) (length es)) (one .holds) (all .holds);
+          holds = and-both (spanHolds v (length b) (spanAt v b i)) (spansHold v b (suc i) (length es)) (one .holds) (all .holds);
           short = omega arith;
           same = ap₂ (λ (x : Entry) (xs : List Entry). x ∷ xs) (one .same) (all .same);
         }

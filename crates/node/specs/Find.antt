@@ -1,4 +1,4 @@
--- Finding a key among entries in key order (document 01, "Lookups": the last key not above it, else child 0).
+-- Finding a key among entries in key order (document 01, "Edits": the way to a key).
 use mathlib.Core.List.{List, [], _∷_}
 use mathlib.Core.Bool.{Bool, false, cond, not}
 use Prim.Native.Nat.{ℕ, suc, _-_}

@@ -13,9 +13,9 @@ use Rattle.node.specs.TestLaws.{and-left, and-right}
 use Rattle.node.specs.Order.{less}
 use Rattle.node.specs.Entry.{Entry, every}
 use Rattle.node.specs.Records.{markLength, valueOf, recordLength, entryOf, recordsLength, entriesOf}
-use Rattle.node.specs.RecordsLaws.{length-entries, record-mark}
+use Rattle.node.specs.RecordsLaws.{length-entries, record-mark, records-less, entries-head}
 use Rattle.node.specs.Slot.{recordsHold, isChild, suit, suits}
-use Rattle.node.specs.SlotLaws.{lengths-le, entries-head, at-next}
+use Rattle.node.specs.SlotLaws.{at-next}
 use Rattle.node.specs.Find.{placeOf, isThere, notAbove, foundIn, lastIn}
 use Rattle.node.specs.declared.slot.Found.{Found}
 use Rattle.node.specs.declared.slot.Last.{Last}
@@ -27,7 +27,7 @@ unfolding recordsHold
 hold-no l n used i at t h p e f =
     let a : length l < at + recordLength (drop at l) = leb-false (at + recordLength (drop at l)) (length l) (sym e ∙ not-true t f) in
     let b : at + recordLength (drop at l) ≡ recordsLength (i + 1) l = at-next l i at (at + recordLength (drop at l)) p refl in
-    let c = lengths-le (i + 1) n l (omega arith) in
+    let c = records-less (i + 1) n l (omega arith) in
     let d : length l < recordsLength n l = omega arith in
     rw (lt-leb (recordsLength n l) (length l) d)
 

@@ -1,18 +1,19 @@
 -- Laws of fitting: what the code computes step by step, and that a node which fits as root fits as non-root, that a part of one which fits fits. Assumes nothing.
 use mathlib.Core.Path.{_≡_, refl, sym, ap, _∙_}
 use mathlib.Core.List.{List, [], _∷_, _++_}
-use mathlib.Core.Bool.{Bool, true, false, cond, and-eq-true-iff, false≢true}
+use mathlib.Core.Bool.{Bool, true, false, cond, false≢true}
 use Prim.Native.Nat.{ℕ, zero, suc, _+_, _-_, _*_, _/_, _%_, _^_, _≤_, _<_}
-use native.Mathlib.Nat.{add-zero, zero-add, suc-add, add-assoc, le-refl, le-trans, mul-le-mul-right, mul-le-mul-left, sub-zero, le-div-iff-mul-le, div-mul-le-self, add-mul-div-right, div-le-self}
+use native.Mathlib.Nat.{add-zero, zero-add, add-assoc, le-refl, le-trans, mul-le-mul-right, mul-le-mul-left, sub-zero, le-div-iff-mul-le, div-mul-le-self, add-mul-div-right, div-le-self}
 use native.Mathlib.Omega.{arith}
 use lib.ListN.{length, take, drop, length-append, length-drop, take-append-drop}
 use lib.Seq.{drop-drop, take-take}
 use lib.Dec.{leb, eqb}
 use borrow.Author.Tests.{le-leb, lt-leb, leb-true, leb-false, eq-eqb, ne-eqb, eqb-false}
-use Rattle.seal.specs.Bytes.{u16At, window, le}
-use Rattle.seal.specs.WindowLaws.{length-window}
-use Rattle.node.specs.Entry.{Entry, ghost, leaf, disk, mem, valueLength}
-use Rattle.node.specs.Records.{markLength, valueOf, recordLength, recordsLength, recordAt, entryOf, entriesOf}
+use Rattle.seal.specs.Bytes.{u16At}
+use Rattle.node.specs.TestLaws.{and-split}
+use Rattle.node.specs.Entry.{Entry, valueLength}
+use Rattle.node.specs.Records.{markLength, recordLength, recordsLength, recordAt, entryOf, entriesOf}
+use Rattle.node.specs.RecordsLaws.{length-entries, entries-next, records-next, records-less, record-sum, records-least, record-in, entry-key-length, entry-value-length}
 use Rattle.node.specs.Fit.{flag, align8, greater, padded, dataSpace, fixed, slotWidth, fixedValue, tocSlots, tocLength, keysLength, valuesLength, roomOf, packedLength, fitsSums, fits, Sized, lengthsOf, longerOf}
 use Rattle.node.specs.declared.info.BTreeInfo.{BTreeInfo}
 use Rattle.node.specs.declared.record.Record.{Record}
@@ -51,11 +52,11 @@ pub value-index : (t : BTreeInfo) (level : ℕ) → (level ≡ 0 → ⊥) → 8 
 unfolding fixedValue
 value-index t level h = rw (ne-eqb level 0 h)
 
-fixed-not : (t : BTreeInfo) → t .«key_size» ≡ 0 → fixed t ≡ false
+pub fixed-not : (t : BTreeInfo) → t .«key_size» ≡ 0 → fixed t ≡ false
 unfolding fixed
 fixed-not t h = rw (eq-eqb (t .«key_size») 0 h)
 
-fixed-so : (t : BTreeInfo) → (t .«key_size» ≡ 0 → ⊥) → fixed t ≡ true
+pub fixed-so : (t : BTreeInfo) → (t .«key_size» ≡ 0 → ⊥) → fixed t ≡ true
 unfolding fixed
 fixed-so t h = rw (ne-eqb (t .«key_size») 0 h)
 
@@ -89,78 +90,6 @@ pub sums-tested : (t : BTreeInfo) (root : Bool) (level n room s toc space : ℕ)
 unfolding fitsSums
 sums-tested t root level n room s toc space e h p q = rw (← e, le-leb n s h, ← p, ← q)
 
--- ---- records of a slot
-
-pub records-add : (i k : ℕ) (l : List ℕ) → recordsLength (i + k) l ≡ recordsLength i l + recordsLength k (drop (recordsLength i l) l)
-unfolding recordsLength
-records-add zero k l = rw (zero-add k, zero-add (recordsLength k l))
-records-add (suc i) k l =
-    let r : ℕ = recordLength l in
-    let d : drop (recordsLength i (drop r l)) (drop r l) ≡ drop (r + recordsLength i (drop r l)) l = drop-drop (recordsLength i (drop r l)) r l in
-    rw (suc-add, records-add i k (drop r l), d, add-assoc)
-
-pub entries-add : (i k : ℕ) (l : List ℕ) → entriesOf (i + k) l ≡ entriesOf i l ++ entriesOf k (drop (recordsLength i l) l)
-unfolding recordsLength entriesOf
-entries-add zero k l = rw zero-add
-entries-add (suc i) k l =
-    let r : ℕ = recordLength l in
-    let d : drop (recordsLength i (drop r l)) (drop r l) ≡ drop (r + recordsLength i (drop r l)) l = drop-drop (recordsLength i (drop r l)) r l in
-    rw (suc-add, entries-add i k (drop r l), d)
-
-pub records-one : (l : List ℕ) → recordsLength 1 l ≡ recordLength l
-unfolding recordsLength
-records-one l = add-zero (recordLength l)
-
-pub records-next : (i : ℕ) (l : List ℕ) → recordsLength (i + 1) l ≡ recordsLength i l + recordLength (drop (recordsLength i l) l)
-records-next i l = records-add i 1 l ∙ ap (λ (k : ℕ). recordsLength i l + k) (records-one (drop (recordsLength i l) l))
-
-pub records-upto : (i n : ℕ) (l : List ℕ) → i ≤ n → recordsLength n l ≡ recordsLength i l + recordsLength (n - i) (drop (recordsLength i l) l)
-records-upto i n l h = let e : n ≡ i + (n - i) = omega arith in ap (λ (k : ℕ). recordsLength k l) e ∙ records-add i (n - i) l
-
-pub records-less : (i n : ℕ) (l : List ℕ) → i ≤ n → recordsLength i l ≤ recordsLength n l
-records-less i n l h = omega (arith, records-upto i n l h)
-
-pub length-entries : (n : ℕ) (l : List ℕ) → length (entriesOf n l) ≡ n
-unfolding entriesOf
-length-entries zero l = refl
-length-entries (suc n) l = ap suc (length-entries n (drop (recordLength l) l))
-
-pub record-sum : (l : List ℕ) → recordLength l ≡ 4 + u16At l 0 + markLength (u16At l 2)
-unfolding recordLength
-record-sum l = refl
-
-pub record-least : (l : List ℕ) → 4 ≤ recordLength l
-unfolding recordLength
-record-least l = omega arith
-
-pub records-least : (n : ℕ) (l : List ℕ) → 4 * n ≤ recordsLength n l
-unfolding recordsLength
-records-least zero l = omega arith
-records-least (suc n) l = omega (arith, record-least l, records-least n (drop (recordLength l) l))
-
-pick-length : (a b d : Bool) (m : ℕ) (v : List ℕ) → length v ≡ cond a m (cond b 0 8)
-    → valueLength (cond a (leaf v) (cond b ghost (cond d (disk (le v)) (mem (le v))))) ≡ cond a m (cond b 0 8)
-unfolding valueLength
-pick-length true b d m v e = e
-pick-length false true d m v e = refl
-pick-length false false true m v e = refl
-pick-length false false false m v e = refl
-
-pub value-length : (m : ℕ) (v : List ℕ) → length v ≡ markLength m → valueLength (valueOf m v) ≡ markLength m
-unfolding valueOf markLength
-value-length m v e = pick-length (leb m 0xFFFC) (eqb m 0xFFFF) (eqb m 0xFFFE) m v e
-
--- the lengths of the entry of a record that lies in the list
-pub entry-key : (l : List ℕ) → recordLength l ≤ length l → length (entryOf l .key) ≡ u16At l 0
-unfolding recordLength entryOf
-entry-key l h = length-window 4 (u16At l 0) l (omega arith)
-
-pub entry-value : (l : List ℕ) → recordLength l ≤ length l → valueLength (entryOf l .value) ≡ markLength (u16At l 2)
-unfolding recordLength entryOf
-entry-value l h =
-    let m : ℕ = u16At l 2 in
-    value-length m (window (4 + u16At l 0) (markLength m) l) (length-window (4 + u16At l 0) (markLength m) l (omega arith))
-
 -- ---- sums of parts
 
 pub keys-append : (t : BTreeInfo) (a b : List Entry) → keysLength t (a ++ b) ≡ keysLength t a + keysLength t b
@@ -176,6 +105,14 @@ values-append t (e ∷ a) b = rw (values-append t a b, add-assoc)
 pub room-append : (t : BTreeInfo) (a b : List Entry) → roomOf t (a ++ b) ≡ roomOf t a + roomOf t b
 unfolding roomOf
 room-append t a b = omega (arith, keys-append t a b, values-append t a b)
+
+pub padded-least : (t : BTreeInfo) (n : ℕ) → n ≤ padded t n
+unfolding padded align8
+padded-least t n = pick (flag (t .flags) 0x40)
+  where
+    pick : (b : Bool) → n ≤ cond b n ((n + 7) / 8 * 8)
+    pick true = omega arith
+    pick false = omega arith
 
 pick-padded : (b : Bool) (n : ℕ) → cond b n ((n + 7) / 8 * 8) ≤ n + 7
 pick-padded true n = omega arith
@@ -194,8 +131,8 @@ room-most t (suc n) l h =
     let e : length (drop r l) ≡ length l - r = length-drop r l in
     let h₁ : recordLength l ≤ length l = omega arith in
     let h₂ : recordsLength n (drop r l) ≤ length (drop r l) = omega arith in
-    let p : length (entryOf l .key) ≡ u16At l 0 = entry-key l h₁ in
-    let q : valueLength (entryOf l .value) ≡ markLength (u16At l 2) = entry-value l h₁ in
+    let p : length (entryOf l .key) ≡ u16At l 0 = entry-key-length l h₁ in
+    let q : valueLength (entryOf l .value) ≡ markLength (u16At l 2) = entry-value-length l h₁ in
     let s : recordLength l ≡ 4 + u16At l 0 + markLength (u16At l 2) = record-sum l in
     omega (arith, room-most t n (drop r l) h₂, padded-most t (length (entryOf l .key)), padded-most t (valueLength (entryOf l .value)))
 
@@ -205,10 +142,6 @@ pub lengths-none : (t : BTreeInfo) (l : List ℕ) → _≡_ {A = Lengths} (recor
 unfolding lengthsOf recordsLength entriesOf keysLength valuesLength
 lengths-none t l = refl
 
--- a record that is not the last lies in the list
-pub record-in : (i n : ℕ) (l : List ℕ) → i < n → recordsLength n l ≤ length l → recordsLength i l + recordLength (drop (recordsLength i l) l) ≤ length l
-record-in i n l h k = omega (arith, records-next i l, records-less (i + 1) n l (omega arith))
-
 pub lengths-in : (t : BTreeInfo) (i n : ℕ) (l : List ℕ) (s : Lengths) → s ≡ lengthsOf t i l → i < n → recordsLength n l ≤ length l → s .at + recordLength (drop (s .at) l) ≤ length l
 unfolding lengthsOf
 lengths-in t i n l s e h k = rw e (record-in i n l h k)
@@ -217,18 +150,17 @@ pub lengths-most : (t : BTreeInfo) (i : ℕ) (l : List ℕ) (s : Lengths) → s 
 unfolding lengthsOf
 lengths-most t i l s e h = rw e (omega (arith, room-most t i l h))
 
+pub lengths-room : (t : BTreeInfo) (i n : ℕ) (l : List ℕ) (s : Lengths) → s ≡ lengthsOf t i l → i ≤ n → recordsLength n l ≤ length l → length l ≤ 2 ^ 20 → s .keys + s .values < 2 ^ 24
+lengths-room t i n l s e h k m = let f : recordsLength i l ≤ length l = le-trans (records-less i n l h) k in omega (arith, lengths-most t i l s e f)
+
 pub lengths-keys : (t : BTreeInfo) (i n : ℕ) (l : List ℕ) (s : Lengths) → s ≡ lengthsOf t i l → i ≤ n → recordsLength n l ≤ length l → length l ≤ 2 ^ 20 → s .keys < 2 ^ 32
-lengths-keys t i n l s e h k m = let f : recordsLength i l ≤ length l = le-trans (records-less i n l h) k in omega (arith, lengths-most t i l s e f)
+lengths-keys t i n l s e h k m = omega (arith, lengths-room t i n l s e h k m)
 
 pub lengths-values : (t : BTreeInfo) (i n : ℕ) (l : List ℕ) (s : Lengths) → s ≡ lengthsOf t i l → i ≤ n → recordsLength n l ≤ length l → length l ≤ 2 ^ 20 → s .values < 2 ^ 32
-lengths-values t i n l s e h k m = let f : recordsLength i l ≤ length l = le-trans (records-less i n l h) k in omega (arith, lengths-most t i l s e f)
+lengths-values t i n l s e h k m = omega (arith, lengths-room t i n l s e h k m)
 
 lengths-same : (a b : Lengths) → a .at ≡ b .at → a .keys ≡ b .keys → a .values ≡ b .values → a ≡ b
 lengths-same a b p q r = λ i. record { at = p i; keys = q i; values = r i }
-
-entry-next : (t : BTreeInfo) (i : ℕ) (l : List ℕ) → entriesOf (i + 1) l ≡ entriesOf i l ++ (entryOf (drop (recordsLength i l) l) ∷ [])
-unfolding entriesOf
-entry-next t i l = entries-add i 1 l
 
 pub keys-next : (t : BTreeInfo) (i n : ℕ) (l : List ℕ) → i < n → recordsLength n l ≤ length l
     → keysLength t (entriesOf (i + 1) l) ≡ keysLength t (entriesOf i l) + padded t (u16At (drop (recordsLength i l) l) 0)
@@ -237,8 +169,8 @@ keys-next t i n l h k =
     let m : List ℕ = drop (recordsLength i l) l in
     let d : length m ≡ length l - recordsLength i l = length-drop (recordsLength i l) l in
     let f : recordLength m ≤ length m = omega (arith, record-in i n l h k) in
-    ap (keysLength t) (entry-next t i l) ∙ keys-append t (entriesOf i l) (entryOf m ∷ [])
-    ∙ ap (λ (x : ℕ). keysLength t (entriesOf i l) + (padded t x + 0)) (entry-key m f) ∙ rw add-zero
+    ap (keysLength t) (entries-next i l) ∙ keys-append t (entriesOf i l) (entryOf m ∷ [])
+    ∙ ap (λ (x : ℕ). keysLength t (entriesOf i l) + (padded t x + 0)) (entry-key-length m f) ∙ rw add-zero
 
 pub values-next : (t : BTreeInfo) (i n : ℕ) (l : List ℕ) → i < n → recordsLength n l ≤ length l
     → valuesLength t (entriesOf (i + 1) l) ≡ valuesLength t (entriesOf i l) + padded t (markLength (u16At (drop (recordsLength i l) l) 2))
@@ -247,8 +179,8 @@ values-next t i n l h k =
     let m : List ℕ = drop (recordsLength i l) l in
     let d : length m ≡ length l - recordsLength i l = length-drop (recordsLength i l) l in
     let f : recordLength m ≤ length m = omega (arith, record-in i n l h k) in
-    ap (valuesLength t) (entry-next t i l) ∙ values-append t (entriesOf i l) (entryOf m ∷ [])
-    ∙ ap (λ (x : ℕ). valuesLength t (entriesOf i l) + (padded t x + 0)) (entry-value m f) ∙ rw add-zero
+    ap (valuesLength t) (entries-next i l) ∙ values-append t (entriesOf i l) (entryOf m ∷ [])
+    ∙ ap (λ (x : ℕ). valuesLength t (entriesOf i l) + (padded t x + 0)) (entry-value-length m f) ∙ rw add-zero
 
 longer-next : (t : BTreeInfo) (i n : ℕ) (l : List ℕ) → i < n → recordsLength n l ≤ length l → longerOf t l (lengthsOf t i l) ≡ lengthsOf t (i + 1) l
 unfolding longerOf lengthsOf recordAt
@@ -294,7 +226,7 @@ sums-fit t root level n room h =
     let s : ℕ = tocSlots t root level n in
     let c : ℕ = tocLength t root level n + room in
     let d : ℕ = dataSpace (t .«node_size») root in
-    let p = and-eq-true-iff (leb n s) (leb c d) .0 h in
+    let p = and-split (leb n s) (leb c d) h in
     (leb-true n s (p .0), leb-true c d (p .1))
 
 pub sums-fitting : (t : BTreeInfo) (root : Bool) (level n room : ℕ) → n ≤ tocSlots t root level n → tocLength t root level n + room ≤ dataSpace (t .«node_size») root
@@ -424,14 +356,11 @@ slots-room t space e z h = omega (arith, div-le-self space e, z .most)
 pub slots-most : (t : BTreeInfo) (space e r : ℕ) → Sized t → space ≤ t .«node_size» → r ≤ space / e + 7 → r < 2 ^ 33
 slots-most t space e r z h k = omega (arith, slots-room t space e z h)
 
-pub lengths-room : (t : BTreeInfo) (i n : ℕ) (l : List ℕ) (s : Lengths) → s ≡ lengthsOf t i l → i ≤ n → recordsLength n l ≤ length l → length l ≤ 2 ^ 20 → s .keys + s .values < 2 ^ 24
-lengths-room t i n l s e h k m = let f : recordsLength i l ≤ length l = le-trans (records-less i n l h) k in omega (arith, lengths-most t i l s e f)
-
 pub count-most : (n : ℕ) (l : List ℕ) → recordsLength n l ≤ length l → length l ≤ 2 ^ 20 → n < 2 ^ 20
 count-most n l h k = omega (arith, records-least n l)
 
 pub count-small : (n : ℕ) (l : List ℕ) → recordsLength n l ≤ length l → length l ≤ 2 ^ 20 → n < 2 ^ 32
-count-small n l h k = omega (arith, records-least n l)
+count-small n l h k = omega (arith, count-most n l h k)
 
 -- ---- what a node that fits takes
 
@@ -444,6 +373,6 @@ unfolding fits packedLength
 fits-packed t root level es f = sums-fit t root level (length es) (roomOf t es) f .1
 
 pub fits-space : (t : BTreeInfo) (root : Bool) (level : ℕ) (es : List Entry) → fits t root level es ≡ true
-    → tocLength t root level (length es) + keysLength t es + valuesLength t es ≤ dataSpace (t .«node_size») root
+    → tocLength t root level (length es) + (keysLength t es + valuesLength t es) ≤ dataSpace (t .«node_size») root
 unfolding packedLength roomOf
-fits-space t root level es f = omega (arith, fits-packed t root level es f)
+fits-space t root level es f = fits-packed t root level es f

@@ -1,5 +1,5 @@
 -- Laws of a slot's words: stored and loaded. Assumes nothing.
-use mathlib.Core.Path.{_≡_, refl, sym, ap, _∙_}
+use mathlib.Core.Path.{_≡_, sym, ap, _∙_}
 use mathlib.Core.List.{List}
 use Prim.Native.Nat.{ℕ, _+_, _*_, _≤_, _<_}
 use native.Mathlib.Nat.{add-zero}
@@ -14,23 +14,6 @@ use Rattle.seal.specs.WindowLaws.{getD-window, window-splice-same, window-splic
 use Rattle.node.specs.TestLaws.{by-test}
 use Rattle.node.specs.Slot.{headAt, headWords}
 use Rattle.node.specs.declared.head.Head.{Head}
-
-pub head-loaded : (ws : List ℕ) (s : ℕ)
-    → _≡_ {A = Head}
-    (record {
-      level = getD ws (s * 9) 0;
-      count = getD ws (s * 9 + 1) 0;
-      used = getD ws (s * 9 + 2) 0;
-      placed = getD ws (s * 9 + 3) 0;
-      block = getD ws (s * 9 + 4) 0;
-      named = getD ws (s * 9 + 5) 0;
-      id = getD ws (s * 9 + 6) 0;
-      dirty = getD ws (s * 9 + 7) 0;
-      dead = getD ws (s * 9 + 8) 0;
-    })
-    (headAt ws s)
-unfolding headAt
-head-loaded ws s = refl
 
 pub head-stored : (ws : List ℕ) (a : ℕ) (h : Head) → a + 9 ≤ length ws
     → set

@@ -9,7 +9,6 @@ use native.Mathlib.Omega.{arith}
 use lib.ListN.{length}
 use borrow.Author.Tests.{not-true, not-false, eq-eqb, ne-eqb}
 use Rattle.seal.specs.Bytes.{window, u64At}
-use Rattle.seal.specs.WindowLaws.{length-window}
 use Rattle.node.specs.TestLaws.{and-left, and-right, and-true, and-false}
 use Rattle.node.specs.ByteLaws.{Bytes, bytes-window}
 use Rattle.node.specs.Order.{less, keyed, keyedLength}
@@ -18,7 +17,7 @@ use Rattle.node.specs.Entry.{Entry, disk, riseAfter, rising, every}
 use Rattle.node.specs.RisingLaws.{every-and, Keys, KeyBytes, keys-known, lastKey, rising-lower, rising-upper}
 use Rattle.node.specs.Slot.{childMeans, valueMeans}
 use Rattle.node.specs.Read.{spanAt, isGhost, spanHolds, spansHold, valueAt, entryAt, entriesFrom, inBounds, keysRise, keysWithin, Sound}
-use Rattle.node.specs.ReadLaws.{held-key, held-start, held-end, held-no-ghost, held-eight}
+use Rattle.node.specs.ReadLaws.{key-counts, held-key, held-start, held-end, held-no-ghost, held-eight}
 use Rattle.node.specs.declared.read.Node.{Node}
 use Rattle.node.specs.declared.read.Span.{Span}
 use Rattle.node.specs.declared.read.Place.{Place}
@@ -67,7 +66,7 @@ module _ (v : Node) (b : List ℕ) (i : ℕ) (s : Span) (h : Sound v b) (lt : i 
   pub keyed-of : (o : ℕ) → keyedLength o (s .klen) ≡ keyed o (entryAt v b i .key)
   unfolding keyed entryAt
   keyed-of o =
-      let l : length (window (s .key) (s .klen) b) ≡ s .klen = length-window (s .key) (s .klen) b sound-key in
+      let l : length (window (s .key) (s .klen) b) ≡ s .klen = key-counts v b s sound-span in
       ap (keyedLength o) (sym l) ∙ ap (λ (q : Span). keyedLength o (length (window (q .key) (q .klen) b))) e
 
 pub key-of : (v : Node) (b : List ℕ) (i : ℕ) (s : Span) → s ≡ spanAt v b i → window (s .key) (s .klen) b ≡ entryAt v b i .key
@@ -276,7 +275,7 @@ module _ (o : ℕ) (p : Place) (lower upper : List ℕ) (v : Node) (b : List ℕ
 -- ---- a value in place
 
 module _ (v : Node) (b : List ℕ) (i : ℕ) (s : Span) (e : s ≡ spanAt v b i) where
-  value-of : valueAt v b s ≡ entryAt v b i .value
+  pub value-of : valueAt v b s ≡ entryAt v b i .value
   unfolding entryAt
   value-of = ap (valueAt v b) e
 

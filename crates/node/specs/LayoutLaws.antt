@@ -1,8 +1,8 @@
 -- Laws of the parts of a packed node: how long each is, and where each stands in the block. Assumes nothing.
 use mathlib.Core.Path.{_≡_, refl, sym, ap, subst, _∙_}
 use mathlib.Core.List.{List, [], _∷_, _++_, append-assoc}
-use mathlib.Core.Bool.{Bool, true, false, cond, _&&_, and-eq-true-iff}
-use Prim.Native.Nat.{ℕ, _+_, _-_, _*_, _/_, _%_, _≤_}
+use mathlib.Core.Bool.{Bool, true, false, cond}
+use Prim.Native.Nat.{ℕ, _+_, _-_, _*_, _%_, _≤_}
 use native.Mathlib.Nat.{zero-mul, mul-le-mul-right}
 use native.Mathlib.Omega.{arith}
 use lib.ListN.{length, replicate, length-append, length-replicate}
@@ -11,45 +11,20 @@ use Rattle.seal.specs.Bytes.{splice, bytesOf}
 use Rattle.seal.specs.FieldLaws.{length-bytesOf}
 use Rattle.seal.specs.Checksum.{fletcher, sealed, verified}
 use Rattle.seal.specs.SealTheorems.{sealed-verified}
-use Rattle.node.specs.Entry.{Entry, Val, ghost, leaf, disk, mem, valueLength, valueBytes}
-use Rattle.node.specs.Fit.{flag, align8, padded, dataSpace, fixed, slotWidth, tocSlots, tocLength, keysLength, valuesLength, roomOf, fits}
-use Rattle.node.specs.FitLaws.{sums-fit}
+use Rattle.node.specs.Entry.{Entry, valueLength, valueBytes}
+use Rattle.node.specs.Fit.{padded, dataSpace, fixed, slotWidth, tocLength, keysLength, valuesLength, fits}
+use Rattle.node.specs.FitLaws.{padded-least, fits-count, fits-space}
+use Rattle.node.specs.RecordsLaws.{length-valueBytes}
 use Rattle.node.specs.Pack.{padTo, valueOffset, tocEntry, toc, keyArea, valueArea, headBytes, infoBytes, packNode}
 use Rattle.node.specs.StandsLaws.{Stands, stands-as, stands-left, stands-after}
 use Rattle.node.specs.declared.info.BTreeInfo.{BTreeInfo}
 use Rattle.node.specs.declared.build.NodeBuild.{NodeBuild}
 
--- ---- two tests in one
-
-pub both : (a b : Bool) → a ≡ true → b ≡ true → a && b ≡ true
-both a b p q = and-eq-true-iff a b .1 (p, q)
-
-pub first-of : (a b : Bool) → a && b ≡ true → a ≡ true
-first-of a b h = and-eq-true-iff a b .0 h .0
-
-pub second-of : (a b : Bool) → a && b ≡ true → b ≡ true
-second-of a b h = and-eq-true-iff a b .0 h .1
-
 -- ---- lengths
-
-pub padded-least : (t : BTreeInfo) (n : ℕ) → n ≤ padded t n
-unfolding padded align8
-padded-least t n = go (flag (t .flags) 0x40)
-  where
-    go : (f : Bool) → n ≤ cond f n ((n + 7) / 8 * 8)
-    go true = omega arith
-    go false = omega arith
 
 pub length-padTo : (n : ℕ) (bs : List ℕ) → length bs ≤ n → length (padTo n bs) ≡ n
 unfolding padTo
 length-padTo n bs h = simp (length-append, length-replicate) (omega arith)
-
-pub length-valueBytes : (v : Val) → length (valueBytes v) ≡ valueLength v
-unfolding valueBytes valueLength
-length-valueBytes ghost = refl
-length-valueBytes (leaf v) = refl
-length-valueBytes (disk r) = length-bytesOf 8 r
-length-valueBytes (mem s) = length-bytesOf 8 s
 
 pub length-tocEntry : (t : BTreeInfo) (ko vo : ℕ) (e : Entry) → length (tocEntry t ko vo e) ≡ slotWidth t
 unfolding tocEntry slotWidth
@@ -92,17 +67,6 @@ length-headBytes b es = simp (length-append, length-bytesOf)
 pub length-infoBytes : (t : BTreeInfo) → length (infoBytes t) ≡ 40
 unfolding infoBytes
 length-infoBytes t = simp (length-append, length-bytesOf)
-
--- ---- what fits
-
-pub fits-entries : (t : BTreeInfo) (root : Bool) (level : ℕ) (es : List Entry) → fits t root level es ≡ true → length es ≤ tocSlots t root level (length es)
-unfolding fits
-fits-entries t root level es h = sums-fit t root level (length es) (roomOf t es) h .0
-
-pub fits-space : (t : BTreeInfo) (root : Bool) (level : ℕ) (es : List Entry) → fits t root level es ≡ true
-    → tocLength t root level (length es) + (keysLength t es + valuesLength t es) ≤ dataSpace (t .«node_size») root
-unfolding fits roomOf
-fits-space t root level es h = sums-fit t root level (length es) (roomOf t es) h .1
 
 -- ---- the block
 
@@ -152,7 +116,7 @@ length-tail b = go (b .root)
 
 -- ---- where the parts of a node that fits stand
 
-tail-small : (r : Bool) → cond {A = ℕ} r 40 0 ≤ 40
+pub tail-small : (r : Bool) → cond {A = ℕ} r 40 0 ≤ 40
 tail-small true = omega arith
 tail-small false = omega arith
 
@@ -167,7 +131,7 @@ module _ (b : NodeBuild) (es : List Entry) (least : 96 ≤ b .info .«node_size�
 
   pub toc-short : length es * slotWidth (b .info) ≤ contentsOf b es
   unfolding contentsOf tocLength
-  toc-short = mul-le-mul-right (slotWidth (b .info)) (fits-entries (b .info) (b .root) (b .level) es fit)
+  toc-short = mul-le-mul-right (slotWidth (b .info)) (fits-count (b .info) (b .root) (b .level) es fit)
 
   pub length-contents : length (padTo (contentsOf b es) (toc (b .info) 0 0 es)) ≡ contentsOf b es
   length-contents = length-padTo (contentsOf b es) (toc (b .info) 0 0 es) (rw length-toc toc-short)

@@ -42,3 +42,5 @@ pub mod PackSteps
 pub mod PackLaws
 pub mod PackStepLaws
 pub mod PackBlockLaws
+pub mod FoundLaws
+pub mod LoadedLaws

@@ -10,15 +10,17 @@ use lib.Dec.{eqb}
 use borrow.Author.Tests.{le-leb, eq-eqb}
 use Rattle.seal.specs.Bytes.{window, u64At}
 use Rattle.seal.specs.Checksum.{verified}
-use Rattle.node.specs.Result.{Result, ok, _>>_, check}
-use Rattle.node.specs.Refusals as refusal
+use Rattle.node.specs.Result.{ok}
 use Rattle.node.specs.Entry.{Entry, Val, ghost, leaf, disk}
-use Rattle.node.specs.Fit.{flag, dataSpace, fixed, slotWidth, tocLength, keysLength, valuesLength, fits}
+use Rattle.node.specs.Fit.{flag, dataSpace, fixed, slotWidth, tocLength, keysLength, valuesLength}
 use Rattle.node.specs.Pack.{nodeFlags, toc, keyArea, valueArea, packNode}
 use Rattle.node.specs.Read.{infoAt, parsed, isFixed, flagsHold, layoutHolds, spanAt, isGhost, valueAt, entryAt, spansHold, spansLength, entriesHold, entriesFrom, keysHold, OnDisk, onDisk, readNode, readOf}
 use Rattle.node.specs.Packable.{packedNode, Packable}
 use Rattle.node.specs.StandsLaws.{Stands}
-use Rattle.node.specs.LayoutLaws.{both, contentsOf, filled, fits-space, toc-short, length-packNode, packed-verified, stands-toc, stands-keys, stands-values}
+use Rattle.node.specs.TestLaws.{and-both}
+use Rattle.node.specs.FitLaws.{fits-space}
+use Rattle.node.specs.LayoutLaws.{contentsOf, filled, toc-short, length-packNode, packed-verified, stands-toc, stands-keys, stands-values}
+use Rattle.node.specs.LoadLaws.{line, node-line}
 use Rattle.node.specs.HeaderLaws.{parsed-back, info-back}
 use Rattle.node.specs.EntryLaws.{fixed-is, Entries-back, entries-back}
 use Rattle.node.specs.declared.info.BTreeInfo.{BTreeInfo}
@@ -55,19 +57,8 @@ same-true a b e = ap (λ (q : Bool). cond q b (not b)) e ∙ go b
 passes : (o : ℕ) (p : Place) (lower upper b : List ℕ) (v : Node) → parsed p b ≡ v → verified b ≡ true → (eqb (v .otype % 65536) 2 || eqb (v .otype % 65536) 3) ≡ true
     → flag (v .flags) 8 ≡ false → layoutHolds p v ≡ true → (p .root || eqb (v .level + 1) (p .parent)) ≡ true → entriesHold p v b ≡ true
     → keysHold o p lower upper (entriesFrom v b 0 (v .nkeys)) ≡ true → readNode o p lower upper b ≡ ok (onDisk v b)
-unfolding readNode
-passes o p lower upper b v e h3 h4 h5 h6 h7 h8 h9 = ap line e ∙ rw (h3, h4, h5, h6, h7, h8, h9)
-  where
-    line : Node → Result OnDisk
-    line v =
-        check refusal.fletcher (verified b)
-        >> check refusal.kind (eqb (v .otype % 65536) 2 || eqb (v .otype % 65536) 3)
-        >> check refusal.hashed (not (flag (v .flags) 8))
-        >> check refusal.layout (layoutHolds p v)
-        >> check refusal.level (p .root || eqb (v .level + 1) (p .parent))
-        >> check refusal.entry (entriesHold p v b)
-        >> check refusal.keys (keysHold o p lower upper (entriesFrom v b 0 (v .nkeys)))
-        >> ok (onDisk v b)
+unfolding line keysHold
+passes o p lower upper b v e h3 h4 h5 h6 h7 h8 h9 = sym (node-line o p lower upper b v (sym e)) ∙ rw (h3, h4, h5, h6, h7, h8, h9)
 
 -- an answer that means this node
 answered : (b : List ℕ) (r : Read) (v : Node) (es : List Entry) → readOf b r ≡ ok (record { node = v; entries = es }) → r ≡ Loaded v
@@ -96,7 +87,7 @@ layout-passes p v h1 h2 h3 h4 h5 h6 h7 =
 entries-pass : (p : Place) (v : Node) (b : List ℕ) → spansHold v b 0 (v .nkeys) ≡ true → spansLength v b 0 (v .nkeys) ≤ dataSpace (length b) (p .root)
     → (not (eqb (v .nkeys) 0) || p .root && eqb (v .level) 0) ≡ true → entriesHold p v b ≡ true
 unfolding entriesHold
-entries-pass p v b h1 h2 h3 = both _ _ (both _ _ h1 (le-leb (spansLength v b 0 (v .nkeys)) (dataSpace (length b) (p .root)) h2)) h3
+entries-pass p v b h1 h2 h3 = and-both _ _ (and-both _ _ h1 (le-leb (spansLength v b 0 (v .nkeys)) (dataSpace (length b) (p .root)) h2)) h3
 
 -- ---- one of the entries
 

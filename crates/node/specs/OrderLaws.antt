@@ -14,7 +14,7 @@ use Rattle.seal.specs.Bytes.{window, le, u64At, bytesOf, fieldAt}
 use Rattle.seal.specs.FieldLaws.{length-bytesOf, le-bytesOf}
 use Rattle.seal.specs.WindowLaws.{length-window}
 use Rattle.node.specs.Order.{pair, byte, keyedLength, keyed, pairKey, pairLess, byteLess, less, sameKey}
-use Rattle.node.specs.TestLaws.{by-test, and-split}
+use Rattle.node.specs.TestLaws.{by-test, ltb-same, and-split}
 use Rattle.node.specs.ByteLaws.{Bytes, bytes-head, bytes-tail, bytes-take, bytes-drop, bytes-append, bytes-window, bytes-bytesOf, bytesOf-le, field-below, le-injective}
 
 -- a key of the order: its length is one that the order has, and it is made of bytes
@@ -58,12 +58,6 @@ digit-high a b w r s h k e =
     (λ u. let d = digit-lt b a w s r (ltb-true b a u) k in absurd (omega arith))
     (λ u. let p = ltb-false a b t in let q = ltb-false b a u in omega arith))
 
-ltb-add : (c r s : ℕ) → ltb r s ≡ ltb (c + r) (c + s)
-ltb-add c r s =
-    by-test (ltb r s)
-    (λ t. let h = ltb-true r s t in t ∙ sym (lt-ltb (c + r) (c + s) (omega arith)))
-    (λ t. let h = ltb-false r s t in t ∙ sym (le-ltb (c + r) (c + s) (omega arith)))
-
 -- the test of two digits is that of the number
 digits-ltb : (a b w r s : ℕ) → r < w → s < w → ltb a b || eqb a b && ltb r s ≡ ltb (a * w + r) (b * w + s)
 digits-ltb a b w r s h k =
@@ -78,7 +72,7 @@ digits-ltb a b w r s h k =
     (λ u. let p = ltb-false a b t in
     let q = ltb-false b a u in
     let e : a ≡ b = omega arith in
-    rw (t, eq-eqb a b e) (ltb-add (a * w) r s ∙ ap (λ (z : ℕ). ltb (a * w + r) (z * w + s)) e)))
+    rw (t, eq-eqb a b e) (ltb-same r s (a * w + r) (a * w + s) (λ z. omega arith) (λ z. omega arith) ∙ ap (λ (z : ℕ). ltb (a * w + r) (z * w + s)) e)))
 
 -- ---- pair order
 

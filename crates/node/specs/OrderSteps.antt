@@ -8,11 +8,11 @@ use native.Mathlib.Omega.{arith}
 use lib.ListN.{length, drop, getD, length-drop, drop-of-length-le}
 use lib.Seq.{drop-cons}
 use lib.Dec.{ltb, eqb}
-use borrow.Author.Tests.{ltb-true, ltb-false, lt-ltb, le-ltb, eq-eqb, ne-eqb}
+use borrow.Author.Tests.{lt-ltb, le-ltb, eq-eqb, ne-eqb}
 use Rattle.seal.specs.Bytes.{u64At, bytesOf, splice}
 use Rattle.seal.specs.FieldLaws.{length-bytesOf}
-use Rattle.seal.specs.WindowLaws.{splice-two}
-use Rattle.node.specs.TestLaws.{by-test, and-false, or-false}
+use Rattle.seal.specs.WindowLaws.{splice-run}
+use Rattle.node.specs.TestLaws.{ltb-same, and-false, or-false}
 use Rattle.node.specs.Order.{known, keyedLength, keyed, pairKey, pairLess, byteLess, less, sameKey}
 
 -- ---- codes
@@ -68,10 +68,7 @@ unfolding pairKey
 pair-put l l₁ l₂ id xid h p q =
     let e : length (bytesOf 8 id) ≡ 8 = length-bytesOf 8 id in
     let f : length (bytesOf 8 xid) ≡ 8 = length-bytesOf 8 xid in
-    let k : 8 ≡ 0 + length (bytesOf 8 id) = omega arith in
-    q ∙ ap (λ (z : List ℕ). splice z 8 (bytesOf 8 xid)) p
-    ∙ ap (λ (z : ℕ). splice (splice l 0 (bytesOf 8 id)) z (bytesOf 8 xid)) k
-    ∙ splice-two l 0 (bytesOf 8 id) (bytesOf 8 xid) (omega arith)
+    splice-run l l₁ l₂ 0 (bytesOf 8 id) 8 (bytesOf 8 xid) (omega arith) (omega arith) p q
 
 -- ---- bytes: what is left from index i on decides
 
@@ -106,19 +103,13 @@ byte-over [] (y ∷ ys) m = lt-ltb 0 (suc (length ys)) (omega arith)
 byte-over (x ∷ xs) [] m = le-ltb (suc (length xs)) 0 (omega arith)
 byte-over (x ∷ xs) (y ∷ ys) m = absurd (omega arith)
 
-shifted : (x y i : ℕ) → i ≤ x → i ≤ y → ltb x y ≡ ltb (x - i) (y - i)
-shifted x y i h k =
-    by-test (ltb x y)
-    (λ t. let u = ltb-true x y t in t ∙ sym (lt-ltb (x - i) (y - i) (omega arith)))
-    (λ t. let u = ltb-false x y t in t ∙ sym (le-ltb (x - i) (y - i) (omega arith)))
-
 pub byte-end : (a b : List ℕ) (i n : ℕ) → n ≡ min (length a) (length b) → n ≤ i → i ≤ n → byteLess (drop i a) (drop i b) ≡ byteLess a b
     → ltb (length a) (length b) ≡ byteLess a b
 byte-end a b i n m h k e =
     let la : length (drop i a) ≡ length a - i = length-drop i a in
     let lb : length (drop i b) ≡ length b - i = length-drop i b in
     let z : min (length (drop i a)) (length (drop i b)) ≡ 0 = omega arith in
-    shifted (length a) (length b) i (omega arith) (omega arith)
+    ltb-same (length a) (length b) (length a - i) (length b - i) (λ t. omega arith) (λ t. omega arith)
     ∙ sym (ap₂ ltb la lb) ∙ byte-over (drop i a) (drop i b) z ∙ e
 
 -- ---- the same bytes

@@ -2,59 +2,26 @@
 use mathlib.Core.Path.{_≡_, refl, sym, ap, ap₂, _∙_}
 use mathlib.Core.List.{List, [], _∷_, _++_, append-assoc, append-nil, map}
 use mathlib.Core.Bool.{Bool, true, false, cond}
-use Prim.Native.Nat.{ℕ, zero, suc, _+_, _-_, _*_, _≤_, _<_, _^_}
-use native.Mathlib.Nat.{suc-mul, zero-mul, mul-le-mul-right}
+use Prim.Native.Nat.{ℕ, _+_, _-_, _*_, _≤_, _<_, _^_}
 use native.Mathlib.Omega.{arith}
 use lib.ListN.{length, take, drop, length-append, length-map, drop-of-length-le}
 use lib.Seq.{length-take-le}
-use Rattle.seal.specs.Bytes.{splice, bytesOf}
+use Rattle.seal.specs.Bytes.{splice}
+use Rattle.seal.specs.PartLaws.{part-whole}
 use Rattle.seal.specs.Checksum.{sealed}
 use Rattle.seal.specs.Obj.{headerBytes}
-use Rattle.node.specs.Entry.{Entry, valueLength, valueBytes}
+use Rattle.node.specs.Entry.{Entry}
 use Rattle.node.specs.Records.{recordsLength, entriesOf}
+use Rattle.node.specs.RecordsLaws.{length-entries}
 use Rattle.node.specs.Fit.{padded, dataSpace, slotWidth, tocLength, keysLength, valuesLength, roomOf, fits, Sized}
-use Rattle.node.specs.FitLaws.{sums-fit, length-entries, records-least}
-use Rattle.node.specs.Pack.{childNumber, numbered, padTo, tocEntry, toc, keyArea, valueArea, headBytes, infoBytes, packNode}
+use Rattle.node.specs.FitLaws.{fits-space, count-small}
+use Rattle.node.specs.Pack.{childNumber, numbered, padTo, toc, keyArea, valueArea, headBytes, infoBytes, packNode}
 use Rattle.node.specs.PackSteps.{putEntries, Rooms, nodeBytes, noLists, headOf, filled, Packs}
-use Rattle.node.specs.PackLaws.{zeros, length-zeros, zeros-add, splice-after, length-padTo, length-valueBytes, le-padded, length-tocEntry, laid, put-entries}
+use Rattle.node.specs.LayoutLaws.{contentsOf, toc-short, tail-small, length-toc, length-keyArea, length-valueArea, length-headBytes, length-infoBytes}
+use Rattle.node.specs.PackLaws.{zeros, length-zeros, zeros-add, splice-after, laid, put-entries}
 use Rattle.node.specs.PackStepLaws.{length-numbered}
 use Rattle.node.specs.declared.info.BTreeInfo.{BTreeInfo}
 use Rattle.node.specs.declared.build.NodeBuild.{NodeBuild}
-
--- ---- lengths
-
-pub length-toc : (t : BTreeInfo) (ko vo : ℕ) (es : List Entry) → length (toc t ko vo es) ≡ length es * slotWidth t
-unfolding toc
-length-toc t ko vo [] = sym (zero-mul (slotWidth t))
-length-toc t ko vo (e ∷ es) =
-    let vo′ : ℕ = vo + padded t (valueLength (e .value)) in
-    let ko′ : ℕ = ko + padded t (length (e .key)) in
-    length-append (tocEntry t ko vo′ e) (toc t ko′ vo′ es)
-    ∙ omega (arith, length-tocEntry t ko vo′ e, length-toc t ko′ vo′ es, suc-mul (length es) (slotWidth t))
-
-pub length-keyArea : (t : BTreeInfo) (es : List Entry) → length (keyArea t es) ≡ keysLength t es
-unfolding keyArea keysLength
-length-keyArea t [] = refl
-length-keyArea t (e ∷ es) =
-    let p : ℕ = padded t (length (e .key)) in
-    length-append (padTo p (e .key)) (keyArea t es) ∙ ap₂ (λ (x y : ℕ). x + y) (length-padTo p (e .key) (le-padded t (length (e .key)))) (length-keyArea t es)
-
-pub length-valueArea : (t : BTreeInfo) (es : List Entry) → length (valueArea t es) ≡ valuesLength t es
-unfolding valueArea valuesLength
-length-valueArea t [] = refl
-length-valueArea t (e ∷ es) =
-    let v : List ℕ = valueBytes (e .value) in
-    let p : ℕ = padded t (valueLength (e .value)) in
-    let h : length v ≤ p = omega (arith, length-valueBytes (e .value), le-padded t (valueLength (e .value))) in
-    length-append (valueArea t es) (padTo p v) ∙ omega (arith, length-valueArea t es, length-padTo p v h)
-
-length-headBytes : (b : NodeBuild) (es : List Entry) → length (headBytes b es) ≡ 48
-unfolding headBytes bytesOf
-length-headBytes b es = refl
-
-length-infoBytes : (t : BTreeInfo) → length (infoBytes t) ≡ 40
-unfolding infoBytes bytesOf
-length-infoBytes t = refl
 
 -- ---- numbered entries take the room of the entries
 
@@ -71,10 +38,6 @@ values-numbered t f (e ∷ es) = ap₂ (λ (x y : ℕ). padded t x + y) (length-
 pub fits-numbered : (t : BTreeInfo) (root : Bool) (level : ℕ) (f : ℕ → ℕ) (es : List Entry) → fits t root level (map (numbered f) es) ≡ fits t root level es
 unfolding fits roomOf
 fits-numbered t root level f es = rw (length-map, keys-numbered, values-numbered)
-
-tail-most : (r : Bool) → cond {A = ℕ} r 40 0 ≤ 40
-tail-most true = omega arith
-tail-most false = omega arith
 
 regroup : (a c g k f v z : List ℕ) → (a ++ c) ++ (g ++ (k ++ (f ++ (v ++ z)))) ≡ a ++ ((c ++ (g ++ (k ++ (f ++ v)))) ++ z)
 regroup a c g k f v z = simp append-assoc
@@ -107,16 +70,15 @@ module _ (b : NodeBuild) (es : List Entry) (least : 96 ≤ b .info .«node_size�
   tail = cond (b .root) 40 0
 
   slots-fit : length es * slotWidth t ≤ contents
-  unfolding fits tocLength
-  slots-fit = mul-le-mul-right (slotWidth t) (sums-fit t (b .root) (b .level) (length es) (roomOf t es) fit .0)
+  unfolding contentsOf
+  slots-fit = toc-short b es least fit
 
   room-fit : contents + (keysLength t es + valuesLength t es) ≤ room
-  unfolding fits roomOf
-  room-fit = sums-fit t (b .root) (b .level) (length es) (roomOf t es) fit .1
+  room-fit = fits-space t (b .root) (b .level) es fit
 
   room-is : 56 + room + tail ≡ size
   unfolding dataSpace
-  room-is = let k = tail-most (b .root) in omega arith
+  room-is = let k = tail-small (b .root) in omega arith
 
   abbrev gap : ℕ
   gap = contents - length es * slotWidth t
@@ -205,7 +167,7 @@ picked-true r x y e = rw e
 
 module _ (b : NodeBuild) (n : ℕ) (slot block : List ℕ) (p : Packs b n slot block) where
   pub few : n < 2 ^ 32
-  few = omega (arith, records-least n slot, p .whole, p .small)
+  few = count-small n slot (p .whole) (p .small)
 
   at-least : 96 ≤ b .info .«node_size»
   at-least = omega (arith, p .sized .least)
@@ -285,7 +247,4 @@ part-packs b n slot dst z h w m f =
     record { sized = z; size = length-take-le (b .info .«node_size») dst h; whole = w; small = m; fit = f }
 
 pub part-law : (dst d x : List ℕ) (k : ℕ) → k ≤ length dst → length d ≡ length (take k dst) → d ≡ x → d ++ drop k dst ≡ splice dst 0 x
-unfolding splice
-part-law dst d x k h e q =
-    let m : 0 + length x ≡ k = ap (λ (y : List ℕ). 0 + length y) (sym q) ∙ omega (arith, length-take-le k dst h) in
-    rw (m, q)
+part-law dst d x k h e q = part-whole dst 0 k d (e ∙ length-take-le k dst h) ∙ ap (splice dst 0) q

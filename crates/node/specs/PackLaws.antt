@@ -1,17 +1,18 @@
 -- Laws of packing: what one entry after another writes into a cleared block is the block as a list. Assumes nothing.
 use mathlib.Core.Path.{_≡_, refl, sym, ap, ap₂, _∙_}
 use mathlib.Core.List.{List, [], _∷_, _++_, append-assoc, append-nil}
-use mathlib.Core.Bool.{Bool, true, false, cond}
-use Prim.Native.Nat.{ℕ, zero, suc, _+_, _-_, _*_, _/_, _≤_}
+use Prim.Native.Nat.{ℕ, suc, _+_, _-_, _*_, _≤_}
 use native.Mathlib.Nat.{sub-zero, suc-mul, zero-mul}
 use native.Mathlib.Omega.{arith}
-use lib.ListN.{length, take, drop, replicate, length-append, length-replicate, replicate-append-replicate}
+use lib.ListN.{length, drop, replicate, length-append, length-replicate, replicate-append-replicate}
 use lib.Seq.{take-at, drop-at, drop-append-add}
-use Rattle.seal.specs.Bytes.{splice, bytesOf}
-use Rattle.seal.specs.FieldLaws.{length-bytesOf}
-use Rattle.node.specs.Entry.{Entry, Val, ghost, leaf, disk, mem, valueLength, valueBytes}
-use Rattle.node.specs.Fit.{align8, flag, padded, fixed, slotWidth, keysLength, valuesLength}
-use Rattle.node.specs.Pack.{padTo, valueOffset, tocEntry, toc, keyArea, valueArea}
+use Rattle.seal.specs.Bytes.{splice}
+use Rattle.node.specs.Entry.{Entry, valueLength, valueBytes}
+use Rattle.node.specs.Fit.{padded, slotWidth, keysLength, valuesLength}
+use Rattle.node.specs.Pack.{padTo, tocEntry, toc, keyArea, valueArea}
+use Rattle.node.specs.FitLaws.{padded-least}
+use Rattle.node.specs.RecordsLaws.{length-valueBytes}
+use Rattle.node.specs.LayoutLaws.{length-padTo, length-tocEntry}
 use Rattle.node.specs.PackSteps.{putEntry, putEntries}
 use Rattle.node.specs.declared.info.BTreeInfo.{BTreeInfo}
 
@@ -66,35 +67,6 @@ splice-zeros-start p q vs k r i e le n =
     ∙ ap (λ (x : List ℕ). p ++ (vs ++ x)) (ap (λ (x : List ℕ). x ++ q) s ∙ append-assoc (zeros (r - v)) (zeros (k - r)) q)
     ∙ ap (λ (x : List ℕ). p ++ x) (sym (append-assoc vs (zeros (r - v)) (zeros (k - r) ++ q)))
 
--- ---- lengths
-
-pub length-padTo : (n : ℕ) (vs : List ℕ) → length vs ≤ n → length (padTo n vs) ≡ n
-unfolding padTo
-length-padTo n vs h = length-append vs (zeros (n - length vs)) ∙ ap (λ (x : ℕ). length vs + x) (length-zeros (n - length vs)) ∙ omega arith
-
-pub length-valueBytes : (v : Val) → length (valueBytes v) ≡ valueLength v
-unfolding valueBytes valueLength
-length-valueBytes ghost = refl
-length-valueBytes (leaf v) = refl
-length-valueBytes (disk r) = length-bytesOf 8 r
-length-valueBytes (mem s) = length-bytesOf 8 s
-
-pub le-padded : (t : BTreeInfo) (n : ℕ) → n ≤ padded t n
-unfolding padded align8
-le-padded t n = by-flag (flag (t .flags) 0x40)
-  where
-    by-flag : (f : Bool) → n ≤ cond f n ((n + 7) / 8 * 8)
-    by-flag true = omega arith
-    by-flag false = omega arith
-
-pub length-tocEntry : (t : BTreeInfo) (ko vo : ℕ) (e : Entry) → length (tocEntry t ko vo e) ≡ slotWidth t
-unfolding tocEntry slotWidth bytesOf
-length-tocEntry t ko vo e = by-fixed (fixed t) ko (length (e .key)) (valueOffset (e .value) vo) (valueLength (e .value))
-  where
-    by-fixed : (f : Bool) (a b c d : ℕ) → length (cond f (bytesOf 2 a ++ bytesOf 2 c) (bytesOf 2 a ++ bytesOf 2 b ++ bytesOf 2 c ++ bytesOf 2 d)) ≡ cond f 4 8
-    by-fixed true a b c d = refl
-    by-fixed false a b c d = refl
-
 -- ---- a block with two gaps: after the contents, and between keys and values
 
 unfoldable pub laid : List ℕ → ℕ → List ℕ → ℕ → List ℕ → List ℕ
@@ -113,8 +85,8 @@ module _ (t : BTreeInfo) (keys vals : ℕ) where
       let y : List ℕ = valueBytes (e .value) in
       let z : List ℕ = tocEntry t ko vo′ e in
       let w : ℕ = slotWidth t in
-      let lx : length x ≤ pk = omega (arith, le-padded t (length x)) in
-      let ly : length y ≤ pv = omega (arith, le-padded t (valueLength (e .value)), length-valueBytes (e .value)) in
+      let lx : length x ≤ pk = omega (arith, padded-least t (length x)) in
+      let ly : length y ≤ pv = omega (arith, padded-least t (valueLength (e .value)), length-valueBytes (e .value)) in
       let lz : length z ≡ w = length-tocEntry t ko vo′ e in
       let p1 : List ℕ = p ++ (zeros a ++ k) in
       let l1 : length p1 ≡ keys + ko = length-append p (zeros a ++ k) ∙ ap (λ (n : ℕ). length p + n) (length-append (zeros a) k) ∙ omega (arith, length-zeros a) in
@@ -150,7 +122,7 @@ module _ (t : BTreeInfo) (keys vals : ℕ) where
       let z : List ℕ = tocEntry t ko vo′ e in
       let x : List ℕ = padTo pk (e .key) in
       let y : List ℕ = padTo pv (valueBytes (e .value)) in
-      let lx : length x ≡ pk = length-padTo pk (e .key) (le-padded t (length (e .key))) in
+      let lx : length x ≡ pk = length-padTo pk (e .key) (padded-least t (length (e .key))) in
       let lp′ : length (p ++ z) ≡ ix + w = omega (arith, length-append p z, length-tocEntry t ko vo′ e) in
       let lk′ : length (k ++ x) ≡ ko + pk = omega (arith, length-append k x) in
       let sw : suc (length es) * w ≡ length es * w + w = suc-mul (length es) w in

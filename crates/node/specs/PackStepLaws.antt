@@ -2,7 +2,7 @@
 use mathlib.Core.Path.{_≡_, refl, sym, ap, ap₂, _∙_}
 use mathlib.Core.List.{List, _∷_, _++_, map}
 use mathlib.Core.Bool.{Bool, true, false, cond, not}
-use Prim.Native.Nat.{ℕ, zero, suc, _+_, _-_, _*_, _/_, _≤_, _<_}
+use Prim.Native.Nat.{ℕ, suc, _+_, _-_, _*_, _/_, _≤_, _<_}
 use native.Mathlib.Nat.{zero-add, add-zero, add-assoc, sub-zero, suc-mul}
 use native.Mathlib.Numerals.{add-one}
 use native.Mathlib.Omega.{arith}
@@ -20,8 +20,9 @@ use Rattle.node.specs.Slot.{headAt}
 use Rattle.node.specs.Fit.{padded, fixed, slotWidth, keysLength, valuesLength}
 use Rattle.node.specs.Pack.{childNumber, numberedValue, numbered, valueOffset, tocEntry, nodeFlags, infoBytes}
 use Rattle.node.specs.PackSteps.{locBytes, offBytes, slotBytes, markOffset, putEntry, putEntries, spotAfter, Room, Rooms, nodeBytes, noLists, headOf}
-use Rattle.node.specs.FitLaws.{entry-key, entry-value}
-use Rattle.node.specs.PackLaws.{le-padded}
+use Rattle.node.specs.RecordsLaws.{mark-child, at-key, at-klen, at-mark, at-value, at-length, at-after, value-length, entry-key-length, entry-value-length}
+use Rattle.node.specs.SlotLaws.{part-length, key-part}
+use Rattle.node.specs.FitLaws.{fixed-not, fixed-so, padded-least}
 use Rattle.node.specs.declared.info.BTreeInfo.{BTreeInfo}
 use Rattle.node.specs.declared.build.NodeBuild.{NodeBuild}
 use Rattle.node.specs.declared.record.Record.{Record}
@@ -64,12 +65,12 @@ unfolding markOffset
 offset-value m o e = rw (ne-eqb m 0xFFFF e)
 
 pub width-8 : (t : BTreeInfo) → t .«key_size» ≡ 0 → 8 ≡ slotWidth t
-unfolding slotWidth fixed
-width-8 t e = rw (eq-eqb (t .«key_size») 0 e)
+unfolding slotWidth
+width-8 t e = rw (fixed-not t e)
 
 pub width-4 : (t : BTreeInfo) → (t .«key_size» ≡ 0 → ⊥) → 4 ≡ slotWidth t
-unfolding slotWidth fixed
-width-4 t e = rw (ne-eqb (t .«key_size») 0 e)
+unfolding slotWidth
+width-4 t e = rw (fixed-so t e)
 
 pub room-8 : (t : BTreeInfo) (p n : ℕ) → t .«key_size» ≡ 0 → p + slotWidth t ≤ n → p + 8 ≤ n
 room-8 t p n e h = let w = width-8 t e in omega arith
@@ -78,12 +79,12 @@ pub room-4 : (t : BTreeInfo) (p n : ℕ) → (t .«key_size» ≡ 0 → ⊥) →
 room-4 t p n e h = let w = width-4 t e in omega arith
 
 pub slot-loc : (t : BTreeInfo) (l l₁ : List ℕ) (p a b c d : ℕ) → t .«key_size» ≡ 0 → l₁ ≡ splice l p (locBytes a b c d) → l₁ ≡ splice l p (slotBytes t a b c d)
-unfolding slotBytes fixed
-slot-loc t l l₁ p a b c d e q = rw (eq-eqb (t .«key_size») 0 e) q
+unfolding slotBytes
+slot-loc t l l₁ p a b c d e q = rw (fixed-not t e) q
 
 pub slot-off : (t : BTreeInfo) (l l₁ : List ℕ) (p a b c d : ℕ) → (t .«key_size» ≡ 0 → ⊥) → l₁ ≡ splice l p (offBytes a c) → l₁ ≡ splice l p (slotBytes t a b c d)
-unfolding slotBytes fixed
-slot-off t l l₁ p a b c d e q = rw (ne-eqb (t .«key_size») 0 e) q
+unfolding slotBytes
+slot-off t l l₁ p a b c d e q = rw (fixed-so t e) q
 
 -- ---- fields one after another
 
@@ -163,8 +164,7 @@ unfolding fieldAt window
 le-whole v e = ap le (sym (take-all 8 v (omega arith)))
 
 pub child-length : (m n : ℕ) → n ≡ markLength m → 0xFFFC < m → (m ≡ 0xFFFF → ⊥) → n ≡ 8
-unfolding markLength
-child-length m n e h g = rw (lt-leb m 0xFFFC h, ne-eqb m 0xFFFF g) at e
+child-length m n e h g = e ∙ sym (mark-child m h g)
 
 pub child-read : (m n : ℕ) → n ≡ markLength m → 0xFFFC < m → (m ≡ 0xFFFF → ⊥) → 0 + 8 ≤ n
 child-read m n e h g = let k = child-length m n e h g in omega arith
@@ -219,17 +219,15 @@ pub offset-of : (heads : List ℕ) (by : Bool) (m o : ℕ) (v : List ℕ) → va
 unfolding valueOf markOffset
 offset-of heads by m o v = offset-cases heads by v o (leb m 0xFFFC) (eqb m 0xFFFF) (eqb m 0xFFFE) (λ h. ne-eqb m 0xFFFF (λ e. let k = leb-true m 0xFFFC h in omega arith))
 
-length-cases : (heads : List ℕ) (by : Bool) (m : ℕ) (v : List ℕ) (a b c : Bool) → length v ≡ cond a m (cond b 0 8)
-    → valueLength (numberedValue (childNumber heads by) (cond a (leaf v) (cond b ghost (cond c (disk (le v)) (mem (le v)))))) ≡ cond a m (cond b 0 8)
+pub length-numbered : (f : ℕ → ℕ) (v : Val) → valueLength (numberedValue f v) ≡ valueLength v
 unfolding valueLength numberedValue
-length-cases heads by m v true b c h = h
-length-cases heads by m v false true c h = refl
-length-cases heads by m v false false true h = refl
-length-cases heads by m v false false false h = refl
+length-numbered f ghost = refl
+length-numbered f (leaf v) = refl
+length-numbered f (disk r) = refl
+length-numbered f (mem s) = refl
 
 pub length-of : (heads : List ℕ) (by : Bool) (m : ℕ) (v : List ℕ) → length v ≡ markLength m → valueLength (numberedValue (childNumber heads by) (valueOf m v)) ≡ markLength m
-unfolding valueOf markLength
-length-of heads by m v h = length-cases heads by m v (leb m 0xFFFC) (eqb m 0xFFFF) (eqb m 0xFFFE) h
+length-of heads by m v h = length-numbered (childNumber heads by) (valueOf m v) ∙ value-length m v h
 
 -- where the parts of a record lie, and what is known of their lengths
 pub record Parts (t : BTreeInfo) (keys vals : ℕ) (s : Spot) (slot : List ℕ) (r : Record) : Type 0 where
@@ -245,60 +243,43 @@ pub record Parts (t : BTreeInfo) (keys vals : ℕ) (s : Spot) (slot : List ℕ) 
   pub value-part : length (take (r .next - r .value) (drop (r .value) slot)) ≡ r .vlen
 
 module _ (t : BTreeInfo) (keys vals : ℕ) (s : Spot) (slot block : List ℕ) (r : Record) (room : Room t keys vals s slot block) (is : r ≡ recordAt slot (s .at)) where
-  is-key : r .key ≡ s .at + 4
-  unfolding recordAt
-  is-key = ap (λ (x : Record). x .key) is
-
   is-klen : r .klen ≡ u16At (drop (s .at) slot) 0
-  unfolding recordAt
-  is-klen = ap (λ (x : Record). x .klen) is
+  is-klen = at-klen slot (s .at) r is
 
   is-mark : r .mark ≡ u16At (drop (s .at) slot) 2
-  unfolding recordAt
-  is-mark = ap (λ (x : Record). x .mark) is
-
-  is-value : r .value ≡ r .key + r .klen
-  unfolding recordAt
-  is-value = ap (λ (x : Record). x .value) is ∙ sym (ap₂ (λ (x y : ℕ). x + y) is-key is-klen)
+  is-mark = at-mark slot (s .at) r is
 
   is-vlen : r .vlen ≡ markLength (r .mark)
-  unfolding recordAt
-  is-vlen = ap (λ (x : Record). x .vlen) is ∙ sym (ap markLength is-mark)
+  is-vlen = at-length slot (s .at) r is
 
-  is-next : r .next ≡ s .at + recordLength (drop (s .at) slot)
-  unfolding recordAt
-  is-next = ap (λ (x : Record). x .next) is
+  is-value : r .value ≡ r .key + r .klen
+  is-value = omega (arith, at-key slot (s .at) r is, at-value slot (s .at) r is, is-klen)
 
   is-length : recordLength (drop (s .at) slot) ≡ 4 + r .klen + r .vlen
-  unfolding recordLength
-  is-length = rw (← is-klen, ← is-mark, ← is-vlen)
+  is-length = part-length (s .at) (r .klen) (r .mark) slot is-klen is-mark ∙ ap (λ (x : ℕ). 4 + r .klen + x) (sym is-vlen)
 
   pub parts : Parts t keys vals s slot r
   parts =
-      let k = is-key in
+      let k = at-key slot (s .at) r is in
       let v = is-value in
-      let n = is-next in
+      let n = at-after slot (s .at) r is in
       let l = is-length in
       let w = room .whole in
       record {
-        key = is-key;
+        key = at-key slot (s .at) r is;
         value = is-value;
         next = omega arith;
         inside = omega arith;
         long = is-vlen;
         between = rw is (room .between);
-        klen = le-padded t (r .klen);
-        vlen = le-padded t (r .vlen);
+        klen = padded-least t (r .klen);
+        vlen = padded-least t (r .vlen);
         key-part = simp (length-take, length-drop) (omega arith);
         value-part = simp (length-take, length-drop) (omega arith);
       }
 
   key-is : take (r .value - r .key) (drop (r .key) slot) ≡ entryOf (drop (s .at) slot) .key
-  unfolding entryOf window
-  key-is =
-      let v = is-value in
-      let d : r .value - r .key ≡ r .klen = omega arith in
-      rw (d, is-key, is-klen, drop-drop)
+  key-is = key-part slot (s .at) r is
 
   value-is : take (r .next - r .value) (drop (r .value) slot) ≡ window (4 + u16At (drop (s .at) slot) 0) (markLength (u16At (drop (s .at) slot) 2)) (drop (s .at) slot)
   unfolding window
@@ -334,13 +315,6 @@ module _ (t : BTreeInfo) (keys vals : ℕ) (s : Spot) (slot block : List ℕ) (r
 
 -- ---- one record after another
 
-pub length-numbered : (f : ℕ → ℕ) (v : Val) → valueLength (numberedValue f v) ≡ valueLength v
-unfolding valueLength numberedValue
-length-numbered f ghost = refl
-length-numbered f (leaf v) = refl
-length-numbered f (disk r) = refl
-length-numbered f (mem s) = refl
-
 -- i records are packed: what is left makes of the block what all make of the block at first
 pub record Going (t : BTreeInfo) (keys vals n : ℕ) (heads : List ℕ) (by : Bool) (slot b₀ : List ℕ) (i : ℕ) (s : Spot) (b : List ℕ) : Type 0 where
   pub count : i ≤ n
@@ -352,13 +326,13 @@ pub record Going (t : BTreeInfo) (keys vals n : ℕ) (heads : List ℕ) (by : Bo
   pub rest : putEntries t keys vals (s .toc) (s .key) (s .val) (map (numbered (childNumber heads by)) (entriesOf (n - i) (drop (s .at) slot))) b
       ≡ putEntries t keys vals 56 0 0 (map (numbered (childNumber heads by)) (entriesOf n slot)) b₀
 
-entries-next : (m at : ℕ) (slot : List ℕ) → entriesOf (suc m) (drop at slot) ≡ entryOf (drop at slot) ∷ entriesOf m (drop (at + recordLength (drop at slot)) slot)
+entries-after : (m at : ℕ) (slot : List ℕ) → entriesOf (suc m) (drop at slot) ≡ entryOf (drop at slot) ∷ entriesOf m (drop (at + recordLength (drop at slot)) slot)
 unfolding entriesOf
-entries-next m at slot = rw drop-drop
+entries-after m at slot = rw drop-drop
 
-records-next : (m at : ℕ) (slot : List ℕ) → recordsLength (suc m) (drop at slot) ≡ recordLength (drop at slot) + recordsLength m (drop (at + recordLength (drop at slot)) slot)
+records-after : (m at : ℕ) (slot : List ℕ) → recordsLength (suc m) (drop at slot) ≡ recordLength (drop at slot) + recordsLength m (drop (at + recordLength (drop at slot)) slot)
 unfolding recordsLength
-records-next m at slot = rw drop-drop
+records-after m at slot = rw drop-drop
 
 module _ (t : BTreeInfo) (keys vals n : ℕ) (heads : List ℕ) (by : Bool) (slot b₀ : List ℕ) (rooms : Rooms t keys vals n slot b₀) where
   pub going-start : Going t keys vals n heads by slot b₀ 0 (record { toc = 56; at = 0; key = 0; val = 0 }) b₀
@@ -389,21 +363,21 @@ module _ (t : BTreeInfo) (keys vals n : ℕ) (heads : List ℕ) (by : Bool) (slo
       left = let z : suc m ≡ m + 1 = sym (add-one m) in omega arith
 
       these : entriesOf (n - i) l ≡ entryOf l ∷ es
-      these = ap (λ (k : ℕ). entriesOf k l) left ∙ entries-next m (s .at) slot
+      these = ap (λ (k : ℕ). entriesOf k l) left ∙ entries-after m (s .at) slot
 
       long : recordsLength (n - i) l ≡ recordLength l + recordsLength m (drop (s .at + recordLength l) slot)
-      long = ap (λ (k : ℕ). recordsLength k l) left ∙ records-next m (s .at) slot
+      long = ap (λ (k : ℕ). recordsLength k l) left ∙ records-after m (s .at) slot
 
       first : recordLength l ≤ length l
       first = rw length-drop (omega (arith, long, going .whole))
 
       key-of : length (entryOf l .key) ≡ recordAt slot (s .at) .klen
       unfolding recordAt
-      key-of = entry-key l first
+      key-of = entry-key-length l first
 
       value-of : valueLength (entryOf l .value) ≡ recordAt slot (s .at) .vlen
       unfolding recordAt
-      value-of = entry-value l first
+      value-of = entry-value-length l first
 
       keys-of : keysLength t (entriesOf (n - i) l) ≡ padded t (recordAt slot (s .at) .klen) + keysLength t es
       unfolding keysLength

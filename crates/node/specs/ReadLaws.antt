@@ -1,7 +1,7 @@
 -- Laws of reading a block: each way out of the reader's functions, and what a node that was read keeps. Assumes nothing.
 use mathlib.Core.Path.{_≡_, sym, ap, _∙_}
 use mathlib.Core.List.{List}
-use mathlib.Core.Bool.{Bool, true, false, cond, _&&_, _||_, not, and-false, and-true, or-false, false≢true}
+use mathlib.Core.Bool.{Bool, true, false, cond, _&&_, _||_, not}
 use Prim.Native.Nat.{ℕ, suc, _+_, _-_, _*_, _/_, _%_, _≤_, _<_, _^_}
 use native.Mathlib.Nat.{add-zero, zero-add, sub-zero}
 use native.Mathlib.Numerals.{add-one}
@@ -10,20 +10,17 @@ use lib.ListN.{length, take, drop}
 use lib.Dec.{leb, eqb}
 use borrow.Author.Tests.{le-leb, lt-leb, eq-eqb, ne-eqb, leb-true, eqb-true, eqb-false, not-true, not-false}
 use Rattle.seal.specs.Bytes.{window, u16At, u32At, u64At}
-use Rattle.node.specs.TestLaws.{and-left, and-right}
+use Rattle.seal.specs.WindowLaws.{length-window}
+use Rattle.node.specs.TestLaws.{by-test, and-left, and-right, and-true, and-false, or-false, or-right}
+use Rattle.node.specs.Entry.{valueLength}
 use Rattle.node.specs.Fit.{flag, dataSpace}
-use Rattle.node.specs.Read.{infoAt, parsed, sameBool, isFixed, flagsHold, layoutHolds, spanAt, isGhost, spanHolds, spanLength, spansHold, spansLength, entriesHold, Laid}
+use Rattle.node.specs.Read.{infoAt, parsed, sameBool, isFixed, flagsHold, layoutHolds, spanAt, isGhost, spanHolds, spanLength, spansHold, spansLength, entriesHold, valueAt, Laid}
 use Rattle.node.specs.declared.info.BTreeInfo.{BTreeInfo}
 use Rattle.node.specs.declared.read.Node.{Node}
 use Rattle.node.specs.declared.read.Span.{Span}
 use Rattle.node.specs.declared.read.Place.{Place}
 
--- ---- tests
-
--- what the second of two says where the first fails
-pub or-r : (a b : Bool) → a ≡ false → (a || b) ≡ true → b ≡ true
-or-r true b e h = absurd (false≢true (sym e))
-or-r false b e h = h
+-- ---- entries of fixed lengths
 
 pub is-fixed-true : (v : Node) → (v .ksize ≡ 0 → ⊥) → isFixed v ≡ true
 unfolding isFixed
@@ -193,7 +190,7 @@ module _ (v : Node) (size : ℕ) (s : Span) where
   held-value : spanHolds v size s ≡ true → (s .voff ≡ 65535 → ⊥) → (leb (s .voff) (v .vals) && leb (v .vals - s .voff + s .vlen) size) ≡ true
   unfolding spanHolds isGhost
   held-value h n =
-      or-r (isGhost s) (leb (s .voff) (v .vals) && leb (v .vals - s .voff + s .vlen) size) (ne-eqb (s .voff) 65535 n)
+      or-right (isGhost s) (leb (s .voff) (v .vals) && leb (v .vals - s .voff + s .vlen) size) (ne-eqb (s .voff) 65535 n)
       (and-right (leb (s .key + s .klen) size) (isGhost s || leb (s .voff) (v .vals) && leb (v .vals - s .voff + s .vlen) size)
       (and-left _ (eqb (v .level) 0 || not (isGhost s) && eqb (s .vlen) 8) h))
 
@@ -206,7 +203,7 @@ module _ (v : Node) (size : ℕ) (s : Span) where
   held-child : spanHolds v size s ≡ true → (v .level ≡ 0 → ⊥) → (not (isGhost s) && eqb (s .vlen) 8) ≡ true
   unfolding spanHolds
   held-child h n =
-      or-r (eqb (v .level) 0) (not (isGhost s) && eqb (s .vlen) 8) (ne-eqb (v .level) 0 n)
+      or-right (eqb (v .level) 0) (not (isGhost s) && eqb (s .vlen) 8) (ne-eqb (v .level) 0 n)
       (and-right (leb (s .key + s .klen) size && (isGhost s || leb (s .voff) (v .vals) && leb (v .vals - s .voff + s .vlen) size))
       (eqb (v .level) 0 || not (isGhost s) && eqb (s .vlen) 8) h)
 
@@ -224,6 +221,25 @@ ghost-length s e = rw (eq-eqb (s .voff) 65535 e, add-zero)
 pub value-length : (s : Span) → (s .voff ≡ 65535 → ⊥) → s .klen + s .vlen ≡ spanLength s
 unfolding spanLength isGhost
 value-length s n = rw (ne-eqb (s .voff) 65535 n)
+
+-- the bytes of an entry's key, and of a leaf's value
+pub key-counts : (v : Node) (b : List ℕ) (s : Span) → spanHolds v (length b) s ≡ true → length (window (s .key) (s .klen) b) ≡ s .klen
+key-counts v b s h = length-window (s .key) (s .klen) b (held-key v (length b) s h)
+
+pub leaf-counts : (v : Node) (b : List ℕ) (s : Span) → spanHolds v (length b) s ≡ true → isGhost s ≡ false → length (window (v .vals - s .voff) (s .vlen) b) ≡ s .vlen
+unfolding isGhost
+leaf-counts v b s h g = length-window (v .vals - s .voff) (s .vlen) b (held-end v (length b) s h (eqb-false (s .voff) 65535 g))
+
+-- a value's length, as its node counts it
+pub value-counts : (v : Node) (b : List ℕ) (s : Span) → spanHolds v (length b) s ≡ true → valueLength (valueAt v b s) ≡ cond (isGhost s) 0 (s .vlen)
+unfolding valueAt valueLength isGhost
+value-counts v b s h =
+    by-test (isGhost s)
+    (λ g. rw g)
+    (λ g.
+    by-test (eqb (v .level) 0)
+    (λ z. rw (g, z) (leaf-counts v b s h g))
+    (λ z. rw (g, z) (sym (held-eight v (length b) s h (eqb-false (v .level) 0 z)))))
 
 -- a part by its start and its end
 pub part-window : (l : List ℕ) (a n : ℕ) → take (a + n - a) (drop a l) ≡ window a n l

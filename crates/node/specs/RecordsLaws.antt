@@ -9,9 +9,9 @@ use lib.ListN.{length, take, drop, length-append, length-drop}
 use lib.Seq.{take-at, drop-at, drop-drop, take-add, take-append-seam, take-length}
 use lib.Dec.{leb, eqb}
 use borrow.Author.Tests.{le-leb, lt-leb, eq-eqb, ne-eqb, leb-true, leb-false, eqb-true, eqb-false}
-use Rattle.node.specs.TestLaws.{test-ext}
+use Rattle.node.specs.TestLaws.{leb-same}
 use Rattle.seal.specs.Bytes.{u16At, fieldAt, le, window, splice, bytesOf}
-use Rattle.seal.specs.WindowLaws.{length-window, splice-two}
+use Rattle.seal.specs.WindowLaws.{length-window, splice-run}
 use Rattle.seal.specs.FieldLaws.{field-drop, le-bytesOf, length-bytesOf}
 use Rattle.node.specs.SpliceLaws.{window-local, field-local, drop-local, take-window, field-bytes}
 use Rattle.node.specs.ByteLaws.{Bytes, bytes-drop, bytes-window, bytesOf-le, le-take-below, field-below}
@@ -20,7 +20,14 @@ use Rattle.node.specs.Entry.{Entry, Val, ghost, leaf, disk, mem, valueBy
 use Rattle.node.specs.Records.{markOf, markLength, valueOf, recordLength, entryOf, recordsLength, entriesOf, recordBytes, recordOf, recordsOf, recordAt}
 use Rattle.node.specs.declared.record.Record.{Record}
 
--- ---- the length of a value, by its mark
+-- ---- the length of a value, by its bytes and by its mark
+
+pub length-valueBytes : (v : Val) → length (valueBytes v) ≡ valueLength v
+unfolding valueBytes valueLength
+length-valueBytes ghost = refl
+length-valueBytes (leaf v) = refl
+length-valueBytes (disk r) = length-bytesOf 8 r
+length-valueBytes (mem s) = length-bytesOf 8 s
 
 pub mark-leaf : (m : ℕ) → m ≤ 0xFFFC → m ≡ markLength m
 unfolding markLength
@@ -46,12 +53,19 @@ record-room-2 l at h = let r = record-room l at h in omega arith
 pub record-room-1 : (l : List ℕ) (at : ℕ) → at + recordLength (drop at l) ≤ length l → at + 2 ≤ length l
 record-room-1 l at h = let r = record-room l at h in omega arith
 
+-- a field of the record at an offset, as a field of the list
+pub record-klen : (l : List ℕ) (at : ℕ) → u16At (drop at l) 0 ≡ u16At l at
+record-klen l at = field-drop 2 at l 0 ∙ ap (fieldAt 2 l) (add-zero at)
+
+pub record-mark : (l : List ℕ) (at : ℕ) → u16At (drop at l) 2 ≡ u16At l (at + 2)
+record-mark l at = field-drop 2 at l 2
+
 pub record-parts : (l : List ℕ) (at klen mark vlen : ℕ) → klen ≡ u16At l at → mark ≡ u16At l (at + 2) → vlen ≡ markLength mark
     → _≡_ {A = Record} (record { key = at + 4; klen = klen; mark = mark; value = at + 4 + klen; vlen = vlen; next = at + 4 + klen + vlen }) (recordAt l at)
 unfolding recordAt recordLength
 record-parts l at klen mark vlen p q r =
-    let k : u16At (drop at l) 0 ≡ klen = field-drop 2 at l 0 ∙ ap (fieldAt 2 l) (add-zero at) ∙ sym p in
-    let m : u16At (drop at l) 2 ≡ mark = field-drop 2 at l 2 ∙ sym q in
+    let k : u16At (drop at l) 0 ≡ klen = record-klen l at ∙ sym p in
+    let m : u16At (drop at l) 2 ≡ mark = record-mark l at ∙ sym q in
     let n : at + 4 + klen + vlen ≡ at + (4 + klen + vlen) = omega arith in
     rw (k, m, ← r, n)
 
@@ -76,16 +90,12 @@ module _ (l : List ℕ) (at : ℕ) (r : Record) (e : r ≡ recordAt l at) where
   unfolding recordAt
   at-vlen = ap (λ (x : Record). x .vlen) e
 
+  pub at-length : r .vlen ≡ markLength (r .mark)
+  at-length = at-vlen ∙ ap markLength (sym at-mark)
+
   pub at-after : r .next ≡ at + recordLength (drop at l)
   unfolding recordAt
   at-after = ap (λ (x : Record). x .next) e
-
--- a field of the record at an offset, as a field of the list
-pub record-klen : (l : List ℕ) (at : ℕ) → u16At (drop at l) 0 ≡ u16At l at
-record-klen l at = field-drop 2 at l 0 ∙ ap (fieldAt 2 l) (add-zero at)
-
-pub record-mark : (l : List ℕ) (at : ℕ) → u16At (drop at l) 2 ≡ u16At l (at + 2)
-record-mark l at = field-drop 2 at l 2
 
 -- ---- whether a record lies within the list
 
@@ -93,36 +103,41 @@ pub lies-no : (l : List ℕ) (at : ℕ) → at ≤ length l → length l - at < 
 unfolding recordLength
 lies-no l at h s = sym (lt-leb (at + recordLength (drop at l)) (length l) (omega arith))
 
-same-test : (a b c d : ℕ) → (a ≤ b → c ≤ d) → (c ≤ d → a ≤ b) → leb a b ≡ leb c d
-same-test a b c d f g =
-    test-ext (leb a b) (leb c d) (λ p. le-leb c d (f (leb-true a b p))) (λ p. le-leb a b (g (leb-true c d p)))
-
 pub lies-test : (l : List ℕ) (at klen mark vlen : ℕ) → at ≤ length l → 4 ≤ length l - at → klen ≡ u16At l at → mark ≡ u16At l (at + 2) → vlen ≡ markLength mark
     → leb (klen + vlen) (length l - at - 4) ≡ leb (at + recordLength (drop at l)) (length l)
 unfolding recordLength
 lies-test l at klen mark vlen h s p q r =
     let k : u16At (drop at l) 0 ≡ klen = record-klen l at ∙ sym p in
     let m : markLength (u16At (drop at l) 2) ≡ vlen = ap markLength (record-mark l at ∙ sym q) ∙ sym r in
-    same-test (klen + vlen) (length l - at - 4) (at + recordLength (drop at l)) (length l) (λ t. omega arith) (λ t. omega arith)
+    leb-same (klen + vlen) (length l - at - 4) (at + recordLength (drop at l)) (length l) (λ t. omega arith) (λ t. omega arith)
 
 -- ---- a record stored
+
+pub length-bytes : (k : List ℕ) (m : ℕ) (v : List ℕ) → length (recordBytes k m v) ≡ 4 + length k + length v
+unfolding recordBytes
+length-bytes k m v = simp (length-append, length-bytesOf)
+
+pub length-head : (k : List ℕ) (m : ℕ) → length (bytesOf 2 (length k) ++ bytesOf 2 m) ≡ 4
+length-head k m = simp (length-append, length-bytesOf)
+
+pub length-head-key : (k : List ℕ) (m : ℕ) → length (bytesOf 2 (length k) ++ bytesOf 2 m ++ k) ≡ 4 + length k
+length-head-key k m = simp (length-append, length-bytesOf)
+
+pub head-joined : (l l₁ l₂ l₃ k : List ℕ) (at m : ℕ) → at + 4 + length k ≤ length l → l₁ ≡ splice l at (bytesOf 2 (length k)) → l₂ ≡ splice l₁ (at + 2) (bytesOf 2 m)
+    → l₃ ≡ splice l₂ (at + 4) k → l₃ ≡ splice l at (bytesOf 2 (length k) ++ bytesOf 2 m ++ k)
+head-joined l l₁ l₂ l₃ k at m h p q r =
+    let a : length (bytesOf 2 (length k)) ≡ 2 = length-bytesOf 2 (length k) in
+    let b : length (bytesOf 2 m) ≡ 2 = length-bytesOf 2 m in
+    let d : length (bytesOf 2 (length k) ++ bytesOf 2 m) ≡ 4 = length-head k m in
+    let pq : l₂ ≡ splice l at (bytesOf 2 (length k) ++ bytesOf 2 m) = splice-run l l₁ l₂ at (bytesOf 2 (length k)) (at + 2) (bytesOf 2 m) (omega arith) (omega arith) p q in
+    splice-run l l₂ l₃ at (bytesOf 2 (length k) ++ bytesOf 2 m) (at + 4) k (omega arith) (omega arith) pq r
 
 pub put-record : (l l₁ l₂ l₃ l₄ k v : List ℕ) (at m : ℕ) → at + 4 + length k + length v ≤ length l → l₁ ≡ splice l at (bytesOf 2 (length k)) → l₂ ≡ splice l₁ (at + 2) (bytesOf 2 m)
     → l₃ ≡ splice l₂ (at + 4) k → l₄ ≡ splice l₃ (at + 4 + length k) v → l₄ ≡ splice l at (recordBytes k m v)
 unfolding recordBytes
 put-record l l₁ l₂ l₃ l₄ k v at m h e₁ e₂ e₃ e₄ =
-    let a : List ℕ = bytesOf 2 (length k) in
-    let b : List ℕ = bytesOf 2 m in
-    let la : length a ≡ 2 = length-bytesOf 2 (length k) in
-    let lb : length b ≡ 2 = length-bytesOf 2 m in
-    let lab : length (a ++ b) ≡ 4 = rw length-append (omega arith) in
-    let labk : length (a ++ b ++ k) ≡ 4 + length k = simp length-append (omega arith) in
-    let q₂ : at + 2 ≡ at + length a = omega arith in
-    let q₃ : at + 4 ≡ at + length (a ++ b) = omega arith in
-    let q₄ : at + 4 + length k ≡ at + length (a ++ b ++ k) = omega arith in
-    let s₂ : l₂ ≡ splice l at (a ++ b) = e₂ ∙ ap₂ (λ (x : List ℕ) (y : ℕ). splice x y b) e₁ q₂ ∙ splice-two l at a b (omega arith) in
-    let s₃ : l₃ ≡ splice l at (a ++ b ++ k) = e₃ ∙ ap₂ (λ (x : List ℕ) (y : ℕ). splice x y k) s₂ q₃ ∙ splice-two l at (a ++ b) k (omega arith) in
-    e₄ ∙ ap₂ (λ (x : List ℕ) (y : ℕ). splice x y v) s₃ q₄ ∙ splice-two l at (a ++ b ++ k) v (omega arith)
+    let n : length (bytesOf 2 (length k) ++ bytesOf 2 m ++ k) ≡ 4 + length k = length-head-key k m in
+    splice-run l l₃ l₄ at (bytesOf 2 (length k) ++ bytesOf 2 m ++ k) (at + 4 + length k) v (omega arith) h (head-joined l l₁ l₂ l₃ k at m (omega arith) e₁ e₂ e₃) e₄
 
 -- ---- records that lists with the same first m bytes share
 
@@ -142,14 +157,14 @@ entry-local m l l′ h e =
     let v : window (4 + u16At l 0) (markLength (u16At l 2)) l′ ≡ window (4 + u16At l 0) (markLength (u16At l 2)) l = window-local (4 + u16At l 0) (markLength (u16At l 2)) m l l′ (omega arith) e in
     rw (a, b, k, v)
 
-pub lengths-local : (n m : ℕ) (l l′ : List ℕ) → recordsLength n l ≤ m → take m l′ ≡ take m l → recordsLength n l′ ≡ recordsLength n l
+pub records-local : (n m : ℕ) (l l′ : List ℕ) → recordsLength n l ≤ m → take m l′ ≡ take m l → recordsLength n l′ ≡ recordsLength n l
 unfolding recordsLength
-lengths-local zero m l l′ h e = refl
-lengths-local (suc n) m l l′ h e =
+records-local zero m l l′ h e = refl
+records-local (suc n) m l l′ h e =
     let r : ℕ = recordLength l in
     let p : recordLength l′ ≡ r = record-local m l l′ (omega arith) e in
     let d : take (m - r) (drop r l′) ≡ take (m - r) (drop r l) = drop-local r m l l′ (omega arith) e in
-    ap (λ (x : ℕ). x + recordsLength n (drop x l′)) p ∙ ap (λ (x : ℕ). r + x) (lengths-local n (m - r) (drop r l) (drop r l′) (omega arith) d)
+    ap (λ (x : ℕ). x + recordsLength n (drop x l′)) p ∙ ap (λ (x : ℕ). r + x) (records-local n (m - r) (drop r l) (drop r l′) (omega arith) d)
 
 pub entries-local : (n m : ℕ) (l l′ : List ℕ) → recordsLength n l ≤ m → take m l′ ≡ take m l → entriesOf n l′ ≡ entriesOf n l
 unfolding recordsLength entriesOf
@@ -168,14 +183,14 @@ unfolding entriesOf
 length-entries zero l = refl
 length-entries (suc n) l = ap suc (length-entries n (drop (recordLength l) l))
 
-pub lengths-add : (i m : ℕ) (l : List ℕ) → recordsLength (i + m) l ≡ recordsLength i l + recordsLength m (drop (recordsLength i l) l)
+pub records-add : (i m : ℕ) (l : List ℕ) → recordsLength (i + m) l ≡ recordsLength i l + recordsLength m (drop (recordsLength i l) l)
 unfolding recordsLength
-lengths-add zero m l = rw (zero-add m, zero-add (recordsLength m l))
-lengths-add (suc i) m l =
+records-add zero m l = rw (zero-add m, zero-add (recordsLength m l))
+records-add (suc i) m l =
     let r : ℕ = recordLength l in
     let x : ℕ = recordsLength i (drop r l) in
     ap (λ (k : ℕ). recordsLength k l) (suc-add i m)
-    ∙ ap (λ (k : ℕ). r + k) (lengths-add i m (drop r l))
+    ∙ ap (λ (k : ℕ). r + k) (records-add i m (drop r l))
     ∙ ap (λ (q : List ℕ). r + (x + recordsLength m q)) (drop-drop x r l)
     ∙ sym (add-assoc r x (recordsLength m (drop (r + x) l)))
 
@@ -188,6 +203,54 @@ entries-add (suc i) m l =
     ap (λ (k : ℕ). entriesOf k l) (suc-add i m)
     ∙ ap (λ (k : List Entry). entryOf l ∷ k) (entries-add i m (drop r l))
     ∙ ap (λ (q : List ℕ). entryOf l ∷ (entriesOf i (drop r l) ++ entriesOf m q)) (drop-drop x r l)
+
+pub records-next : (i : ℕ) (l : List ℕ) → recordsLength (i + 1) l ≡ recordsLength i l + recordLength (drop (recordsLength i l) l)
+unfolding recordsLength
+records-next i l = records-add i 1 l ∙ ap (λ (x : ℕ). recordsLength i l + x) (add-zero (recordLength (drop (recordsLength i l) l)))
+
+pub records-rest : (j n : ℕ) (l : List ℕ) → j ≤ n → recordsLength j l + recordsLength (n - j) (drop (recordsLength j l) l) ≡ recordsLength n l
+records-rest j n l h = let e : j + (n - j) ≡ n = omega arith in sym (records-add j (n - j) l) ∙ ap (λ (k : ℕ). recordsLength k l) e
+
+pub records-less : (i n : ℕ) (l : List ℕ) → i ≤ n → recordsLength i l ≤ recordsLength n l
+records-less i n l h = omega (arith, records-rest i n l h)
+
+pub record-sum : (l : List ℕ) → recordLength l ≡ 4 + u16At l 0 + markLength (u16At l 2)
+unfolding recordLength
+record-sum l = refl
+
+pub records-least : (n : ℕ) (l : List ℕ) → 4 * n ≤ recordsLength n l
+unfolding recordsLength
+records-least zero l = omega arith
+records-least (suc n) l = omega (arith, record-sum l, records-least n (drop (recordLength l) l))
+
+pub entries-next : (i : ℕ) (l : List ℕ) → entriesOf (i + 1) l ≡ entriesOf i l ++ (entryOf (drop (recordsLength i l) l) ∷ [])
+unfolding entriesOf
+entries-next i l = entries-add i 1 l
+
+-- a record that is not the last lies in the list
+pub record-in : (i n : ℕ) (l : List ℕ) → i < n → recordsLength n l ≤ length l → recordsLength i l + recordLength (drop (recordsLength i l) l) ≤ length l
+record-in i n l h k = omega (arith, records-next i l, records-less (i + 1) n l (omega arith))
+
+pub entries-front : (i n : ℕ) (l : List ℕ) → i ≤ n → take i (entriesOf n l) ≡ entriesOf i l
+entries-front i n l h =
+    let e : n ≡ i + (n - i) = omega arith in
+    ap (take i) (ap (λ (k : ℕ). entriesOf k l) e ∙ entries-add i (n - i) l) ∙ take-at (entriesOf i l) (entriesOf (n - i) (drop (recordsLength i l) l)) i (length-entries i l)
+
+pub entries-rest : (j n : ℕ) (l : List ℕ) → j ≤ n → drop j (entriesOf n l) ≡ entriesOf (n - j) (drop (recordsLength j l) l)
+entries-rest j n l h =
+    let e : n ≡ j + (n - j) = omega arith in
+    ap (drop j) (ap (λ (k : ℕ). entriesOf k l) e ∙ entries-add j (n - j) l) ∙ drop-at (entriesOf j l) (entriesOf (n - j) (drop (recordsLength j l) l)) j (length-entries j l)
+
+pub entries-head : (i n at : ℕ) (l : List ℕ) → i < n → at ≡ recordsLength i l → drop i (entriesOf n l) ≡ entryOf (drop at l) ∷ drop (i + 1) (entriesOf n l)
+unfolding entriesOf
+entries-head i n at l h p =
+    let h′ : i ≤ n = omega arith in
+    let k : ℕ = n - (i + 1) in
+    let e : n - i ≡ suc k = omega arith in
+    let d : List ℕ = drop (recordsLength i l) l in
+    let a : drop i (entriesOf n l) ≡ entryOf d ∷ entriesOf k (drop (recordLength d) d) = entries-rest i n l h′ ∙ ap (λ (x : ℕ). entriesOf x d) e in
+    let b : drop (i + 1) (entriesOf n l) ≡ entriesOf k (drop (recordLength d) d) = sym (drop-drop 1 i (entriesOf n l)) ∙ ap (drop 1) a in
+    a ∙ ap₂ (λ (x : ℕ) (y : List Entry). entryOf (drop x l) ∷ y) (sym p) (sym b)
 
 -- ---- a record decoded from its parts
 
@@ -265,8 +328,8 @@ unfolding recordOf
 record-right e t = simp append-assoc
 
 pub length-record : (e : Entry) → length (recordOf e) ≡ 4 + length (e .key) + length (valueBytes (e .value))
-unfolding recordOf
-length-record e = simp (length-append, length-bytesOf)
+unfolding recordOf recordBytes
+length-record e = length-bytes (e .key) (markOf (e .value)) (valueBytes (e .value))
 
 module _ (e : Entry) (s : Storable e) (t : List ℕ) where
   key-there : le (bytesOf 2 (length (e .key))) ≡ length (e .key)
@@ -305,17 +368,17 @@ entries-back (e ∷ es) t (more s ss) =
     ∙ ap (λ (x : List ℕ). e ∷ entriesOf (length es) x) (drop-at (recordOf e) r (length (recordOf e)) refl)
     ∙ ap (λ (x : List Entry). e ∷ x) (entries-back es t ss)
 
-pub lengths-back : (es : List Entry) (t : List ℕ) → Storables es → recordsLength (length es) (recordsOf es ++ t) ≡ length (recordsOf es)
+pub records-back : (es : List Entry) (t : List ℕ) → Storables es → recordsLength (length es) (recordsOf es ++ t) ≡ length (recordsOf es)
 unfolding recordsLength recordsOf
-lengths-back [] t none = refl
-lengths-back (e ∷ es) t (more s ss) =
+records-back [] t none = refl
+records-back (e ∷ es) t (more s ss) =
     let r : List ℕ = recordsOf es ++ t in
     let p : (recordOf e ++ recordsOf es) ++ t ≡ recordOf e ++ r = append-assoc (recordOf e) (recordsOf es) t in
     let q : recordLength (recordOf e ++ r) ≡ length (recordOf e) = length-back e s r in
     ap (λ (x : List ℕ). recordLength x + recordsLength (length es) (drop (recordLength x) x)) p
     ∙ ap (λ (y : ℕ). y + recordsLength (length es) (drop y (recordOf e ++ r))) q
     ∙ ap (λ (x : List ℕ). length (recordOf e) + recordsLength (length es) x) (drop-at (recordOf e) r (length (recordOf e)) refl)
-    ∙ ap (λ (x : ℕ). length (recordOf e) + x) (lengths-back es t ss)
+    ∙ ap (λ (x : ℕ). length (recordOf e) + x) (records-back es t ss)
     ∙ sym (length-append (recordOf e) (recordsOf es))
 
 -- ---- decoding and encoding: what was decoded is encoded as it was

@@ -1,62 +1,25 @@
 -- Laws of a node's entries in a slot: where records lie, and what the entries are after records are put, removed and changed. Assumes nothing.
 use mathlib.Core.Path.{_≡_, refl, sym, ap, ap₂, _∙_}
 use mathlib.Core.List.{List, [], _∷_, _++_, append-assoc, append-nil}
-use Prim.Native.Nat.{ℕ, suc, _+_, _-_, _≤_, _<_, _^_}
+use Prim.Native.Nat.{ℕ, _+_, _-_, _≤_, _<_, _^_}
 use native.Mathlib.Nat.{add-zero, zero-add}
 use native.Mathlib.Omega.{arith}
 use lib.ListN.{length, take, drop, length-append, length-drop}
-use lib.Seq.{take-at, drop-at, drop-drop, take-append-seam, drop-append-seam, take-length, length-take-le}
+use lib.Seq.{take-at, take-append-seam, drop-append-seam, take-length, length-take-le}
 use borrow.Author.Tests.{le-leb, lt-leb, eq-eqb, ne-eqb}
 use Rattle.seal.specs.Bytes.{u16At, u64At, fieldAt, le, window, splice, moved, bytesOf}
 use Rattle.seal.specs.WindowLaws.{length-window, window-add, splice-under}
 use Rattle.seal.specs.FieldLaws.{field-drop, le-bytesOf, length-bytesOf}
-use Rattle.node.specs.SpliceLaws.{take-splice, drop-splice, splice-widen}
+use Rattle.node.specs.SpliceLaws.{window-drop, take-splice, drop-splice, splice-widen}
 use Rattle.node.specs.Entry.{Entry, Val, leaf, disk, mem, valueLength}
 use Rattle.node.specs.Records.{markLength, valueOf, recordBytes, recordLength, entryOf, recordsLength, entriesOf, recordAt}
-use Rattle.node.specs.RecordsLaws.{mark-child, lengths-local, entries-local, lengths-add, entries-add, length-entries, decoded, decoded-length, entry-key-length, entry-value-length, at-key, at-mark, at-value, at-vlen}
+use Rattle.node.specs.RecordsLaws.{mark-child, length-bytes, records-local, entries-local, records-add, entries-add, records-next, records-rest, records-less, entries-front, entries-rest, entries-head, decoded, decoded-length, entry-key-length, entry-value-length, at-key, at-mark, at-value, at-length}
 use Rattle.node.specs.Slot.{insertAt, removeAt, rekeyed, withKey, revalued, withValue, childMeans, valueMeans}
 use Rattle.node.specs.declared.record.Record.{Record}
 use Rattle.node.specs.declared.val.Child.the-variants as child
 use Rattle.node.specs.declared.val.Val.the-variants as held
 
--- ---- where records lie
-
-pub lengths-next : (i : ℕ) (l : List ℕ) → recordsLength (i + 1) l ≡ recordsLength i l + recordLength (drop (recordsLength i l) l)
-unfolding recordsLength
-lengths-next i l = lengths-add i 1 l ∙ ap (λ (x : ℕ). recordsLength i l + x) (add-zero (recordLength (drop (recordsLength i l) l)))
-
-pub lengths-le : (i n : ℕ) (l : List ℕ) → i ≤ n → recordsLength i l ≤ recordsLength n l
-lengths-le i n l h =
-    let e : i + (n - i) ≡ n = omega arith in
-    let a : recordsLength (i + (n - i)) l ≡ recordsLength n l = ap (λ (k : ℕ). recordsLength k l) e in
-    let b = lengths-add i (n - i) l in
-    omega arith
-
-pub lengths-rest : (j n : ℕ) (l : List ℕ) → j ≤ n → recordsLength j l + recordsLength (n - j) (drop (recordsLength j l) l) ≡ recordsLength n l
-lengths-rest j n l h = let e : j + (n - j) ≡ n = omega arith in sym (lengths-add j (n - j) l) ∙ ap (λ (k : ℕ). recordsLength k l) e
-
-pub entries-front : (i n : ℕ) (l : List ℕ) → i ≤ n → take i (entriesOf n l) ≡ entriesOf i l
-entries-front i n l h =
-    let e : n ≡ i + (n - i) = omega arith in
-    ap (take i) (ap (λ (k : ℕ). entriesOf k l) e ∙ entries-add i (n - i) l) ∙ take-at (entriesOf i l) (entriesOf (n - i) (drop (recordsLength i l) l)) i (length-entries i l)
-
-pub entries-rest : (j n : ℕ) (l : List ℕ) → j ≤ n → drop j (entriesOf n l) ≡ entriesOf (n - j) (drop (recordsLength j l) l)
-entries-rest j n l h =
-    let e : n ≡ j + (n - j) = omega arith in
-    ap (drop j) (ap (λ (k : ℕ). entriesOf k l) e ∙ entries-add j (n - j) l) ∙ drop-at (entriesOf j l) (entriesOf (n - j) (drop (recordsLength j l) l)) j (length-entries j l)
-
-pub entries-head : (i n at : ℕ) (l : List ℕ) → i < n → at ≡ recordsLength i l → drop i (entriesOf n l) ≡ entryOf (drop at l) ∷ drop (i + 1) (entriesOf n l)
-unfolding entriesOf
-entries-head i n at l h p =
-    let h′ : i ≤ n = omega arith in
-    let k : ℕ = n - (i + 1) in
-    let e : n - i ≡ suc k = omega arith in
-    let d : List ℕ = drop (recordsLength i l) l in
-    let a : drop i (entriesOf n l) ≡ entryOf d ∷ entriesOf k (drop (recordLength d) d) = entries-rest i n l h′ ∙ ap (λ (x : ℕ). entriesOf x d) e in
-    let b : drop (i + 1) (entriesOf n l) ≡ entriesOf k (drop (recordLength d) d) = sym (drop-drop 1 i (entriesOf n l)) ∙ ap (drop 1) a in
-    a ∙ ap₂ (λ (x : ℕ) (y : List Entry). entryOf (drop x l) ∷ y) (sym p) (sym b)
-
--- ---- for `search`: each premise is a field of what a need is handed
+-- ---- where records lie, for `search`: each premise is a field of what a need is handed
 
 pub at-start : (l : List ℕ) → 0 ≡ recordsLength 0 l
 unfolding recordsLength
@@ -64,32 +27,35 @@ at-start l = refl
 
 pub at-lies : (l : List ℕ) (n i at : ℕ) → recordsLength n l ≤ length l → i < n → at ≡ recordsLength i l → at + recordLength (drop at l) ≤ length l
 at-lies l n i at h q p =
-    let a = lengths-next i l in
-    let b = lengths-le (i + 1) n l (omega arith) in
+    let a = records-next i l in
+    let b = records-less (i + 1) n l (omega arith) in
     let c : recordLength (drop at l) ≡ recordLength (drop (recordsLength i l) l) = ap (λ (x : ℕ). recordLength (drop x l)) p in
     omega arith
 
 pub at-next : (l : List ℕ) (i at r : ℕ) → at ≡ recordsLength i l → r ≡ at + recordLength (drop at l) → r ≡ recordsLength (i + 1) l
-at-next l i at r p q = q ∙ ap (λ (x : ℕ). x + recordLength (drop x l)) p ∙ sym (lengths-next i l)
+at-next l i at r p q = q ∙ ap (λ (x : ℕ). x + recordLength (drop x l)) p ∙ sym (records-next i l)
 
 pub at-end : (l : List ℕ) (i k at : ℕ) → at ≡ recordsLength k l → k ≤ i → i ≤ k → at ≡ recordsLength i l
 at-end l i k at p a b = let e : k ≡ i = omega arith in p ∙ ap (λ (x : ℕ). recordsLength x l) e
-
-pub at-within : (l : List ℕ) (n i at : ℕ) → recordsLength n l ≤ length l → i ≤ n → at ≡ recordsLength i l → at ≤ length l
-at-within l n i at h q p = let b = lengths-le i n l q in omega arith
 
 pub at-lies-below : (l : List ℕ) (n i k at : ℕ) → recordsLength n l ≤ length l → i ≤ n → k < i → at ≡ recordsLength k l → at + recordLength (drop at l) ≤ length l
 at-lies-below l n i k at h q r p = at-lies l n k at h (omega arith) p
 
 pub at-used : (l : List ℕ) (n i used at : ℕ) → used ≡ recordsLength n l → at ≡ recordsLength i l → i ≤ n → at ≤ used
-at-used l n i used at p q h = let b = lengths-le i n l h in omega arith
+at-used l n i used at p q h = let b = records-less i n l h in omega arith
 
 -- record i ends where the bytes in use end, or before
 pub next-used : (l : List ℕ) (n i used at : ℕ) → used ≡ recordsLength n l → at ≡ recordsLength i l → i < n → at + recordLength (drop at l) ≤ used
 next-used l n i used at p q h =
-    let b = lengths-le (i + 1) n l (omega arith) in
+    let b = records-less (i + 1) n l (omega arith) in
     let c = at-next l i at (at + recordLength (drop at l)) q refl in
     omega arith
+
+-- the records from record j on take what is left
+rest-length : (l : List ℕ) (n j used end : ℕ) → used ≡ recordsLength n l → end ≡ recordsLength j l → j ≤ n → recordsLength (n - j) (drop end l) ≡ used - end
+rest-length l n j used end p q h =
+    let e : recordsLength (n - j) (drop end l) ≡ recordsLength (n - j) (drop (recordsLength j l) l) = ap (λ (x : ℕ). recordsLength (n - j) (drop x l)) q in
+    omega (arith, records-rest j n l h)
 
 -- ---- records replaced: records i to j of n give way to k others
 
@@ -103,10 +69,10 @@ module _ (l l′ new : List ℕ) (n i j k used at end : ℕ) (ij : i ≤ j) (jn 
   past = drop (at + length (new ++ kept)) l
 
   at-in : at ≤ length l
-  at-in = let a = lengths-le i n l (omega arith) in omega arith
+  at-in = let a = records-less i n l (omega arith) in omega arith
 
   end-in : end + (used - end) ≤ length l
-  end-in = let a = lengths-le j n l jn in omega arith
+  end-in = let a = records-less j n l jn in omega arith
 
   front : take at l′ ≡ take at l
   front = ap (take at) changed ∙ take-splice l at (new ++ kept) at-in
@@ -115,29 +81,23 @@ module _ (l l′ new : List ℕ) (n i j k used at end : ℕ) (ij : i ≤ j) (jn 
   from = ap (drop at) changed ∙ drop-splice l at (new ++ kept) at-in ∙ append-assoc new kept past
 
   front-length : recordsLength i l′ ≡ at
-  front-length = let h : recordsLength i l ≤ at = omega arith in lengths-local i at l l′ h front ∙ sym pa
+  front-length = let h : recordsLength i l ≤ at = omega arith in records-local i at l l′ h front ∙ sym pa
 
   new-agrees : take (length new) (new ++ (kept ++ past)) ≡ take (length new) new
   new-agrees = take-append-seam new (kept ++ past) ∙ sym (take-length new)
 
   new-length : recordsLength k (new ++ (kept ++ past)) ≡ length new
-  new-length = let h : recordsLength k new ≤ length new = omega arith in lengths-local k (length new) new (new ++ (kept ++ past)) h new-agrees ∙ fill
+  new-length = let h : recordsLength k new ≤ length new = omega arith in records-local k (length new) new (new ++ (kept ++ past)) h new-agrees ∙ fill
 
   kept-agrees : take (used - end) (kept ++ past) ≡ take (used - end) (drop end l)
   unfolding window
   kept-agrees = take-at kept past (used - end) (length-window end (used - end) l end-in)
 
-  rest-fits : recordsLength (n - j) (drop end l) ≤ used - end
-  rest-fits =
-      let a = lengths-rest j n l jn in
-      let b : recordsLength (n - j) (drop end l) ≡ recordsLength (n - j) (drop (recordsLength j l) l) = ap (λ (x : ℕ). recordsLength (n - j) (drop x l)) pe in
-      omega arith
+  rest-is : recordsLength (n - j) (drop end l) ≡ used - end
+  rest-is = rest-length l n j used end pu pe jn
 
-  rest-length : recordsLength (n - j) (drop end l) ≡ used - end
-  rest-length =
-      let a = lengths-rest j n l jn in
-      let b : recordsLength (n - j) (drop end l) ≡ recordsLength (n - j) (drop (recordsLength j l) l) = ap (λ (x : ℕ). recordsLength (n - j) (drop x l)) pe in
-      omega arith
+  rest-fits : recordsLength (n - j) (drop end l) ≤ used - end
+  rest-fits = omega (arith, rest-is)
 
   after : recordsLength k (drop at l′) ≡ length new
   after = ap (recordsLength k) from ∙ new-length
@@ -147,9 +107,9 @@ module _ (l l′ new : List ℕ) (n i j k used at end : ℕ) (ij : i ≤ j) (jn 
 
   tail-length : recordsLength (k + (n - j)) (drop at l′) ≡ length new + (used - end)
   tail-length =
-      lengths-add k (n - j) (drop at l′)
+      records-add k (n - j) (drop at l′)
       ∙ ap₂ (λ (x : ℕ) (y : List ℕ). x + recordsLength (n - j) y) after past-new
-      ∙ ap (λ (x : ℕ). length new + x) (lengths-local (n - j) (used - end) (drop end l) (kept ++ past) rest-fits kept-agrees ∙ rest-length)
+      ∙ ap (λ (x : ℕ). length new + x) (records-local (n - j) (used - end) (drop end l) (kept ++ past) rest-fits kept-agrees ∙ rest-is)
 
   tail-entries : entriesOf (k + (n - j)) (drop at l′) ≡ entriesOf k new ++ drop j (entriesOf n l)
   tail-entries =
@@ -160,7 +120,7 @@ module _ (l l′ new : List ℕ) (n i j k used at end : ℕ) (ij : i ≤ j) (jn 
       (entries-local (n - j) (used - end) (drop end l) (kept ++ past) rest-fits kept-agrees ∙ ap (λ (x : ℕ). entriesOf (n - j) (drop x l)) pe ∙ sym (entries-rest j n l jn))
 
   pub replaced-length : recordsLength (i + (k + (n - j))) l′ ≡ at + (length new + (used - end))
-  replaced-length = lengths-add i (k + (n - j)) l′ ∙ ap (λ (x : ℕ). x + recordsLength (k + (n - j)) (drop x l′)) front-length ∙ ap (λ (x : ℕ). at + x) tail-length
+  replaced-length = records-add i (k + (n - j)) l′ ∙ ap (λ (x : ℕ). x + recordsLength (k + (n - j)) (drop x l′)) front-length ∙ ap (λ (x : ℕ). at + x) tail-length
 
   pub replaced-entries : entriesOf (i + (k + (n - j))) l′ ≡ take i (entriesOf n l) ++ (entriesOf k new ++ drop j (entriesOf n l))
   replaced-entries =
@@ -206,10 +166,6 @@ module _ (l l′ a b k v : List ℕ) (n i j used at end : ℕ) (la : length a �
 
 -- ---- a record put
 
-pub length-bytes : (k : List ℕ) (m : ℕ) (v : List ℕ) → length (recordBytes k m v) ≡ 4 + length k + length v
-unfolding recordBytes
-length-bytes k m v = simp (length-append, length-bytesOf)
-
 module _ (l l₁ l₂ key value : List ℕ) (n i used at mark : ℕ) (pu : used ≡ recordsLength n l) (pa : at ≡ recordsLength i l) (h : i ≤ n)
     (room : used + 4 + length key + length value ≤ length l) (kf : length key < 2 ^ 16) (mf : mark < 2 ^ 16) (mv : markLength mark ≡ length value)
     (e₁ : l₁ ≡ moved l at (at + 4 + length key + length value) (used - at)) (e₂ : l₂ ≡ splice l₁ at (recordBytes key mark value)) where
@@ -219,7 +175,7 @@ module _ (l l₁ l₂ key value : List ℕ) (n i used at mark : ℕ) (pu : used 
       let w : List ℕ = window at (used - at) l in
       let c : List ℕ = recordBytes key mark value in
       let lc : length c ≡ 4 + length key + length value = length-bytes key mark value in
-      let au = lengths-le i n l h in
+      let au = records-less i n l h in
       let lw : length w ≡ used - at = length-window at (used - at) l (omega arith) in
       let q : at + 4 + length key + length value ≡ at + length c = omega arith in
       e₂ ∙ ap (λ (x : List ℕ). splice x at c) (e₁ ∙ ap (λ (x : ℕ). splice l x w) q) ∙ splice-under l at c w (omega arith) ∙ ap (splice l at) (simp append-assoc)
@@ -247,7 +203,7 @@ module _ (l l₁ l₂ key value : List ℕ) (n i used at mark : ℕ) (pu : used 
   pub insert-length : recordsLength (n + 1) l₂ ≡ used + 4 + length key + length value
   insert-length =
       let ii : i ≤ i = omega arith in
-      let au = lengths-le i n l h in
+      let au = records-less i n l h in
       ap (λ (x : ℕ). recordsLength x l₂) (sym count)
       ∙ put-length l l₂ (bytesOf 2 (length key)) (bytesOf 2 mark) key value n i i used at at (length-bytesOf 2 (length key)) (length-bytesOf 2 mark) lk (ap markLength lm ∙ mv) ii h within pu pa pa insert-changed
       ∙ omega arith
@@ -284,10 +240,6 @@ module _ (l l₁ : List ℕ) (n i used at next : ℕ) (within : recordsLength n 
       ∙ ap (λ (x : ℕ). at + x) (zero-add (used - next))
 
 -- ---- the parts of a record, as windows of the slot
-
-pub window-drop : (a i n : ℕ) (l : List ℕ) → window i n (drop a l) ≡ window (a + i) n l
-unfolding window
-window-drop a i n l = ap (take n) (drop-drop i a l)
 
 pub part-key : (at klen : ℕ) (l : List ℕ) → klen ≡ u16At (drop at l) 0 → entryOf (drop at l) .key ≡ window (at + 4) klen l
 unfolding entryOf
@@ -477,18 +429,15 @@ module _ (l o o′ : List ℕ) (n i used at : ℕ) (within : used ≤ length l) 
   unfolding splice
   tail-agrees =
       let w : List ℕ = take (used - at) (drop at l) in
-      let a = lengths-le i n l h in
+      let a = records-less i n l h in
       let lw : length w ≡ used - at = length-take-le (used - at) (drop at l) (rw length-drop (omega arith)) in
       ap (take (used - at)) e ∙ take-at w (drop (0 + length w) o) (used - at) lw
 
   tail-fits : recordsLength (n - i) (drop at l) ≡ used - at
-  tail-fits =
-      let a = lengths-rest i n l h in
-      let b : recordsLength (n - i) (drop at l) ≡ recordsLength (n - i) (drop (recordsLength i l) l) = ap (λ (x : ℕ). recordsLength (n - i) (drop x l)) pa in
-      omega arith
+  tail-fits = rest-length l n i used at pu pa h
 
   pub part-tail-length : recordsLength (n - i) o′ ≡ used - at
-  part-tail-length = let f = tail-fits in let g : recordsLength (n - i) (drop at l) ≤ used - at = omega arith in lengths-local (n - i) (used - at) (drop at l) o′ g tail-agrees ∙ tail-fits
+  part-tail-length = let f = tail-fits in let g : recordsLength (n - i) (drop at l) ≤ used - at = omega arith in records-local (n - i) (used - at) (drop at l) o′ g tail-agrees ∙ tail-fits
 
   pub part-tail-entries : entriesOf (n - i) o′ ≡ drop i (entriesOf n l)
   part-tail-entries =
@@ -522,12 +471,9 @@ module _ (l : List ℕ) (at : ℕ) (r : Record) (e : r ≡ recordAt l at) where
   value-there : entryOf (drop at l) .value ≡ valueOf (r .mark) (window (r .value) (markLength (r .mark)) l)
   value-there = part-value at (r .value) (u16At (drop at l) 0) (r .mark) l refl (at-mark l at r e) (at-value l at r e)
 
-  length-there : r .vlen ≡ markLength (r .mark)
-  length-there = at-vlen l at r e ∙ ap markLength (sym (at-mark l at r e))
-
   pub value-leaf : r .mark ≤ 0xFFFC → valueMeans l (held.Leaf (r .value) (r .vlen)) ≡ entryOf (drop at l) .value
   unfolding valueMeans valueOf
-  value-leaf h = ap (λ (x : ℕ). leaf (window (r .value) x l)) length-there ∙ sym (value-there ∙ rw (le-leb (r .mark) 0xFFFC h))
+  value-leaf h = ap (λ (x : ℕ). leaf (window (r .value) x l)) (at-length l at r e) ∙ sym (value-there ∙ rw (le-leb (r .mark) 0xFFFC h))
 
   pub value-ghost : 0xFFFC < r .mark → r .mark ≡ 0xFFFF → valueMeans l held.Ghost ≡ entryOf (drop at l) .value
   unfolding valueMeans valueOf

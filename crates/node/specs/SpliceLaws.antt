@@ -4,12 +4,12 @@ use mathlib.Core.List.{List, _++_, append-assoc}
 use Prim.Native.Nat.{ℕ, _+_, _-_, _≤_}
 use native.Mathlib.Omega.{arith}
 use lib.ListN.{length, take, drop, length-append}
-use lib.Seq.{take-add, length-take-le, take-at, drop-at, take-take}
+use lib.Seq.{drop-drop, take-add, length-take-le, take-at, drop-at, take-take}
 use Rattle.seal.specs.Bytes.{window, splice, le, bytesOf, fieldAt}
 use Rattle.seal.specs.WindowLaws.{length-window, drop-take}
 use Rattle.node.specs.ByteLaws.{Bytes, bytes-window, bytesOf-le}
 
--- ---- lists that agree on their first m elements
+-- ---- lists that agree on their first m elements, or from element a on
 
 pub window-take : (i n m : ℕ) (l : List ℕ) → i + n ≤ m → window i n (take m l) ≡ window i n l
 unfolding window
@@ -27,6 +27,10 @@ field-local n i m l l′ h e = ap le (window-local i n m l l′ h e)
 
 pub drop-local : (r m : ℕ) (l l′ : List ℕ) → r ≤ m → take m l′ ≡ take m l → take (m - r) (drop r l′) ≡ take (m - r) (drop r l)
 drop-local r m l l′ h e = sym (drop-take r m l′ h) ∙ ap (drop r) e ∙ drop-take r m l h
+
+pub window-drop : (a i n : ℕ) (l : List ℕ) → window i n (drop a l) ≡ window (a + i) n l
+unfolding window
+window-drop a i n l = ap (take n) (drop-drop i a l)
 
 -- ---- a run that was replaced
 

@@ -1,5 +1,5 @@
 -- Where a run of bytes stands in a block, and the fields that are read there: laws of a block that is put together of parts. Assumes nothing.
-use mathlib.Core.Path.{_≡_, refl, sym, ap, subst, _∙_}
+use mathlib.Core.Path.{_≡_, sym, ap, subst, _∙_}
 use mathlib.Core.List.{List, [], _∷_, _++_}
 use Prim.Native.Nat.{ℕ, _+_, _-_, _^_, _≤_, _<_}
 use native.Mathlib.Omega.{arith}
@@ -53,19 +53,10 @@ unfoldable pub fields : List (ℕ × ℕ) → List ℕ
 fields [] = []
 fields (f ∷ fs) = bytesOf (f .0) (f .1) ++ fields fs
 
-unfoldable pub widths : List (ℕ × ℕ) → ℕ
-widths [] = 0
-widths (f ∷ fs) = f .0 + widths fs
-
 -- each field of the table, the first at i + k, is read as its value if that fits its width
 abbrev pub Read : List ℕ → ℕ → ℕ → List (ℕ × ℕ) → Type 0
 Read b i k [] = Unit {0}
 Read b i k (f ∷ fs) = (f .1 < 256 ^ (f .0) → fieldAt (f .0) b (i + k) ≡ f .1) × Read b i (k + f .0) fs
-
-pub length-fields : (fs : List (ℕ × ℕ)) → length (fields fs) ≡ widths fs
-unfolding fields widths
-length-fields [] = refl
-length-fields (f ∷ fs) = simp (length-append, length-bytesOf, length-fields fs)
 
 pub table-read : (b : List ℕ) (i k : ℕ) (fs : List (ℕ × ℕ)) → Stands b (i + k) (fields fs) → Read b i k fs
 unfolding fields

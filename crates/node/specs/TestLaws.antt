@@ -1,8 +1,11 @@
--- Laws of tests: by cases on one, both of two, one of two. Assumes nothing.
+-- Laws of tests: by cases on one, two that pass together, both of two, one of two. Assumes nothing.
 use mathlib.Core.Path.{_≡_, refl, sym}
 use mathlib.Core.Bool.{Bool, true, false, _&&_, _||_, not}
-use Prim.Native.Nat.{ℕ}
+pub use mathlib.Core.Bool.{and-true, and-false, or-false}
+use Prim.Native.Nat.{ℕ, _≤_, _<_}
 use native.Mathlib.Omega.{arith}
+use lib.Dec.{leb, ltb}
+use borrow.Author.Tests.{le-leb, leb-true, lt-ltb, ltb-true}
 
 -- by cases on a test, the equation kept
 pub by-test {ℓ} : {C : Type ℓ} (t : Bool) → (t ≡ true → C) → (t ≡ false → C) → C
@@ -18,6 +21,13 @@ test-ext true t f g = sym (f refl)
 test-ext false true f g = g refl
 test-ext false false f g = refl
 
+-- tests of numbers that pass together
+pub leb-same : (a b c d : ℕ) → (a ≤ b → c ≤ d) → (c ≤ d → a ≤ b) → leb a b ≡ leb c d
+leb-same a b c d f g = test-ext (leb a b) (leb c d) (λ p. le-leb c d (f (leb-true a b p))) (λ p. le-leb a b (g (leb-true c d p)))
+
+pub ltb-same : (a b c d : ℕ) → (a < b → c < d) → (c < d → a < b) → ltb a b ≡ ltb c d
+ltb-same a b c d f g = test-ext (ltb a b) (ltb c d) (λ p. lt-ltb c d (f (ltb-true a b p))) (λ p. lt-ltb a b (g (ltb-true c d p)))
+
 pub and-split : (s t : Bool) → s && t ≡ true → (s ≡ true) × (t ≡ true)
 and-split true t e = (refl, e)
 and-split false t e = never refl (sym e)
@@ -31,17 +41,10 @@ and-right s t e = and-split s t e .1
 pub and-both : (s t : Bool) → s ≡ true → t ≡ true → s && t ≡ true
 and-both s t p q = rw (p, q)
 
-pub and-true : (t : Bool) → t && true ≡ t
-and-true true = refl
-and-true false = refl
-
-pub and-false : (t : Bool) → t && false ≡ false
-and-false true = refl
-and-false false = refl
-
-pub or-false : (t : Bool) → t || false ≡ t
-or-false true = refl
-or-false false = refl
+-- what the second of two says where the first fails
+pub or-right : (s t : Bool) → s ≡ false → s || t ≡ true → t ≡ true
+or-right true t e h = never refl e
+or-right false t e h = h
 
 pub not-not : (t : Bool) → not (not t) ≡ t
 not-not true = refl

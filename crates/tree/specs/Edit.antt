@@ -14,22 +14,22 @@ use Rattle.node.specs.Cut.{Cut, cut, tooLarge, nowhere, after}
 use Rattle.node.specs.Slot.{MemNode, insertAt, withKey}
 use Rattle.node.specs.declared.info.BTreeInfo.{BTreeInfo}
 use Rattle.tree.specs.Lent.{Lent}
-use Rattle.tree.specs.State.{State, nodeAt, putNode, addNode, withRoot, withInfo, withCounts, withEntries, changed, soiled, withPlace, made}
+use Rattle.tree.specs.State.{State, nodeAt, putNode, addNode, withRoot, withInfo, withCounts, withEntries, changed, markedDirty, withPlace, made}
 use Rattle.tree.specs.Lookup.{Step, leafOf}
 
 -- ---- dirty marks
 
 -- every slot of a way dirty
-unfoldable pub soilWay : List Step → State → State
-soilWay [] s = s
-soilWay (x ∷ xs) s = soilWay xs (putNode s (x .slot) (soiled (nodeAt s (x .slot))))
+unfoldable pub markWay : List Step → State → State
+markWay [] s = s
+markWay (x ∷ xs) s = markWay xs (putNode s (x .slot) (markedDirty (nodeAt s (x .slot))))
 
-unfoldable pub soil : State → ℕ → State
-soil s n = putNode s n (soiled (nodeAt s n))
+unfoldable pub markDirty : State → ℕ → State
+markDirty s n = putNode s n (markedDirty (nodeAt s n))
 
 -- the leaf and the root; in a physical tree the whole way
 unfoldable pub touch : List Step → State → State
-touch p s = cond (s .virtual) (soil (soil s (s .root)) (leafOf p)) (soilWay p s)
+touch p s = cond (s .virtual) (markDirty (markDirty s (s .root)) (leafOf p)) (markWay p s)
 
 -- ---- index keys
 
@@ -54,7 +54,7 @@ indexKeys (x ∷ y ∷ xs) s = setIndexKey (indexKeys (y ∷ xs) s) (x .slot) (x
 
 -- ---- cuts
 
--- 17: n nodes more
+-- n nodes more in the node count
 unfoldable pub moreNodes : State → ℕ → State
 moreNodes s n = withInfo s (withCounts (s .info) (s .info .«key_count») (s .info .«node_count» + n))
 

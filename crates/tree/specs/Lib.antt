@@ -3,6 +3,7 @@ pub mod Format
 pub mod Refusals
 pub mod Lent
 pub mod State
+pub mod Workspace
 pub mod Hold
 pub mod Load
 pub mod Lookup
@@ -10,3 +11,11 @@ pub mod Edit
 pub mod Upsert
 pub mod Remove
 pub mod Omap
+pub mod NodeLaws
+pub mod EntryLaws
+pub mod StateLaws
+pub mod LoadLaws
+pub mod EditLaws
+pub mod HoldLaws
+pub mod LeafLaws
+pub mod OpenLaws

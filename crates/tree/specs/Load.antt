@@ -29,26 +29,27 @@ pub record Bounds : Type 0 where
 unfoldable pub unbounded : Bounds
 unbounded = record { lower = []; upper = [] }
 
+-- the key of a bound
 unfoldable pub boundKey : List (List ℕ) → List ℕ
 boundKey [] = []
 boundKey (k ∷ ks) = k
 
 -- the higher of a lower bound and a key
-unfoldable pub higher : ℕ → List (List ℕ) → List ℕ → List (List ℕ)
-higher o [] k = k ∷ []
-higher o (b ∷ bs) k = cond (less o b k) (k ∷ []) (b ∷ bs)
+unfoldable pub tighterLower : ℕ → List (List ℕ) → List ℕ → List (List ℕ)
+tighterLower o [] k = k ∷ []
+tighterLower o (b ∷ bs) k = cond (less o b k) (k ∷ []) (b ∷ bs)
 
 -- the lower of an upper bound and a key
-unfoldable pub lowerOf : ℕ → List (List ℕ) → List ℕ → List (List ℕ)
-lowerOf o [] k = k ∷ []
-lowerOf o (b ∷ bs) k = cond (less o k b) (k ∷ []) (b ∷ bs)
+unfoldable pub tighterUpper : ℕ → List (List ℕ) → List ℕ → List (List ℕ)
+tighterUpper o [] k = k ∷ []
+tighterUpper o (b ∷ bs) k = cond (less o k b) (k ∷ []) (b ∷ bs)
 
 -- child i is bounded by its index key and the next; a last child has its parent's upper bound
 unfoldable pub childBounds : ℕ → Bounds → List Entry → ℕ → Bounds
 childBounds o bs es i =
     record {
-      lower = higher o (bs .lower) (keyAt es i);
-      upper = cond (ltb (suc i) (length es)) (lowerOf o (bs .upper) (keyAt es (suc i))) (bs .upper);
+      lower = tighterLower o (bs .lower) (keyAt es i);
+      upper = cond (ltb (suc i) (length es)) (tighterUpper o (bs .upper) (keyAt es (suc i))) (bs .upper);
     }
 
 -- ---- a block read
@@ -59,6 +60,7 @@ loadBlock l o p bs a =
     check refusal.address (inImage l a)
     >> readNode o p (boundKey (bs .lower)) (boundKey (bs .upper)) (blockAt l a)
 
+-- a root stands alone; a child below its parent, with the tree's fixed lengths
 unfoldable pub rootPlace : ℕ → Place
 rootPlace id = record { root = true; oid = id; parent = 0; ksize = 0; vsize = 0; bounded = false }
 
@@ -78,6 +80,7 @@ rootHolds l a virtual d =
 
 -- ---- the object map: a physical pair tree with keys and values of 16, its nodes read without slots
 
+-- the number of a child on disk
 unfoldable pub childNumber : Val → ℕ
 childNumber ghost = 0
 childNumber (leaf v) = 0
@@ -167,7 +170,7 @@ pub record At : Type 0 where
   pub state : State
   pub slot : ℕ
 
--- child i of slot n: loaded already, or loaded now into the next slot
+-- child i of slot n: loaded already, or loaded now into the next slot. (An index holds children only: `holdTogether`)
 unfoldable pub loadChild : Lent → State → Bounds → ℕ → ℕ → Result At
 loadChild l s bs n i = child (valAt es i)
   where

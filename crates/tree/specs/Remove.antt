@@ -12,7 +12,7 @@ use Rattle.node.specs.Find.{placeOf, isThere}
 use Rattle.node.specs.Fit.{fits}
 use Rattle.node.specs.Slot.{MemNode, removeAt}
 use Rattle.tree.specs.Lent.{Lent}
-use Rattle.tree.specs.State.{State, nodeAt, putNode, withRoot, withInfo, withCounts, withEntries, changed, soiled, died, withPlace, withLevel}
+use Rattle.tree.specs.State.{State, nodeAt, putNode, withRoot, withInfo, withCounts, withEntries, changed, markedDirty, markedDead, withPlace, withLevel}
 use Rattle.tree.specs.Hold.{lentHolds}
 use Rattle.tree.specs.Load.{unbounded, At, loadChild}
 use Rattle.tree.specs.Lookup.{Step, Way, way, leafOf}
@@ -36,7 +36,7 @@ dropNode x n d = emptied (nodeAt s n .entries)
     emptied : List Entry → Dropped
     emptied [] =
         record {
-          state = putNode (putNode s n (died (nodeAt s n))) (x .slot) (changed p (removeAt (x .child) (p .entries)));
+          state = putNode (putNode s n (markedDead (nodeAt s n))) (x .slot) (changed p (removeAt (x .child) (p .entries)));
           nodes = suc (d .nodes);
         }
     emptied (e ∷ es) = d
@@ -60,8 +60,8 @@ unfoldable pub handedDown : State → ℕ → State
 handedDown s c =
     let old : MemNode = nodeAt s (s .root) in
     let new : MemNode = nodeAt s c in
-    let s′ : State = putNode s (s .root) (died (withPlace old (old .block) (new .id))) in
-    withInfo (withRoot (putNode s′ c (soiled (withPlace new (new .block) (old .id)))) c)
+    let s′ : State = putNode s (s .root) (markedDead (withPlace old (old .block) (new .id))) in
+    withInfo (withRoot (putNode s′ c (markedDirty (withPlace new (new .block) (old .id)))) c)
     (withCounts (s .info) (s .info .«key_count») (s .info .«node_count» - 1))
 
 -- an index root with one child

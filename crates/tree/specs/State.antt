@@ -79,11 +79,11 @@ withEntries m es = record { level = m .level; entries = es; block = m .block; id
 unfoldable pub changed : MemNode → List Entry → MemNode
 changed m es = record { level = m .level; entries = es; block = m .block; id = m .id; dirty = true; dead = m .dead }
 
-unfoldable pub soiled : MemNode → MemNode
-soiled m = changed m (m .entries)
+unfoldable pub markedDirty : MemNode → MemNode
+markedDirty m = changed m (m .entries)
 
-unfoldable pub died : MemNode → MemNode
-died m = record { level = m .level; entries = m .entries; block = m .block; id = m .id; dirty = m .dirty; dead = true }
+unfoldable pub markedDead : MemNode → MemNode
+markedDead m = record { level = m .level; entries = m .entries; block = m .block; id = m .id; dirty = m .dirty; dead = true }
 
 unfoldable pub withPlace : MemNode → List ℕ → List ℕ → MemNode
 withPlace m block id = record { level = m .level; entries = m .entries; block = block; id = id; dirty = m .dirty; dead = m .dead }

@@ -8,7 +8,7 @@ use Rattle.node.specs.Result.{Result, ok, refused, _>>=_, _>>_, check}
 use Rattle.node.specs.Refusals as refusal
 use Rattle.node.specs.Entry.{Entry, Val, ghost, leaf, disk, mem, valueLength}
 use Rattle.node.specs.Find.{placeOf, isThere}
-use Rattle.node.specs.Slot.{insertAt, withValue}
+use Rattle.node.specs.Slot.{insertAt, withValue, isChild}
 use Rattle.node.specs.Fit.{greater}
 use Rattle.node.specs.declared.info.BTreeInfo.{BTreeInfo}
 use Rattle.tree.specs.Lent.{Lent}
@@ -43,9 +43,9 @@ upsertOn l k v w =
     check refusal.count (isThere (s .order) k (nodeAt s n .entries) || ltb (s .info .«key_count») (2 ^ 64 - 1))
     >> cuts l [] (w .steps) (indexKeys (w .steps) (touch (w .steps) (putInLeaf s n k v)))
 
--- 12: key or value not the fixed length, or the key not 16 bytes in pair order
+-- 12: key or value not the fixed length, or the key not 16 bytes in pair order. (What is put is a ghost or bytes, and no child)
 unfoldable pub entryFits : State → List ℕ → Val → Bool
-entryFits s k v = keyFits s k && valueFits s v
+entryFits s k v = keyFits s k && valueFits s v && not (isChild v)
 
 -- load; 17; cuts
 unfoldable pub upserted : Lent → State → List ℕ → Val → Result State

@@ -3,8 +3,8 @@ use borrow.Author.Needs.{needs}
 use native.Mathlib.Omega.{arith}
 use mathlib.Core.Path.{sym, _∙_}
 use Rattle.node.specs.ReadLaws.{part-window}
-use Rattle.node.specs.KeysLaws.{sound-key}
-use Rattle.node.specs.AdoptLaws.{key-long, ghost-record, leaf-record, child-record, ghost-next, leaf-next, child-next, next-room, leaf-start, leaf-end, leaf-room, child-end}
+use Rattle.node.specs.KeysLaws.{sound-key, child-room}
+use Rattle.node.specs.AdoptLaws.{key-long, ghost-record, leaf-record, child-record, ghost-next, leaf-next, child-next, next-room, leaf-start, leaf-end, leaf-room}
 use Rattle.node.proofs.adopt.put_entry.Statement.{statement}
 use Rattle.node.proofs.adopt.put_entry.Tie as tie
 
@@ -72,7 +72,7 @@ put-head-requires-3 : tie.Need-put-head-requires-3
 put-head-requires-3 c κs = omega (arith, key-long _ _ _ _ (c .before .before .before .before .before .before .before .before .before .span-at .ensures) (c .before .before .before .before .before .before .before .before .before .before .before .before .pre .0) (c .before .before .before .before .before .before .before .before .before .before .before .before .pre .1 .0) _ (c .key-in3 .ensures), next-room _ _ _ _ (c .before .before .before .before .before .before .before .before .before .span-at .ensures) (c .before .before .before .before .before .before .before .before .before .before .before .before .pre .0) (c .before .before .before .before .before .before .before .before .before .before .before .before .pre .1 .0) _ _ (c .before .before .before .before .before .before .before .before .before .before .before .before .pre .1 .1))
 
 u64-at-requires : tie.Need-u64-at-requires
-u64-at-requires c κs = child-end _ _ _ _ (c .before .before .before .before .before .before .before .before .before .before .before .before .before .span-at .ensures) (c .before .before .before .before .before .before .before .before .before .before .before .before .before .before .before .before .pre .0) (c .before .before .before .before .before .before .before .before .before .before .before .before .before .before .before .before .pre .1 .0) (sym (c .before .before .before .before .before .before .before .before .before .before .before .is-ghost .ensures) ∙ (c .before .before .before .before .before .before .before .before .before .before .if1 .left)) (c .before .before .before .before .before .before .if2 .left)
+u64-at-requires c κs = child-room _ _ _ _ (c .before .before .before .before .before .before .before .before .before .before .before .before .before .span-at .ensures) (c .before .before .before .before .before .before .before .before .before .before .before .before .before .before .before .before .pre .0) (c .before .before .before .before .before .before .before .before .before .before .before .before .before .before .before .before .pre .1 .0) (c .before .before .before .before .before .before .if2 .left)
 
 put-u64-requires : tie.Need-put-u64-requires
 put-u64-requires c κs = omega (arith, child-next _ _ _ _ (c .before .before .before .before .before .before .before .before .before .before .before .before .before .before .span-at .ensures) (c .before .before .before .before .before .before .before .before .before .before .before .before .before .before .before .before .before .pre .0) (c .before .before .before .before .before .before .before .before .before .before .before .before .before .before .before .before .before .pre .1 .0) (c .before .before .before .before .before .before .before .before .before .before .before .before .before .before .before .before .before .args .at) (sym (c .before .before .before .before .before .before .before .before .before .before .before .before .is-ghost .ensures) ∙ (c .before .before .before .before .before .before .before .before .before .before .before .if1 .left)) (c .before .before .before .before .before .before .before .if2 .left), (c .before .before .before .before .before .before .before .before .before .before .before .before .before .before .before .before .before .pre .1 .1), (c .before .before .before .before .put-head3 .kept .0))

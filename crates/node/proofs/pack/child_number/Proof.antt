@@ -1,5 +1,4 @@
 -- `node::pack::child_number` meets its contract. Assumes nothing.
-use Prim.Native.Nat.{_-_}
 use Rattle.node.specs.PackStepLaws.{child-past, child-no-id, child-id, child-no-block, child-block}
 use borrow.Author.Needs.{needs}
 use Rattle.node.proofs.pack.child_number.Statement.{statement}

@@ -1,5 +1,4 @@
 -- `node::pack::fill` meets its contract. Assumes nothing.
-use Prim.Native.Nat.{_-_}
 use native.Mathlib.Omega.{arith}
 use Rattle.node.specs.PackBlockLaws.{few, space-fit, rooms, fill-inner, fill-root}
 use borrow.Author.Needs.{needs}

@@ -1,5 +1,4 @@
 -- `node::pack::node_flags` meets its contract. Assumes nothing.
-use Prim.Native.Nat.{_-_}
 use Rattle.node.specs.PackStepLaws.{flags-law}
 use borrow.Author.Needs.{needs}
 use Rattle.node.proofs.pack.node_flags.Statement.{statement}

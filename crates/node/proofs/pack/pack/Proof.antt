@@ -1,5 +1,4 @@
 -- `node::pack::pack` meets its contract. Assumes nothing.
-use Prim.Native.Nat.{_-_}
 use Rattle.node.specs.PackBlockLaws.{part-size, part-packs, part-law}
 use borrow.Author.Needs.{needs}
 use Rattle.node.proofs.pack.pack.Statement.{statement}

@@ -1,5 +1,4 @@
 -- `node::pack::pack_block` meets its contract. Assumes nothing.
-use Prim.Native.Nat.{_-_}
 use Rattle.node.specs.PackBlockLaws.{block-law}
 use borrow.Author.Needs.{needs}
 use Rattle.node.proofs.pack.pack_block.Statement.{statement}

@@ -1,5 +1,4 @@
 -- `node::pack::put_lists` meets its contract. Assumes nothing.
-use Prim.Native.Nat.{_-_}
 use Rattle.node.specs.PackStepLaws.{lists-law}
 use borrow.Author.Needs.{needs}
 use Rattle.node.proofs.pack.put_lists.Statement.{statement}

@@ -1,5 +1,4 @@
 -- `node::pack::put_off` meets its contract. Assumes nothing.
-use Prim.Native.Nat.{_-_}
 use Rattle.node.specs.PackStepLaws.{off-law}
 use borrow.Author.Needs.{needs}
 use Rattle.node.proofs.pack.put_off.Statement.{statement}

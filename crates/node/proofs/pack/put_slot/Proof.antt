@@ -1,5 +1,4 @@
 -- `node::pack::put_slot` meets its contract. Assumes nothing.
-use Prim.Native.Nat.{_-_}
 use Rattle.node.specs.PackStepLaws.{room-8, room-4, slot-loc, slot-off}
 use borrow.Author.Needs.{needs}
 use Rattle.node.proofs.pack.put_slot.Statement.{statement}

@@ -1,5 +1,4 @@
 -- `node::pack::put_value` meets its contract. Assumes nothing.
-use Prim.Native.Nat.{_-_}
 use Rattle.node.specs.PackStepLaws.{value-leaf, value-ghost, value-disk, value-mem, child-read, child-room}
 use borrow.Author.Needs.{needs}
 use Rattle.node.proofs.pack.put_value.Statement.{statement}

@@ -1,5 +1,4 @@
 -- `node::pack::slot_width` meets its contract. Assumes nothing.
-use Prim.Native.Nat.{_-_}
 use borrow.Author.Needs.{needs}
 use Rattle.node.specs.PackStepLaws.{width-8, width-4}
 use Rattle.node.proofs.pack.slot_width.Statement.{statement}

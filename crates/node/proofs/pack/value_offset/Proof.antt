@@ -1,5 +1,4 @@
 -- `node::pack::value_offset` meets its contract. Assumes nothing.
-use Prim.Native.Nat.{_-_}
 use borrow.Author.Needs.{needs}
 use Rattle.node.specs.PackStepLaws.{offset-ghost, offset-value}
 use Rattle.node.proofs.pack.value_offset.Statement.{statement}

@@ -1,8 +1,7 @@
 -- `node::read::entries_hold` meets its contract. Assumes nothing.
 use borrow.Author.Needs.{needs}
-use Prim.Native.Nat.{ℕ, _-_, _≤_}
-use mathlib.Core.Path.{_≡_, sym, ap, _∙_}
-use mathlib.Core.Bool.{Bool}
+use Prim.Native.Nat.{_-_, _≤_}
+use mathlib.Core.Path.{_≡_, sym, _∙_}
 use borrow.Author.Tests.{not-false}
 use Rattle.node.specs.ReadLaws.{restHolds, tail-room-56, entries-none-root, entries-none-other, entries-whole, rest-start, rest-outside, rest-long, rest-turn, rest-done}
 use Rattle.node.proofs.read.entries_hold.Statement.{statement}

@@ -1,6 +1,5 @@
 -- `node::read::level_holds` meets its contract. Assumes nothing.
 use borrow.Author.Needs.{needs}
-use mathlib.Core.Path.{sym}
 use Rattle.node.proofs.read.level_holds.Statement.{statement}
 use Rattle.node.proofs.read.level_holds.Tie as tie
 

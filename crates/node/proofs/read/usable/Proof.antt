@@ -1,6 +1,5 @@
 -- `node::read::usable` meets its contract. Assumes nothing.
 use borrow.Author.Needs.{needs}
-use mathlib.Core.Path.{sym, ap, _∙_}
 use Rattle.node.specs.Order.{keyed}
 use Rattle.node.proofs.read.usable.Statement.{statement}
 use Rattle.node.proofs.read.usable.Tie as tie

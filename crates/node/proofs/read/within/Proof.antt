@@ -1,8 +1,8 @@
 -- `node::read::within` meets its contract. Assumes nothing.
 use borrow.Author.Needs.{needs}
 use native.Mathlib.Omega.{arith}
-use Prim.Native.Nat.{ℕ, _-_, _≤_}
-use mathlib.Core.Path.{_≡_, refl, sym, _∙_}
+use Prim.Native.Nat.{_-_, _≤_}
+use mathlib.Core.Path.{_≡_, refl}
 use Rattle.node.specs.Read.{entriesFrom, keysWithin}
 use Rattle.node.specs.KeysLaws.{sound-key, within-fails, within-turn, within-done}
 use Rattle.node.proofs.read.within.Statement.{statement}

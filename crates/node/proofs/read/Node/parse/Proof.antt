@@ -1,7 +1,7 @@
 -- `node::read::Node::parse` meets its contract. Assumes nothing.
 use borrow.Author.Needs.{needs}
 use Rattle.node.specs.ReadLaws.{tail-room, node-parts}
-use mathlib.Core.Path.{refl, ap}
+use mathlib.Core.Path.{ap}
 use Rattle.seal.specs.declared.obj.ObjHeader.{ObjHeader}
 use Rattle.node.proofs.read.Node.parse.Statement.{statement}
 use Rattle.node.proofs.read.Node.parse.Tie as tie

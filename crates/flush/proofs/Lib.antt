@@ -1,0 +1,2 @@
+-- What the proofs share: the rule of a table.
+mod Table
