@@ -4,6 +4,7 @@ pub mod Checksum
 pub mod Obj
 pub mod WindowLaws
 pub mod FieldLaws
+pub mod WordLaws
 pub mod MoveLaws
 pub mod PartLaws
 pub mod ChecksumLaws

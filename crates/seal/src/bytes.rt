@@ -57,8 +57,16 @@ pub fn put_u64(s: &mut [u8], i: usize, x: u64)
     put_u32(s, i + 4, x / 4294967296);
 }
 
-// All of `src`, stored in `dst` from `at` on.
-pub fn copy_to(src: &[u8], dst: &mut [u8], at: usize)
+// 8 bytes of `src` from k on, stored in `dst` from p on: one load and one store.
+fn copy_word(src: &[u8], k: usize, dst: &mut [u8], p: usize)
+    requires { ⌜ (k + 8 ≤ length (now src)) × (p + 8 ≤ length (now dst)) ⌝ }
+    ensures { λ _. ⌜ now (dst .exit) ≡ splice (now (dst .entry)) p (window k 8 (now (src .entry))) ⌝ }
+{
+    put_u64(dst, p, u64_at(src, k));
+}
+
+// All of a short `src`, byte by byte.
+fn copy_bytes(src: &[u8], dst: &mut [u8], at: usize)
     requires { ⌜ at + length (now src) ≤ length (now dst) ⌝ }
     ensures { λ _. ⌜ now (dst .exit) ≡ splice (now (dst .entry)) at (now (src .entry)) ⌝ }
 {
@@ -67,6 +75,24 @@ pub fn copy_to(src: &[u8], dst: &mut [u8], at: usize)
         dst[at + k] = src[k];
         k += 1;
     }
+}
+
+// All of `src`, stored in `dst` from `at` on. The last word may overlap the one before: then no single bytes are left.
+pub fn copy_to(src: &[u8], dst: &mut [u8], at: usize)
+    requires { ⌜ at + length (now src) ≤ length (now dst) ⌝ }
+    ensures { λ _. ⌜ now (dst .exit) ≡ splice (now (dst .entry)) at (now (src .entry)) ⌝ }
+{
+    if src.len() < 8 {
+        copy_bytes(src, dst, at);
+        return;
+    }
+    let last = src.len() - 8;
+    let mut k = 0;
+    while k < last {
+        copy_word(src, k, dst, at + k);
+        k += 8;
+    }
+    copy_word(src, last, dst, at + last);
 }
 
 // n bytes from a down to b, the first first: what is overwritten has been moved already.
