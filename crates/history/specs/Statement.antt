@@ -188,5 +188,5 @@ pub record Holds (g : Start) (ts : List Turn) : Type 0 where
       → Flushes g (plains (g .disk .order) ts (g .state) (entriesOf (walkFrom (g .disk) (g .root)))) (passes ts (g .state)) l p f
 
 -- demand 3
-pub Demand3 : Type 0
+abbrev pub Demand3 : Type 0
 Demand3 = (g : Start) (ts : List Turn) → Begins g → AllLend g ts (g .state) → Holds g ts
