@@ -1,15 +1,14 @@
--- The cut of a node that does not fit (document 01, "Edits"; `split_up` of write/tree.rs).
+-- The cut of a node that does not fit (RULES: cut; `split_up` of write/tree.rs).
 use mathlib.Core.List.{List, [], _∷_}
-use mathlib.Core.Bool.{Bool, false, cond, _&&_, _||_, not}
-use Prim.Native.Nat.{ℕ, zero, suc, _+_, _*_, _-_, _/_}
+use mathlib.Core.Bool.{Bool, false, cond, _&&_, not}
+use Prim.Native.Nat.{ℕ, zero, suc, _+_, _-_, _/_}
 use lib.ListN.{length, take, drop}
-use lib.Dec.{leb}
+use lib.Dec.{leb, ltb}
+use Rattle.node.specs.Result.{Result, ok, refused, _>>=_, _>>_, check}
+use Rattle.node.specs.Refusals as refusal
 use Rattle.node.specs.Entry.{Entry, valueLength}
-use Rattle.node.specs.Records.{entriesOf}
-use Rattle.node.specs.Fit.{fits, fitsSums, greater, lengthsOf}
+use Rattle.node.specs.Fit.{fits, greater}
 use Rattle.node.specs.declared.info.BTreeInfo.{BTreeInfo}
-use Rattle.node.specs.declared.fit.Lengths.{Lengths}
-use Rattle.node.specs.declared.cut.Left.{Left}
 use Rattle.node.specs.declared.cut.Answer.{Answer}
 use Rattle.node.specs.declared.cut.Answer.the-variants.{TooLarge, Nowhere, After}
 
@@ -48,53 +47,17 @@ cutPlace fit es =
     let c : ℕ = shorten fit es (keptWithin (length es) (leftPart (size es / 2) es)) in
     lengthen fit es (length es - 1 - c) c
 
--- a node that does not fit: 13 for a single entry, 14 where a part does not fit, or the place
-pub data Cut : Type 0 where
-  tooLarge : Cut
-  nowhere : Cut
-  after : ℕ → Cut
+-- the cut of a node that does not fit, the left part's length: 13 a single entry; 14 no cut leaves two fitting parts
+unfoldable pub cut : BTreeInfo → ℕ → List Entry → Result ℕ
+cut t level es = do
+  let fit : List Entry → Bool = fits t false level
+  let c : ℕ = cutPlace fit es
+  check refusal.single (ltb 1 (length es))
+  check refusal.noCut (fit (take c es) && fit (drop c es))
+  ok c
 
-unfoldable pub cut : BTreeInfo → ℕ → List Entry → Cut
-cut t level es =
-    let fit : List Entry → Bool = fits t false level in
-    let c : ℕ = cutPlace fit es in
-    cond (leb (length es) 1) tooLarge (cond (fit (take c es) && fit (drop c es)) (after c) nowhere)
-
--- what an answer of the code means: `TooLarge` is 13, `Nowhere` is 14
-unfoldable pub cutMeans : Answer → Cut
-cutMeans TooLarge = tooLarge
-cutMeans Nowhere = nowhere
-cutMeans (After place at) = after place
-
--- the place of an answer, and the byte of the slot at which it says that the right part starts
-unfoldable pub placeOf : Answer → ℕ
-placeOf TooLarge = 0
-placeOf Nowhere = 0
-placeOf (After place at) = place
-
-unfoldable pub startOf : Answer → ℕ
-startOf TooLarge = 0
-startOf Nowhere = 0
-startOf (After place at) = at
-
--- ---- what the code's walk computes
-
--- the left part of the cut of n records
-unfoldable pub leftOf : BTreeInfo → ℕ → ℕ → List ℕ → Left
-leftOf t level n l =
-    let c : ℕ = cutPlace (fits t false level) (entriesOf n l) in
-    record { place = c; lengths = lengthsOf t c l }
-
--- whether the left part takes one entry more, by sums: it fits with it, and either it is at most half then, or the right part does not fit yet.
--- The size of c records that take b bytes of a slot is b + 4 · c
-unfoldable pub furtherSums : BTreeInfo → ℕ → ℕ → Lengths → Left → Lengths → Bool
-furtherSums t level n whole left next =
-    fitsSums t false level (left .place + 1) (next .keys + next .values)
-    && (leb (next .at + 4 * (left .place + 1)) ((whole .at + 4 * n) / 2)
-    || not (fitsSums t false level (n - left .place) (whole .keys + whole .values - (left .lengths .keys + left .lengths .values))))
-
--- whether both parts fit, by sums
-unfoldable pub partsFit : BTreeInfo → ℕ → ℕ → Lengths → Left → Bool
-partsFit t level n whole left =
-    fitsSums t false level (left .place) (left .lengths .keys + left .lengths .values)
-    && fitsSums t false level (n - left .place) (whole .keys + whole .values - (left .lengths .keys + left .lengths .values))
+-- what an answer of the code means
+unfoldable pub cutMeans : Answer → Result ℕ
+cutMeans TooLarge = refused refusal.single
+cutMeans Nowhere = refused refusal.noCut
+cutMeans (After place at) = ok place

@@ -1,7 +1,7 @@
 -- Entries: a key and what it holds.
 use mathlib.Core.List.{List, [], _∷_}
-use mathlib.Core.Bool.{Bool, true, false, cond, _&&_}
-use Prim.Native.Nat.{ℕ, _+_}
+use mathlib.Core.Bool.{Bool, true, _&&_}
+use Prim.Native.Nat.{ℕ}
 use lib.ListN.{length}
 use Rattle.seal.specs.Bytes.{bytesOf}
 use Rattle.node.specs.Order.{less}

@@ -1,13 +1,10 @@
--- Finding a key among entries in key order (document 01, "Edits": the way to a key).
+-- Finding a key among entries in key order (RULES: way).
 use mathlib.Core.List.{List, [], _∷_}
 use mathlib.Core.Bool.{Bool, false, cond, not}
 use Prim.Native.Nat.{ℕ, suc, _-_}
 use Rattle.node.specs.Order.{less}
 use lib.ListN.{length, take, drop, getD}
 use Rattle.node.specs.Entry.{Entry, Val, ghost}
-use Rattle.node.specs.Records.{entriesOf, recordsLength}
-use Rattle.node.specs.declared.slot.Found.{Found}
-use Rattle.node.specs.declared.slot.Last.{Last}
 
 -- the place of a key: how many leading entries have a key below it
 unfoldable pub placeOf : ℕ → List ℕ → List Entry → ℕ
@@ -23,18 +20,6 @@ isThere o k (e ∷ es) = cond (less o (e .key) k) (isThere o k es) (not (less o 
 unfoldable pub notAbove : ℕ → List ℕ → List Entry → ℕ
 notAbove o k [] = 0
 notAbove o k (e ∷ es) = cond (less o k (e .key)) 0 (suc (notAbove o k es))
-
--- the place of a key among the n records of a slot, where it lies, and whether the key is there
-unfoldable pub foundIn : ℕ → List ℕ → ℕ → List ℕ → Found
-foundIn o k n l =
-    let i : ℕ = placeOf o k (entriesOf n l) in
-    record { index = i; at = recordsLength i l; found = isThere o k (entriesOf n l) }
-
--- how many keys of the n records of a slot are not above a key, and where the last of these lies, else the first of all
-unfoldable pub lastIn : ℕ → List ℕ → ℕ → List ℕ → Last
-lastIn o k n l =
-    let i : ℕ = notAbove o k (entriesOf n l) in
-    record { count = i; at = recordsLength (i - 1) l }
 
 -- the way to a key: the last key not above it, else child 0
 unfoldable pub wayIndex : ℕ → List ℕ → List Entry → ℕ

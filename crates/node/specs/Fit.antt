@@ -1,13 +1,12 @@
--- Fitting (document 01, "Packing"): data space, contents slots, padding.
+-- Fitting (RULES: packing): data space, contents slots, padding.
 use mathlib.Core.List.{List, [], _∷_}
 use mathlib.Core.Bool.{Bool, true, false, cond, _&&_}
 use Prim.Native.Nat.{ℕ, _+_, _-_, _*_, _/_, _%_, _^_, _≤_, _<_}
 use lib.ListN.{length}
 use lib.Dec.{leb, eqb}
+use Rattle.node.specs.Obj.{nodeHeader, infoSize}
 use Rattle.node.specs.Entry.{Entry, valueLength}
-use Rattle.node.specs.Records.{recordAt, recordsLength, entriesOf}
 use Rattle.node.specs.declared.info.BTreeInfo.{BTreeInfo}
-use Rattle.node.specs.declared.fit.Lengths.{Lengths}
 
 -- whether the flag, a power of two, is set in a word
 unfoldable pub flag : ℕ → ℕ → Bool
@@ -27,7 +26,7 @@ padded t n = cond (flag (t .flags) 0x40) n (align8 n)
 
 -- data space: size − 56, less 40 in a root
 unfoldable pub dataSpace : ℕ → Bool → ℕ
-dataSpace size root = size - 56 - cond root 40 0
+dataSpace size root = size - nodeHeader - cond root infoSize 0
 
 -- whether lengths are fixed: the tree's key length is not 0
 unfoldable pub fixed : BTreeInfo → Bool
@@ -80,24 +79,9 @@ fitsSums t root level n room =
 unfoldable pub fits : BTreeInfo → Bool → ℕ → List Entry → Bool
 fits t root level es = fitsSums t root level (length es) (roomOf t es)
 
--- the numbers of a tree that the code computes with: a node size that document 01 allows, stored lengths that are u32
+-- the numbers of a tree that the code computes with: a node size that the rules allow, stored lengths that are u32
 pub record Sized (t : BTreeInfo) : Type 0 where
   pub least : 512 ≤ t .«node_size»
   pub most : t .«node_size» ≤ 65536
   pub key : t .«key_size» < 2 ^ 32
   pub value : t .«val_size» < 2 ^ 32
-
--- ---- what the code's pass over the records computes
-
--- what the first n records of a slot take
-unfoldable pub lengthsOf : BTreeInfo → ℕ → List ℕ → Lengths
-lengthsOf t n l = record { at = recordsLength n l; keys = keysLength t (entriesOf n l); values = valuesLength t (entriesOf n l) }
-
--- the same with the next record
-unfoldable pub longerOf : BTreeInfo → List ℕ → Lengths → Lengths
-longerOf t l s =
-    record {
-      at = recordAt l (s .at) .next;
-      keys = s .keys + padded t (recordAt l (s .at) .klen);
-      values = s .values + padded t (recordAt l (s .at) .vlen);
-    }

@@ -1,6 +1,6 @@
--- What the contracts of `node` cite, and laws that the crates above cite.
--- Definitions: answers, orders, entries, records in a slot, fitting, cutting, reading, packing.
+-- One node: answers, orders, entries, records in a slot, fitting, cutting, reading, packing.
 pub mod Bytes
+pub mod Obj
 pub mod Result
 pub mod Refusals
 pub mod Order
@@ -12,35 +12,7 @@ pub mod Read
 pub mod Slot
 pub mod Find
 pub mod Pack
-pub mod Packable
--- Laws.
-pub mod ResultLaws
-pub mod TestLaws
-pub mod ByteLaws
-pub mod OrderSteps
-pub mod OrderLaws
-pub mod RisingLaws
-pub mod SpliceLaws
-pub mod RecordsLaws
-pub mod FitLaws
-pub mod CutLaws
-pub mod ReadLaws
-pub mod KeysLaws
-pub mod LoadLaws
-pub mod AdoptLaws
-pub mod AcceptedLaws
-pub mod HeadLaws
-pub mod SlotLaws
-pub mod FindLaws
-pub mod PlaceLaws
-pub mod StandsLaws
-pub mod LayoutLaws
-pub mod HeaderLaws
-pub mod EntryLaws
-pub mod LoadsBack
-pub mod PackSteps
-pub mod PackLaws
-pub mod PackStepLaws
-pub mod PackBlockLaws
-pub mod FoundLaws
-pub mod LoadedLaws
+-- What only internal contracts cite, or a theorem assumes.
+pub mod internal
+-- Laws: checked by the machine, nothing to believe.
+pub mod laws

@@ -1,4 +1,4 @@
--- Orders of keys (document 01, "What is lent"): pair order and byte order.
+-- Orders of keys (RULES: orders): pair order and byte order.
 use mathlib.Core.List.{List, [], _∷_, _++_}
 use mathlib.Core.Bool.{Bool, true, false, cond, _&&_, _||_}
 use Prim.Native.Nat.{ℕ}

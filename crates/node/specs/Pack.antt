@@ -1,4 +1,4 @@
--- Packing a node that fits (document 01, "Packing"; `build` of btree_write.rs): a block as a list of bytes.
+-- Packing a node that fits (RULES: packing; `build` of btree_write.rs): a block as a list of bytes.
 use mathlib.Core.List.{List, [], _∷_, _++_}
 use mathlib.Core.Bool.{Bool, cond}
 use Prim.Native.Nat.{ℕ, _+_, _-_}
@@ -8,13 +8,13 @@ use Rattle.seal.specs.Bytes.{bytesOf}
 use Rattle.seal.specs.Checksum.{sealed}
 use Rattle.node.specs.Entry.{Entry, Val, ghost, leaf, disk, mem, valueLength, valueBytes}
 use Rattle.node.specs.Fit.{padded, dataSpace, fixed, tocLength, keysLength, valuesLength}
-use Rattle.node.specs.Slot.{headAt}
+use Rattle.node.specs.Slot.{headAt, nodeOf, numberOf}
 use Rattle.node.specs.declared.info.BTreeInfo.{BTreeInfo}
 use Rattle.node.specs.declared.build.NodeBuild.{NodeBuild}
 
--- the number of the child in a slot: of a virtual tree its id, else its block; 0 where there is no such slot
+-- the number of the child in a slot, by the slot's words alone; 0 where it has none, or there is no such slot
 unfoldable pub childNumber : List ℕ → Bool → ℕ → ℕ
-childNumber heads byId s = cond byId (headAt heads s .id) (headAt heads s .block)
+childNumber heads byId s = numberOf byId (nodeOf (headAt heads s) [])
 
 unfoldable pub numberedValue : (ℕ → ℕ) → Val → Val
 numberedValue f ghost = ghost

@@ -1,14 +1,15 @@
--- Reading a node's block: the Reference's fields, and document 01's load line from 3 to 9.
+-- Reading a node's block: the Reference's fields, and the load line from 3 to 9 (RULES: load-3 to load-9).
 use mathlib.Core.List.{List, [], _∷_}
 use mathlib.Core.Bool.{Bool, true, cond, _&&_, _||_, not}
-use mathlib.Core.Path.{_≡_}
-use Prim.Native.Nat.{ℕ, zero, suc, _+_, _-_, _*_, _%_, _≤_}
+use Prim.Native.Nat.{ℕ, zero, suc, _+_, _-_, _*_}
 use lib.ListN.{length}
 use lib.Dec.{leb, eqb}
 use Rattle.seal.specs.Bytes.{window, u16At, u32At, u64At}
 use Rattle.seal.specs.Checksum.{verified}
+use Rattle.seal.specs.Obj as obj
 use Rattle.node.specs.Result.{Result, ok, refused, _>>_, check}
 use Rattle.node.specs.Refusals as refusal
+use Rattle.node.specs.Obj.{btn-flags, btn-level, btn-nkeys, btn-table-off, btn-table-len, nodeHeader, infoSize, isNode}
 use Rattle.node.specs.Order.{less, keyed}
 use Rattle.node.specs.Entry.{Entry, Val, ghost, leaf, disk, rising, every}
 use Rattle.node.specs.Fit.{flag, dataSpace}
@@ -22,7 +23,7 @@ use Rattle.node.specs.declared.read.Read.the-variants.{Refused, Loaded}
 -- btree_info_t, the last 40 bytes of a root
 unfoldable pub infoAt : List ℕ → BTreeInfo
 infoAt b =
-    let i : ℕ = length b - 40 in
+    let i : ℕ = length b - infoSize in
     record {
       flags = u32At b i;
       «node_size» = u32At b (i + 4);
@@ -38,16 +39,16 @@ infoAt b =
 unfoldable pub parsed : Place → List ℕ → Node
 parsed p b =
     record {
-      oid = u64At b 8;
-      xid = u64At b 16;
-      otype = u32At b 24;
-      subtype = u32At b 28;
-      flags = u16At b 32;
-      level = u16At b 34;
-      nkeys = u32At b 36;
-      toc = 56 + u16At b 40;
-      keys = 56 + u16At b 40 + u16At b 42;
-      vals = length b - cond (p .root) 40 0;
+      oid = obj.valueOf obj.o-oid b;
+      xid = obj.valueOf obj.o-xid b;
+      otype = obj.valueOf obj.o-type b;
+      subtype = obj.valueOf obj.o-subtype b;
+      flags = obj.valueOf btn-flags b;
+      level = obj.valueOf btn-level b;
+      nkeys = obj.valueOf btn-nkeys b;
+      toc = nodeHeader + obj.valueOf btn-table-off b;
+      keys = nodeHeader + obj.valueOf btn-table-off b + obj.valueOf btn-table-len b;
+      vals = length b - cond (p .root) infoSize 0;
       ksize = cond (p .root) (infoAt b .«key_size») (p .ksize);
       vsize = cond (p .root) (infoAt b .«val_size») (p .vsize);
     }
@@ -155,31 +156,18 @@ onDisk v b = record { node = v; entries = entriesFrom v b 0 (v .nkeys) }
 
 -- the load line from 3 to 9
 unfoldable pub readNode : ℕ → Place → List ℕ → List ℕ → List ℕ → Result OnDisk
-readNode o p lower upper b =
-    let v : Node = parsed p b in
-    check refusal.fletcher (verified b)
-    >> check refusal.kind (eqb (v .otype % 65536) 2 || eqb (v .otype % 65536) 3)
-    >> check refusal.hashed (not (flag (v .flags) 8))
-    >> check refusal.layout (layoutHolds p v)
-    >> check refusal.level (p .root || eqb (v .level + 1) (p .parent))
-    >> check refusal.entry (entriesHold p v b)
-    >> check refusal.keys (keysHold o p lower upper (entriesFrom v b 0 (v .nkeys)))
-    >> ok (onDisk v b)
+readNode o p lower upper b = do
+  let v : Node = parsed p b
+  check refusal.fletcher (verified b)
+  check refusal.kind (isNode (v .otype))
+  check refusal.hashed (not (flag (v .flags) 8))
+  check refusal.layout (layoutHolds p v)
+  check refusal.level (p .root || eqb (v .level + 1) (p .parent))
+  check refusal.entry (entriesHold p v b)
+  check refusal.keys (keysHold o p lower upper (entriesFrom v b 0 (v .nkeys)))
+  ok (onDisk v b)
 
 -- what an answer of `read` means, of the block it read
 unfoldable pub readOf : List ℕ → Read → Result OnDisk
 readOf b (Refused n) = refused n
 readOf b (Loaded v) = ok (onDisk v b)
-
--- what 6 leaves of a block of at most 65,536 bytes: its contents hold the entries, its key and value areas lie in it
-pub record Laid (v : Node) (size : ℕ) : Type 0 where
-  pub contents : v .toc + v .nkeys * cond (isFixed v) 4 8 ≤ v .keys
-  pub keysEnd : v .keys ≤ v .vals
-  pub valsEnd : v .vals ≤ size
-  pub small : size ≤ 65536
-
--- what 6 and 8 leave: each entry lies in the block, and all together are no longer than it
-pub record Sound (v : Node) (b : List ℕ) : Type 0 where
-  pub laid : Laid v (length b)
-  pub held : spansHold v b 0 (v .nkeys) ≡ true
-  pub sum : spansLength v b 0 (v .nkeys) ≤ length b

@@ -6,7 +6,6 @@ use lib.ListN.{length, drop}
 use lib.Dec.{leb, eqb}
 use Rattle.seal.specs.Bytes.{le, window, bytesOf, u16At}
 use Rattle.node.specs.Entry.{Entry, Val, ghost, leaf, disk, mem, valueBytes}
-use Rattle.node.specs.declared.record.Record.{Record}
 
 -- a value's mark: its length; 0xFFFF a ghost, 0xFFFE a child on disk, 0xFFFD a child in a slot
 unfoldable pub markOf : Val → ℕ
@@ -51,10 +50,3 @@ recordsLength (suc n) l = recordLength l + recordsLength n (drop (recordLength l
 unfoldable pub entriesOf : ℕ → List ℕ → List Entry
 entriesOf zero l = []
 entriesOf (suc n) l = entryOf l ∷ entriesOf n (drop (recordLength l) l)
-
--- where the parts of the record at an offset lie, and where the next starts
-unfoldable pub recordAt : List ℕ → ℕ → Record
-recordAt l at =
-    let klen : ℕ = u16At (drop at l) 0 in
-    let mark : ℕ = u16At (drop at l) 2 in
-    record { key = at + 4; klen = klen; mark = mark; value = at + 4 + klen; vlen = markLength mark; next = at + recordLength (drop at l) }

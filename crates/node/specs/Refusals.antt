@@ -1,4 +1,4 @@
--- The numbers of document 01, "Refused, operation by operation", by name.
+-- The numbers of docs/RULES.md, by name.
 use Prim.Native.Nat.{ℕ}
 
 abbrev pub lent : ℕ

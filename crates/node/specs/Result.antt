@@ -1,4 +1,4 @@
--- An answer that may be a refusal. The order of `check` lines is the order of document 01's lines.
+-- An answer that may be a refusal. The order of `check` lines is the order of the rules' lines (docs/RULES.md).
 use Prim.Native.Nat.{ℕ}
 use mathlib.Core.Bool.{Bool, true, false}
 
@@ -6,8 +6,8 @@ pub data Result (A : Type 0) : Type 0 where
   refused : ℕ → Result A
   ok : A → Result A
 
-infixl 20 _>>=_
-infixl 20 _>>_
+infixr 20 _>>=_
+infixr 20 _>>_
 -- the first refusal, or what comes next of the answer
 abbrev pub _>>=_ : {A B : Type 0} → Result A → (A → Result B) → Result B
 _>>=_ (refused n) f = refused n

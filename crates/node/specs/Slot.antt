@@ -1,12 +1,15 @@
 -- A node in a slot: its words, and its entries as records.
 use mathlib.Core.List.{List, [], _∷_, _++_}
-use mathlib.Core.Bool.{Bool, true, false, cond, not, _&&_}
+use mathlib.Core.Bool.{Bool, true, false, cond, not, _&&_, _||_}
 use Prim.Native.Nat.{ℕ, _+_, _*_}
 use lib.ListN.{length, getD, take, drop}
 use lib.Dec.{leb, eqb}
 use Rattle.seal.specs.Bytes.{window}
+use Rattle.node.specs.Order.{keyedLength}
 use Rattle.node.specs.Entry.{Entry, Val, ghost, leaf, disk, mem, every}
 use Rattle.node.specs.Records.{entriesOf, recordsLength}
+use Rattle.node.specs.Fit.{fixed}
+use Rattle.node.specs.declared.info.BTreeInfo.{BTreeInfo}
 use Rattle.node.specs.declared.val.Child as Child
 use Rattle.node.specs.declared.val.Child.the-variants as child
 use Rattle.node.specs.declared.val.Val as Held
@@ -45,17 +48,26 @@ pub record MemNode : Type 0 where
 unfoldable pub marked : ℕ → ℕ → List ℕ
 marked m x = cond (eqb m 1) (x ∷ []) []
 
--- the node of a slot's words and bytes
+-- the node of a slot's words and bytes. A dead node is left aside: whatever its bytes hold, it has no entries
 unfoldable pub nodeOf : Head → List ℕ → MemNode
 nodeOf h l =
     record {
       level = h .level;
-      entries = entriesOf (h .count) l;
+      entries = cond (eqb (h .dead) 1) [] (entriesOf (h .count) l);
       block = marked (h .placed) (h .block);
       id = marked (h .named) (h .id);
       dirty = eqb (h .dirty) 1;
       dead = eqb (h .dead) 1;
     }
+
+-- the one number of a list, 0 where there is none
+unfoldable pub only : List ℕ → ℕ
+only [] = 0
+only (x ∷ xs) = x
+
+-- a node's number for its parent: of a virtual tree its id, else its block
+unfoldable pub numberOf : Bool → MemNode → ℕ
+numberOf byId m = only (cond byId (m .id) (m .block))
 
 -- ---- entries changed
 
@@ -104,6 +116,25 @@ suit isLeaf e = cond isLeaf (not (isChild (e .value))) (isChild (e .value))
 
 unfoldable pub suits : Bool → List Entry → Bool
 suits isLeaf es = every (suit isLeaf) es
+
+-- a length that a key can have: one that the order can hold, and the tree's fixed length if it has one
+unfoldable pub keyLengthHolds : ℕ → BTreeInfo → ℕ → Bool
+keyLengthHolds o t n = keyedLength o n && (not (fixed t) || eqb n (t .«key_size»))
+
+-- a length that a leaf's value can have: the tree's fixed length if it has one
+unfoldable pub valueLengthHolds : BTreeInfo → ℕ → Bool
+valueLengthHolds t n = not (fixed t) || eqb n (t .«val_size»)
+
+-- a value of a length that it can have: a ghost may stand, an index value is 8
+unfoldable pub valueHolds : BTreeInfo → Val → Bool
+valueHolds t ghost = true
+valueHolds t (leaf v) = valueLengthHolds t (length v)
+valueHolds t (disk r) = true
+valueHolds t (mem s) = true
+
+-- an entry that a leaf, or an index, can hold: its key, its value, and what that is
+unfoldable pub entryHolds : ℕ → BTreeInfo → Bool → Entry → Bool
+entryHolds o t isLeaf e = keyLengthHolds o t (length (e .key)) && valueHolds t (e .value) && suit isLeaf e
 
 -- what an answer of `value_of` means, of the slot's bytes
 unfoldable pub childMeans : Child.Child → Val

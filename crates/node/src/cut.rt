@@ -6,8 +6,10 @@ ghost use mathlib.Core.Path.{_≡_};
 ghost use Prim.Native.Nat.{_+_, _≤_, _<_, _^_};
 ghost use lib.ListN.{length};
 ghost use Rattle.node.specs.Records.{recordsLength, entriesOf};
-ghost use Rattle.node.specs.Fit.{Sized, lengthsOf};
-ghost use Rattle.node.specs.Cut.{cut, cutMeans, startOf, placeOf, leftOf, furtherSums, partsFit};
+ghost use Rattle.node.specs.Fit.{Sized};
+ghost use Rattle.node.specs.Cut.{cut, cutMeans};
+ghost use Rattle.node.specs.internal.CutSteps.{answerStart, answerPlace, leftOf, furtherSums, partsFit};
+ghost use Rattle.node.specs.internal.SlotSteps.{lengthsOf};
 
 // Where a node is cut, or why it is not.
 pub enum Answer {
@@ -25,10 +27,14 @@ pub struct Left {
     pub lengths: Lengths,
 }
 
-// Whether the left part takes one entry more: it fits with it, and either it is at most half then, or the right part does not fit yet.
+// Whether the left part takes one entry more: it fits with it, and either it is at most half then, or the right part
+// does not fit yet.
 // An entry's size is unpadded and counts 8 more than key and value: 4 more than its record.
 fn further(info: BTreeInfo, level: u64, n: usize, all: Lengths, left: Left, next: Lengths) -> bool
-    requires { ⌜ Sized info × (left .place < n) × (n < 2 ^ 20) × (all .at ≤ 2 ^ 20) × (next .at ≤ 2 ^ 20) × (all .keys + all .values < 2 ^ 24) × (next .keys + next .values < 2 ^ 24) × (left .lengths .keys + left .lengths .values ≤ all .keys + all .values) ⌝ }
+    requires tree { ⌜ Sized info ⌝ }
+    requires counts { ⌜ (left .place < n) × (n < 2 ^ 20) × (all .at ≤ 2 ^ 20) × (next .at ≤ 2 ^ 20) ⌝ }
+    requires sums { ⌜ (all .keys + all .values < 2 ^ 24) × (next .keys + next .values < 2 ^ 24)
+        × (left .lengths .keys + left .lengths .values ≤ all .keys + all .values) ⌝ }
     ensures { λ r. ⌜ r ≡ furtherSums info level n all left next ⌝ }
 {
     let more = (left.place + 1) as u64;
@@ -44,8 +50,11 @@ fn further(info: BTreeInfo, level: u64, n: usize, all: Lengths, left: Left, next
 
 // The place of the cut of n entries, with what the left part takes.
 fn cut_place(slot: &[u8], n: usize, info: BTreeInfo, level: u64, all: Lengths) -> Left
-    requires { ⌜ Sized info × (1 < n) × (all ≡ lengthsOf info n (now slot)) × (recordsLength n (now slot) ≤ length (now slot)) × (length (now slot) ≤ 2 ^ 20) ⌝ }
-    ensures { λ r. ⌜ (r ≡ leftOf info level n (now (slot .entry))) × (r .place < n) × (r .lengths .keys + r .lengths .values ≤ all .keys + all .values) ⌝ }
+    requires tree { ⌜ Sized info ⌝ }
+    requires records { ⌜ (recordsLength n (now slot) ≤ length (now slot)) × (length (now slot) ≤ 2 ^ 20) ⌝ }
+    requires whole { ⌜ (1 < n) × (all ≡ lengthsOf info n (now slot)) ⌝ }
+    ensures left { λ r. ⌜ r ≡ leftOf info level n (now (slot .entry)) ⌝ }
+    ensures less { λ r. ⌜ (r .place < n) × (r .lengths .keys + r .lengths .values ≤ all .keys + all .values) ⌝ }
 {
     let none = Lengths {
         at: 0,
@@ -68,7 +77,10 @@ fn cut_place(slot: &[u8], n: usize, info: BTreeInfo, level: u64, all: Lengths) -
 
 // Whether both parts fit.
 fn parts_fit(info: BTreeInfo, level: u64, n: usize, all: Lengths, left: Left) -> bool
-    requires { ⌜ Sized info × (left .place < n) × (n < 2 ^ 20) × (all .keys + all .values < 2 ^ 24) × (left .lengths .keys + left .lengths .values ≤ all .keys + all .values) ⌝ }
+    requires tree { ⌜ Sized info ⌝ }
+    requires counts { ⌜ (left .place < n) × (n < 2 ^ 20) ⌝ }
+    requires sums { ⌜ (all .keys + all .values < 2 ^ 24)
+        × (left .lengths .keys + left .lengths .values ≤ all .keys + all .values) ⌝ }
     ensures { λ r. ⌜ r ≡ partsFit info level n all left ⌝ }
 {
     let room = left.lengths.keys + left.lengths.values;
@@ -81,8 +93,10 @@ fn parts_fit(info: BTreeInfo, level: u64, n: usize, all: Lengths, left: Left) ->
 
 // The cut of the n entries of a slot.
 pub fn cut(slot: &[u8], n: usize, info: BTreeInfo, level: u64) -> Answer
-    requires { ⌜ Sized info × (recordsLength n (now slot) ≤ length (now slot)) × (length (now slot) ≤ 2 ^ 20) ⌝ }
-    ensures { λ r. ⌜ (cutMeans r ≡ cut info level (entriesOf n (now (slot .entry)))) × (startOf r ≡ recordsLength (placeOf r) (now (slot .entry))) ⌝ }
+    requires tree { ⌜ Sized info ⌝ }
+    requires records { ⌜ (recordsLength n (now slot) ≤ length (now slot)) × (length (now slot) ≤ 2 ^ 20) ⌝ }
+    ensures place { λ r. ⌜ cutMeans r ≡ cut info level (entriesOf n (now (slot .entry))) ⌝ }
+    ensures start { λ r. ⌜ answerStart r ≡ recordsLength (answerPlace r) (now (slot .entry)) ⌝ }
 {
     if n <= 1 {
         return Answer::TooLarge;

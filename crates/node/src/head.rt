@@ -1,9 +1,12 @@
 // The words of a slot: what is known of its node beside its entries (`MemNode` of write/tree.rs).
+use crate::read::Node;
 ghost use mathlib.Core.Path.{_≡_};
+ghost use mathlib.Core.Bool.{cond};
 ghost use Prim.Native.Nat.{_+_, _*_, _≤_};
 ghost use lib.ListN.{length};
 ghost use Rattle.seal.specs.Bytes.{splice};
 ghost use Rattle.node.specs.Slot.{headAt, headWords};
+ghost use Rattle.node.specs.internal.SlotSteps.{readHead};
 
 pub const HEAD_WORDS: usize = 9;
 
@@ -20,6 +23,33 @@ pub struct Head {
     // 1 for a node that flush writes; 1 for one that was removed from the tree.
     pub dirty: u64,
     pub dead: u64,
+}
+
+// A number that is there, else 0.
+fn number_if(on: bool, x: u64) -> u64
+    ensures { λ r. ⌜ r ≡ cond on x 0 ⌝ }
+{
+    if on {
+        return x;
+    }
+    0
+}
+
+// The words of a node just read from a block, whose records take `used` bytes: of a virtual tree (by_id) it has its id.
+pub fn head_of(node: Node, used: usize, block: u64, by_id: bool) -> Head
+    ensures { λ r. ⌜ r ≡ readHead node used block «by_id» ⌝ }
+{
+    Head {
+        level: node.level,
+        count: node.nkeys,
+        used: used as u64,
+        placed: 1,
+        block: block,
+        named: number_if(by_id, 1),
+        id: number_if(by_id, node.oid),
+        dirty: 0,
+        dead: 0,
+    }
 }
 
 impl Head {

@@ -1,11 +1,11 @@
 // Tree-wide numbers, as `btree_info_t` stores them in a root (BTreeInfo of btree.rs).
+use crate::layout;
 use seal::bytes;
 ghost use mathlib.Core.Path.{_≡_};
 ghost use Prim.Native.Nat.{_≤_, _<_, _^_};
 ghost use lib.ListN.{length};
+ghost use Rattle.node.specs.Obj.{infoSize};
 ghost use Rattle.node.specs.Read.{infoAt};
-
-pub const BTREE_INFO_SIZE: usize = 40;
 
 pub struct BTreeInfo {
     pub flags: u64,
@@ -21,19 +21,20 @@ pub struct BTreeInfo {
 impl BTreeInfo {
     // A root's last 40 bytes.
     pub fn parse(block: &[u8]) -> BTreeInfo
-        requires { ⌜ 40 ≤ length (now block) ⌝ }
-        ensures { λ r. ⌜ (r ≡ infoAt (now (block .entry))) × (r .«key_size» < 2 ^ 32) × (r .«val_size» < 2 ^ 32) ⌝ }
+        requires { ⌜ infoSize ≤ length (now block) ⌝ }
+        ensures { λ r. ⌜ (r ≡ infoAt (now (block .entry)))
+            × (r .«key_size» < 2 ^ 32) × (r .«val_size» < 2 ^ 32) ⌝ }
     {
-        let i = block.len() - BTREE_INFO_SIZE;
+        let i = block.len() - layout::BTREE_INFO_SIZE;
         BTreeInfo {
             flags: bytes::u32_at(block, i),
-            node_size: bytes::u32_at(block, i + 4),
-            key_size: bytes::u32_at(block, i + 8),
-            val_size: bytes::u32_at(block, i + 12),
-            longest_key: bytes::u32_at(block, i + 16),
-            longest_val: bytes::u32_at(block, i + 20),
-            key_count: bytes::u64_at(block, i + 24),
-            node_count: bytes::u64_at(block, i + 32),
+            node_size: bytes::u32_at(block, i + layout::BT_NODE_SIZE),
+            key_size: bytes::u32_at(block, i + layout::BT_KEY_SIZE),
+            val_size: bytes::u32_at(block, i + layout::BT_VAL_SIZE),
+            longest_key: bytes::u32_at(block, i + layout::BT_LONGEST_KEY),
+            longest_val: bytes::u32_at(block, i + layout::BT_LONGEST_VAL),
+            key_count: bytes::u64_at(block, i + layout::BT_KEY_COUNT),
+            node_count: bytes::u64_at(block, i + layout::BT_NODE_COUNT),
         }
     }
 }

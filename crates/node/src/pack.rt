@@ -1,9 +1,10 @@
 // Packing a node that fits (`build` of btree_write.rs): straight into the block that is lent from its start.
 use crate::build::NodeBuild;
-use crate::fit;
 use crate::head::HEAD_WORDS;
 use crate::info::BTreeInfo;
+use crate::layout;
 use crate::record;
+use crate::room;
 use seal::bytes;
 use seal::checksum;
 use seal::obj::ObjHeader;
@@ -13,21 +14,18 @@ ghost use mathlib.Core.List.{map};
 ghost use Prim.Native.Nat.{_+_, _*_, _≤_, _<_, _^_};
 ghost use lib.ListN.{length, drop};
 ghost use Rattle.seal.specs.Bytes.{splice};
+ghost use Rattle.seal.specs.Obj.{o-oid};
+ghost use Rattle.node.specs.Obj.{btn-flags, btn-lists, nodeHeader, infoSize};
 ghost use Rattle.node.specs.Entry.{valueBytes};
 ghost use Rattle.node.specs.Records.{markLength, valueOf, recordsLength, entriesOf, entryOf};
 ghost use Rattle.node.specs.Fit.{Sized, fits, slotWidth, keysLength, valuesLength};
 ghost use Rattle.node.specs.Pack.{childNumber, numberedValue, numbered, nodeFlags, infoBytes, packNode};
-ghost use Rattle.node.specs.PackSteps.{locBytes, offBytes, slotBytes, markOffset, putEntry, putEntries, spotAfter, Room, Rooms, nodeBytes, noLists, headOf, filled, Packs};
+ghost use Rattle.node.specs.internal.PackSteps.{markedAt, locBytes, offBytes, slotBytes, markOffset, putEntry, putEntries, spotAfter, Room, Rooms, nodeBytes, noLists, headOf, filled, Packs};
 
-const NODE_HEADER: usize = 56;
+// Which of a slot's words says that its node has a block, and which that it has an id. The number follows.
+const HEAD_PLACED: usize = 3;
 
-const BTREE_INFO_SIZE: usize = 40;
-
-const BTOFF_INVALID: u64 = 0xFFFF;
-// Which of a slot's words is its node's block, and which its id.
-const HEAD_BLOCK: usize = 4;
-
-const HEAD_ID: usize = 6;
+const HEAD_NAMED: usize = 5;
 
 // How far packing has come.
 pub struct Spot {
@@ -39,25 +37,33 @@ pub struct Spot {
     pub val: usize,
 }
 
-// The number of the child in slot s: of a virtual tree (by_id) its id, else its block. 0 where there is no such slot.
+// The number after a mark among the words of slot s; 0 without the mark, or where there are no such words.
+fn marked_at(heads: &[u64], s: usize, mark: usize) -> u64
+    requires { ⌜ mark ≤ 8 ⌝ }
+    ensures { λ r. ⌜ r ≡ markedAt (now (heads .entry)) s mark ⌝ }
+{
+    if heads.len() / HEAD_WORDS < s {
+        return 0;
+    }
+    if heads.len() - s * HEAD_WORDS <= mark + 1 {
+        return 0;
+    }
+    if heads[s * HEAD_WORDS + mark] != 1 {
+        return 0;
+    }
+    heads[s * HEAD_WORDS + (mark + 1)]
+}
+
+// The number of the child in slot s: of a virtual tree (by_id) its id, else its block. 0 where it has none, or there is
+// no such slot.
 pub fn child_number(heads: &[u64], s: u64, by_id: bool) -> u64
     ensures { λ r. ⌜ r ≡ childNumber (now (heads .entry)) «by_id» s ⌝ }
 {
     let slot = s as usize;
-    if heads.len() / HEAD_WORDS < slot {
-        return 0;
-    }
-    let left = heads.len() - slot * HEAD_WORDS;
     if by_id {
-        if left <= HEAD_ID {
-            return 0;
-        }
-        return heads[slot * HEAD_WORDS + HEAD_ID];
+        return marked_at(heads, slot, HEAD_NAMED);
     }
-    if left <= HEAD_BLOCK {
-        return 0;
-    }
-    heads[slot * HEAD_WORDS + HEAD_BLOCK]
+    marked_at(heads, slot, HEAD_PLACED)
 }
 
 // The offset that the contents give a value: a ghost has none.
@@ -65,7 +71,7 @@ fn value_offset(mark: u64, val: u64) -> u64
     ensures { λ r. ⌜ r ≡ markOffset mark val ⌝ }
 {
     if mark == record::GHOST {
-        return BTOFF_INVALID;
+        return layout::BTOFF_INVALID;
     }
     val
 }
@@ -114,7 +120,8 @@ fn put_slot(block: &mut [u8], p: usize, t: BTreeInfo, ko: u64, kl: u64, vo: u64,
 // The value of this mark and these bytes, at p; a child in a slot by its number.
 fn put_value(block: &mut [u8], p: usize, mark: u64, v: &[u8], heads: &[u64], by_id: bool)
     requires { ⌜ (length (now v) ≡ markLength mark) × (p + length (now v) ≤ length (now block)) ⌝ }
-    ensures { λ _. ⌜ now (block .exit) ≡ splice (now (block .entry)) p (valueBytes (numberedValue (childNumber (now (heads .entry)) «by_id») (valueOf mark (now (v .entry))))) ⌝ }
+    ensures { λ _. ⌜ now (block .exit) ≡ splice (now (block .entry)) p
+        (valueBytes (numberedValue (childNumber (now (heads .entry)) «by_id») (valueOf mark (now (v .entry))))) ⌝ }
 {
     if mark <= 0xFFFC {
         bytes::copy_to(v, block, p);
@@ -143,7 +150,9 @@ fn put_entry(
     s: Spot,
 ) -> Spot
     requires { ⌜ Room t keys vals s (now slot) (now block) ⌝ }
-    ensures { λ r. ⌜ (now (block .exit) ≡ putEntry t keys vals (s .toc) (s .key) (r .val) (numbered (childNumber (now (heads .entry)) «by_id») (entryOf (drop (s .at) (now (slot .entry))))) (now (block .entry)))
+    ensures { λ r. ⌜ (now (block .exit) ≡ putEntry t keys vals (s .toc) (s .key) (r .val)
+        (numbered (childNumber (now (heads .entry)) «by_id») (entryOf (drop (s .at) (now (slot .entry)))))
+        (now (block .entry)))
         × (r ≡ spotAfter t (now (slot .entry)) s) ⌝ }
 {
     let r = record::record_at(slot, s.at);
@@ -152,8 +161,8 @@ fn put_entry(
     let e = r.next;
     let klen = r.klen;
     let vlen = r.vlen;
-    let kpad = fit::padded(t, klen as u64) as usize;
-    let vpad = fit::padded(t, vlen as u64) as usize;
+    let kpad = room::padded(t, klen as u64) as usize;
+    let vpad = room::padded(t, vlen as u64) as usize;
     let key = s.key + kpad;
     let val = s.val + vpad;
     bytes::copy_to(&slot[k..v], block, keys + s.key);
@@ -181,11 +190,14 @@ fn put_entries(
     vals: usize,
 ) -> Spot
     requires { ⌜ Rooms t keys vals n (now slot) (now block) ⌝ }
-    ensures { λ r. ⌜ (now (block .exit) ≡ putEntries t keys vals 56 0 0 (map (numbered (childNumber (now (heads .entry)) «by_id»)) (entriesOf n (now (slot .entry)))) (now (block .entry)))
-        × (r .key ≡ keysLength t (entriesOf n (now (slot .entry)))) × (r .val ≡ valuesLength t (entriesOf n (now (slot .entry)))) ⌝ }
+    ensures { λ r. ⌜ (now (block .exit) ≡ putEntries t keys vals nodeHeader 0 0
+        (map (numbered (childNumber (now (heads .entry)) «by_id»)) (entriesOf n (now (slot .entry))))
+        (now (block .entry)))
+        × (r .key ≡ keysLength t (entriesOf n (now (slot .entry))))
+        × (r .val ≡ valuesLength t (entriesOf n (now (slot .entry)))) ⌝ }
 {
     let mut s = Spot {
-        toc: NODE_HEADER,
+        toc: layout::BTN_DATA,
         at: 0,
         key: 0,
         val: 0,
@@ -217,33 +229,34 @@ fn node_flags(b: NodeBuild) -> u64
 
 // btree_node_phys_t, up to its free lists.
 fn put_node(block: &mut [u8], flags: u64, level: u64, n: u64, toc: u64, keys: u64, free: u64)
-    requires { ⌜ 56 ≤ length (now block) ⌝ }
-    ensures { λ _. ⌜ now (block .exit) ≡ splice (now (block .entry)) 32 (nodeBytes flags level n toc keys free) ⌝ }
+    requires { ⌜ nodeHeader ≤ length (now block) ⌝ }
+    ensures { λ _. ⌜ now (block .exit) ≡ splice (now (block .entry)) (btn-flags .offset)
+        (nodeBytes flags level n toc keys free) ⌝ }
 {
-    bytes::put_u16(block, 32, flags);
-    bytes::put_u16(block, 34, level);
-    bytes::put_u32(block, 36, n);
-    bytes::put_u16(block, 40, 0);
-    bytes::put_u16(block, 42, toc);
-    bytes::put_u16(block, 44, keys);
-    bytes::put_u16(block, 46, free);
+    bytes::put_u16(block, layout::BTN_FLAGS, flags);
+    bytes::put_u16(block, layout::BTN_LEVEL, level);
+    bytes::put_u32(block, layout::BTN_NKEYS, n);
+    bytes::put_u16(block, layout::BTN_TABLE_OFF, 0);
+    bytes::put_u16(block, layout::BTN_TABLE_LEN, toc);
+    bytes::put_u16(block, layout::BTN_FREE_OFF, keys);
+    bytes::put_u16(block, layout::BTN_FREE_LEN, free);
 }
 
 // Its free lists: a node that is packed whole has none.
 fn put_lists(block: &mut [u8])
-    requires { ⌜ 56 ≤ length (now block) ⌝ }
-    ensures { λ _. ⌜ now (block .exit) ≡ splice (now (block .entry)) 48 noLists ⌝ }
+    requires { ⌜ nodeHeader ≤ length (now block) ⌝ }
+    ensures { λ _. ⌜ now (block .exit) ≡ splice (now (block .entry)) btn-lists noLists ⌝ }
 {
-    bytes::put_u16(block, 48, BTOFF_INVALID);
-    bytes::put_u16(block, 50, 0);
-    bytes::put_u16(block, 52, BTOFF_INVALID);
-    bytes::put_u16(block, 54, 0);
+    bytes::put_u16(block, layout::BTN_KEY_FREE_OFF, layout::BTOFF_INVALID);
+    bytes::put_u16(block, layout::BTN_KEY_FREE_LEN, 0);
+    bytes::put_u16(block, layout::BTN_VAL_FREE_OFF, layout::BTOFF_INVALID);
+    bytes::put_u16(block, layout::BTN_VAL_FREE_LEN, 0);
 }
 
 // The header: obj_phys_t after the sum, then btree_node_phys_t.
 fn put_head(block: &mut [u8], b: NodeBuild, n: u64, toc: u64, keys: u64, free: u64)
-    requires { ⌜ 56 ≤ length (now block) ⌝ }
-    ensures { λ _. ⌜ now (block .exit) ≡ splice (now (block .entry)) 8 (headOf b n toc keys free) ⌝ }
+    requires { ⌜ nodeHeader ≤ length (now block) ⌝ }
+    ensures { λ _. ⌜ now (block .exit) ≡ splice (now (block .entry)) (o-oid .offset) (headOf b n toc keys free) ⌝ }
 {
     let h = ObjHeader {
         cksum: 0,
@@ -259,28 +272,29 @@ fn put_head(block: &mut [u8], b: NodeBuild, n: u64, toc: u64, keys: u64, free: u
 
 // btree_info_t at p.
 fn put_info(block: &mut [u8], p: usize, t: BTreeInfo)
-    requires { ⌜ p + 40 ≤ length (now block) ⌝ }
+    requires { ⌜ p + infoSize ≤ length (now block) ⌝ }
     ensures { λ _. ⌜ now (block .exit) ≡ splice (now (block .entry)) p (infoBytes t) ⌝ }
 {
     bytes::put_u32(block, p, t.flags);
-    bytes::put_u32(block, p + 4, t.node_size);
-    bytes::put_u32(block, p + 8, t.key_size);
-    bytes::put_u32(block, p + 12, t.val_size);
-    bytes::put_u32(block, p + 16, t.longest_key);
-    bytes::put_u32(block, p + 20, t.longest_val);
-    bytes::put_u64(block, p + 24, t.key_count);
-    bytes::put_u64(block, p + 32, t.node_count);
+    bytes::put_u32(block, p + layout::BT_NODE_SIZE, t.node_size);
+    bytes::put_u32(block, p + layout::BT_KEY_SIZE, t.key_size);
+    bytes::put_u32(block, p + layout::BT_VAL_SIZE, t.val_size);
+    bytes::put_u32(block, p + layout::BT_LONGEST_KEY, t.longest_key);
+    bytes::put_u32(block, p + layout::BT_LONGEST_VAL, t.longest_val);
+    bytes::put_u64(block, p + layout::BT_KEY_COUNT, t.key_count);
+    bytes::put_u64(block, p + layout::BT_NODE_COUNT, t.node_count);
 }
 
 // A whole block but for its sum.
 fn fill(block: &mut [u8], slot: &[u8], n: usize, heads: &[u64], by_id: bool, b: NodeBuild)
     requires { ⌜ Packs b n (now slot) (now block) ⌝ }
-    ensures { λ _. ⌜ now (block .exit) ≡ filled b (map (numbered (childNumber (now (heads .entry)) «by_id»)) (entriesOf n (now (slot .entry)))) ⌝ }
+    ensures { λ _. ⌜ now (block .exit) ≡ filled b
+        (map (numbered (childNumber (now (heads .entry)) «by_id»)) (entriesOf n (now (slot .entry)))) ⌝ }
 {
     let t = b.info;
     let size = t.node_size as usize;
-    let space = fit::data_space(t.node_size, b.root) as usize;
-    let toc = fit::toc_length(t, b.root, b.level, n as u64) as usize;
+    let space = room::data_space(t.node_size, b.root) as usize;
+    let toc = room::toc_length(t, b.root, b.level, n as u64) as usize;
     bytes::clear(block, 0, size);
     let s = put_entries(
         block,
@@ -289,19 +303,20 @@ fn fill(block: &mut [u8], slot: &[u8], n: usize, heads: &[u64], by_id: bool, b: 
         heads,
         by_id,
         t,
-        NODE_HEADER + toc,
-        NODE_HEADER + space,
+        layout::BTN_DATA + toc,
+        layout::BTN_DATA + space,
     );
     let free = space - toc - s.key - s.val;
     put_head(block, b, n as u64, toc as u64, s.key as u64, free as u64);
     if b.root {
-        put_info(block, size - BTREE_INFO_SIZE, t);
+        put_info(block, size - layout::BTREE_INFO_SIZE, t);
     }
 }
 
 fn pack_block(block: &mut [u8], slot: &[u8], n: usize, heads: &[u64], by_id: bool, b: NodeBuild)
     requires { ⌜ Packs b n (now slot) (now block) ⌝ }
-    ensures { λ _. ⌜ now (block .exit) ≡ packNode b (map (numbered (childNumber (now (heads .entry)) «by_id»)) (entriesOf n (now (slot .entry)))) ⌝ }
+    ensures { λ _. ⌜ now (block .exit) ≡ packNode b
+        (map (numbered (childNumber (now (heads .entry)) «by_id»)) (entriesOf n (now (slot .entry)))) ⌝ }
 {
     fill(block, slot, n, heads, by_id, b);
     checksum::seal(block);
@@ -309,9 +324,12 @@ fn pack_block(block: &mut [u8], slot: &[u8], n: usize, heads: &[u64], by_id: boo
 
 // Packs the n entries of a slot into the first node_size bytes of `dst`, and seals them.
 pub fn pack(dst: &mut [u8], slot: &[u8], n: usize, heads: &[u64], by_id: bool, b: NodeBuild)
-    requires { ⌜ Sized (b .info) × (b .info .«node_size» ≤ length (now dst)) × (recordsLength n (now slot) ≤ length (now slot)) × (length (now slot) ≤ 2 ^ 20)
-        × (fits (b .info) (b .root) (b .level) (entriesOf n (now slot)) ≡ true) ⌝ }
-    ensures { λ _. ⌜ now (dst .exit) ≡ splice (now (dst .entry)) 0 (packNode b (map (numbered (childNumber (now (heads .entry)) «by_id»)) (entriesOf n (now (slot .entry))))) ⌝ }
+    requires tree { ⌜ Sized (b .info) ⌝ }
+    requires block { ⌜ b .info .«node_size» ≤ length (now dst) ⌝ }
+    requires records { ⌜ (recordsLength n (now slot) ≤ length (now slot)) × (length (now slot) ≤ 2 ^ 20) ⌝ }
+    requires fit { ⌜ fits (b .info) (b .root) (b .level) (entriesOf n (now slot)) ≡ true ⌝ }
+    ensures { λ _. ⌜ now (dst .exit) ≡ splice (now (dst .entry)) 0
+        (packNode b (map (numbered (childNumber (now (heads .entry)) «by_id»)) (entriesOf n (now (slot .entry))))) ⌝ }
 {
     let t = b.info;
     let size = t.node_size as usize;

@@ -1,5 +1,6 @@
 // A node's block, read (`Node` of btree.rs). The bytes stay in the block.
 use crate::info::BTreeInfo;
+use crate::layout;
 use crate::order::Order;
 use crate::refusal;
 use crate::val::Child;
@@ -13,22 +14,22 @@ ghost use Prim.Native.Nat.{_+_, _-_, _%_, _≤_, _<_, _^_};
 ghost use lib.ListN.{length};
 ghost use lib.Dec.{eqb};
 ghost use Rattle.seal.specs.Bytes.{window};
+ghost use Rattle.node.specs.Obj.{isNode};
 ghost use Rattle.node.specs.Order.{less, keyed};
 ghost use Rattle.node.specs.Entry.{disk};
 ghost use Rattle.node.specs.Slot.{valueMeans};
-ghost use Rattle.node.specs.Read.{parsed, sameBool, isFixed, flagsHold, layoutHolds, spanAt, isGhost, spanHolds, spanLength, entriesHold, entryAt, entriesFrom, inBounds, keysRise, keysWithin, readNode, readOf, Laid, Sound};
+ghost use Rattle.node.specs.Read.{parsed, sameBool, isFixed, flagsHold, layoutHolds, spanAt, isGhost, spanHolds, spanLength, entriesHold, entryAt, entriesFrom, inBounds, keysRise, keysWithin, readNode, readOf};
+ghost use Rattle.node.specs.internal.ReadSteps.{Laid, Sound};
 
-pub const BTNODE_ROOT: u64 = 1;
+const BTNODE_ROOT: u64 = 1;
 
-pub const BTNODE_LEAF: u64 = 2;
+const BTNODE_LEAF: u64 = 2;
 
-pub const BTNODE_FIXED_KV_SIZE: u64 = 4;
+const BTNODE_FIXED_KV_SIZE: u64 = 4;
 
-pub const BTNODE_HASHED: u64 = 8;
+const BTNODE_HASHED: u64 = 8;
 
-const NODE_DATA: usize = 56;
-
-const BTOFF_INVALID: usize = 0xFFFF;
+const BTOFF_INVALID: usize = layout::BTOFF_INVALID as usize;
 
 const MAX_DEPTH: u64 = 32;
 
@@ -50,7 +51,8 @@ pub struct Node {
     pub vsize: u64,
 }
 
-// Where an entry's key starts and how long it is; how far before the value area's end its value starts, and how long that is.
+// Where an entry's key starts and how long it is; how far before the value area's end its value starts, and how long
+// that is.
 pub struct Span {
     pub key: usize,
     pub klen: usize,
@@ -101,22 +103,24 @@ impl Node {
     // The header's fields and the places that follow from them; nothing is checked.
     pub fn parse(block: &[u8], place: Place) -> Node
         requires { ⌜ 512 ≤ length (now block) ⌝ }
-        ensures { λ r. ⌜ (r ≡ parsed place (now (block .entry))) × (r .flags < 2 ^ 16) × (r .level < 2 ^ 16) × (r .nkeys < 2 ^ 32) × (r .toc ≤ r .keys) × (r .vals ≤ length (now (block .entry))) ⌝ }
+        ensures { λ r. ⌜ (r ≡ parsed place (now (block .entry)))
+            × (r .flags < 2 ^ 16) × (r .level < 2 ^ 16) × (r .nkeys < 2 ^ 32)
+            × (r .toc ≤ r .keys) × (r .vals ≤ length (now (block .entry))) ⌝ }
     {
         let h = ObjHeader::parse(block);
         let info = BTreeInfo::parse(block);
-        let toc = NODE_DATA + bytes::u16_at(block, 40) as usize;
-        let tail = pick(place.root, 40, 0) as usize;
+        let toc = layout::BTN_DATA + bytes::u16_at(block, layout::BTN_TABLE_OFF) as usize;
+        let tail = pick(place.root, layout::BTREE_INFO_SIZE as u64, 0) as usize;
         Node {
             oid: h.oid,
             xid: h.xid,
             otype: h.obj_type,
             subtype: h.subtype,
-            flags: bytes::u16_at(block, 32),
-            level: bytes::u16_at(block, 34),
-            nkeys: bytes::u32_at(block, 36),
+            flags: bytes::u16_at(block, layout::BTN_FLAGS),
+            level: bytes::u16_at(block, layout::BTN_LEVEL),
+            nkeys: bytes::u32_at(block, layout::BTN_NKEYS),
             toc: toc,
-            keys: toc + bytes::u16_at(block, 42) as usize,
+            keys: toc + bytes::u16_at(block, layout::BTN_TABLE_LEN) as usize,
             vals: block.len() - tail,
             ksize: pick(place.root, info.key_size, place.ksize),
             vsize: pick(place.root, info.val_size, place.vsize),
@@ -124,7 +128,7 @@ impl Node {
     }
 
     // Whether lengths are fixed (`is_fixed`, held against the flag by 6).
-    pub fn is_fixed(self) -> bool
+    fn is_fixed(self) -> bool
         ensures { λ r. ⌜ r ≡ isFixed self ⌝ }
     {
         self.ksize != 0
@@ -200,7 +204,8 @@ pub fn is_ghost(s: Span) -> bool
     s.voff == BTOFF_INVALID
 }
 
-// Whether an entry lies in a block of this size, and a child is one. No sum is made that could wrap: lengths are not trusted.
+// Whether an entry lies in a block of this size, and a child is one. No sum is made that could wrap: lengths are not
+// trusted.
 fn span_holds(node: Node, size: usize, s: Span) -> bool
     ensures { λ r. ⌜ r ≡ spanHolds node size s ⌝ }
 {
@@ -247,8 +252,8 @@ fn entries_hold(block: &[u8], node: Node, place: Place) -> bool
     if n == 0 {
         return place.root && node.level == 0;
     }
-    let tail = pick(place.root, 40, 0) as usize;
-    let space = block.len() - NODE_DATA - tail;
+    let tail = pick(place.root, layout::BTREE_INFO_SIZE as u64, 0) as usize;
+    let space = block.len() - layout::BTN_DATA - tail;
     let mut sum = 0;
     let mut i = 0;
     while i < n {
@@ -278,7 +283,8 @@ pub fn key_in(block: &[u8], s: Span) -> &[u8]
 // Whether one entry's key is below another's.
 fn key_less(block: &[u8], order: Order, a: Span, b: Span) -> bool
     requires { ⌜ (a .key + a .klen ≤ length (now block)) × (b .key + b .klen ≤ length (now block)) ⌝ }
-    ensures { λ r. ⌜ r ≡ less (order .code) (window (a .key) (a .klen) (now (block .entry))) (window (b .key) (b .klen) (now (block .entry))) ⌝ }
+    ensures { λ r. ⌜ r ≡ less (order .code) (window (a .key) (a .klen) (now (block .entry)))
+        (window (b .key) (b .klen) (now (block .entry))) ⌝ }
 {
     order.less(key_in(block, a), key_in(block, b))
 }
@@ -353,7 +359,8 @@ fn within(
 ) -> bool
     requires { ⌜ Sound node (now block) ⌝ }
     requires { ⌜ (from ≤ to) × (to ≤ node .nkeys) ⌝ }
-    ensures { λ r. ⌜ r ≡ keysWithin (order .code) place (now (lower .entry)) (now (upper .entry)) (entriesFrom node (now (block .entry)) from (to - from)) ⌝ }
+    ensures { λ r. ⌜ r ≡ keysWithin (order .code) place (now (lower .entry)) (now (upper .entry))
+        (entriesFrom node (now (block .entry)) from (to - from)) ⌝ }
 {
     let mut i = from;
     while i < to {
@@ -376,7 +383,8 @@ fn usable(order: Order, unused: bool, bound: &[u8]) -> bool
     order.keyed(bound.len())
 }
 
-// Of 9 of the load line: keys within the bounds. Of keys that rise the first and the last speak for all, if the bounds are keys too.
+// Of 9 of the load line: keys within the bounds. Of keys that rise the first and the last speak for all, if the bounds
+// are keys too.
 fn bounds_hold(
     block: &[u8],
     order: Order,
@@ -387,7 +395,8 @@ fn bounds_hold(
 ) -> bool
     requires { ⌜ Sound node (now block) ⌝ }
     requires { ⌜ keysRise (order .code) (entriesFrom node (now block) 0 (node .nkeys)) ≡ true ⌝ }
-    ensures { λ r. ⌜ r ≡ keysWithin (order .code) place (now (lower .entry)) (now (upper .entry)) (entriesFrom node (now (block .entry)) 0 (node .nkeys)) ⌝ }
+    ensures { λ r. ⌜ r ≡ keysWithin (order .code) place (now (lower .entry)) (now (upper .entry))
+        (entriesFrom node (now (block .entry)) 0 (node .nkeys)) ⌝ }
 {
     let n = node.nkeys as usize;
     if n == 0 {
@@ -407,7 +416,7 @@ fn bounds_hold(
 
 // Kinds 2 and 3: a root or another node.
 fn is_node(otype: u64) -> bool
-    ensures { λ r. ⌜ r ≡ (eqb (otype % 65536) 2 || eqb (otype % 65536) 3) ⌝ }
+    ensures { λ r. ⌜ r ≡ isNode otype ⌝ }
 {
     let kind = otype % 65536;
     kind == 2 || kind == 3
@@ -424,7 +433,8 @@ fn level_holds(place: Place, level: u64) -> bool
 // The load line from 3 to 9.
 pub fn read_node(block: &[u8], order: Order, place: Place, lower: &[u8], upper: &[u8]) -> Read
     requires { ⌜ (512 ≤ length (now block)) × (length (now block) ≤ 65536) ⌝ }
-    ensures { λ r. ⌜ readOf (now (block .entry)) r ≡ readNode (order .code) place (now (lower .entry)) (now (upper .entry)) (now (block .entry)) ⌝ }
+    ensures { λ r. ⌜ readOf (now (block .entry)) r
+        ≡ readNode (order .code) place (now (lower .entry)) (now (upper .entry)) (now (block .entry)) ⌝ }
 {
     if !checksum::verify(block) {
         return Read::Refused(refusal::FLETCHER);

@@ -5,7 +5,8 @@ ghost use Prim.Native.Nat.{_+_, _≤_, _<_, _^_};
 ghost use lib.ListN.{length, drop};
 ghost use lib.Dec.{leb};
 ghost use Rattle.seal.specs.Bytes.{splice};
-ghost use Rattle.node.specs.Records.{markLength, recordBytes, recordLength, entryOf, recordAt};
+ghost use Rattle.node.specs.Records.{markLength, recordBytes, recordLength, entryOf};
+ghost use Rattle.node.specs.internal.SlotSteps.{recordAt};
 ghost use Rattle.node.specs.Slot.{isChild, suit};
 
 pub const GHOST: u64 = 0xFFFF;
@@ -27,7 +28,7 @@ pub struct Record {
 }
 
 // The bytes that a value of this mark takes.
-pub fn mark_length(mark: u64) -> usize
+fn mark_length(mark: u64) -> usize
     requires { ⌜ mark < 2 ^ 16 ⌝ }
     ensures { λ r. ⌜ (r ≡ markLength mark) × (r < 2 ^ 16) ⌝ }
 {
@@ -81,7 +82,7 @@ pub fn lies(slot: &[u8], at: usize) -> bool
 }
 
 // Whether the record at an offset holds a child.
-pub fn child_at(slot: &[u8], at: usize) -> bool
+fn child_at(slot: &[u8], at: usize) -> bool
     requires { ⌜ at + recordLength (drop at (now slot)) ≤ length (now slot) ⌝ }
     ensures { λ r. ⌜ r ≡ isChild (entryOf (drop at (now (slot .entry))) .value) ⌝ }
 {
@@ -107,7 +108,8 @@ pub fn suits(slot: &[u8], at: usize, leaf: bool) -> bool
 // A record stored at an offset.
 pub fn put(slot: &mut [u8], at: usize, key: &[u8], mark: u64, value: &[u8])
     requires { ⌜ at + 4 + length (now key) + length (now value) ≤ length (now slot) ⌝ }
-    ensures { λ _. ⌜ now (slot .exit) ≡ splice (now (slot .entry)) at (recordBytes (now (key .entry)) mark (now (value .entry))) ⌝ }
+    ensures { λ _. ⌜ now (slot .exit) ≡ splice (now (slot .entry)) at
+        (recordBytes (now (key .entry)) mark (now (value .entry))) ⌝ }
 {
     let klen = key.len();
     bytes::put_u16(slot, at, klen as u64);

@@ -1,4 +1,4 @@
-// The numbers of document 01, "Refused, operation by operation". specs/Refusals.antt has the same table.
+// The numbers of docs/RULES.md ("The numbers"). specs/Refusals.antt has the same table.
 pub const NONE: u64 = 0;
 
 pub const LENT: u64 = 1;

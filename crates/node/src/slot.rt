@@ -6,13 +6,14 @@ use crate::val::Child;
 use crate::val::Val;
 use seal::bytes;
 ghost use mathlib.Core.Path.{_≡_};
-ghost use Prim.Native.Nat.{_+_, _-_, _≤_, _<_, _^_};
+ghost use mathlib.Core.Bool.{true};
+ghost use Prim.Native.Nat.{ℕ, _+_, _-_, _≤_, _<_, _^_};
 ghost use lib.ListN.{length, drop};
 ghost use Rattle.seal.specs.Bytes.{moved};
 ghost use Rattle.node.specs.Entry.{valueLength};
 ghost use Rattle.node.specs.Records.{markLength, valueOf, recordLength, entryOf, recordsLength, entriesOf};
-ghost use Rattle.node.specs.Slot.{insertAt, removeAt, withKey, withValue, recordsHold, suits, valueMeans};
-ghost use Rattle.node.specs.Find.{foundIn, lastIn};
+ghost use Rattle.node.specs.Slot.{insertAt, removeAt, withKey, withValue, recordsHold, isChild, valueMeans};
+ghost use Rattle.node.specs.internal.SlotSteps.{childOf, foundIn, lastIn};
 
 // Where a key's place is among n records: the entries before it, its offset, and whether the entry there has the key.
 pub struct Found {
@@ -56,24 +57,6 @@ pub fn records_hold(slot: &[u8], n: u64, used: u64) -> bool
         i += 1;
     }
     at as u64 == used
-}
-
-// Whether the marks suit the level: in a leaf no child, in an index nothing else.
-pub fn marks_suit(slot: &[u8], n: u64, leaf: bool) -> bool
-    requires { ⌜ recordsLength n (now slot) ≤ length (now slot) ⌝ }
-    ensures { λ r. ⌜ r ≡ suits leaf (entriesOf n (now (slot .entry))) ⌝ }
-{
-    let mut i = 0;
-    let mut at = 0;
-    while i < n {
-        let suited = record::suits(slot, at, leaf);
-        if !suited {
-            return false;
-        }
-        at = record::next(slot, at);
-        i += 1;
-    }
-    true
 }
 
 // The key of the record at an offset.
@@ -177,8 +160,15 @@ pub fn insert(
     mark: u64,
     value: &[u8],
 ) -> usize
-    requires { ⌜ (used ≡ recordsLength n (now slot)) × (at ≡ recordsLength i (now slot)) × (i ≤ n) × (used + 4 + length (now key) + length (now value) ≤ length (now slot)) × (length (now key) < 2 ^ 16) × (mark < 2 ^ 16) × (markLength mark ≡ length (now value)) ⌝ }
-    ensures { λ r. ⌜ (r ≡ used + 4 + length (now (key .entry)) + length (now (value .entry))) × (recordsLength (n + 1) (now (slot .exit)) ≡ used + 4 + length (now (key .entry)) + length (now (value .entry))) × (entriesOf (n + 1) (now (slot .exit)) ≡ insertAt i (record { key = now (key .entry); value = valueOf mark (now (value .entry)) }) (entriesOf n (now (slot .entry)))) ⌝ }
+    requires place { ⌜ (used ≡ recordsLength n (now slot)) × (at ≡ recordsLength i (now slot)) × (i ≤ n) ⌝ }
+    requires room { ⌜ used + 4 + length (now key) + length (now value) ≤ length (now slot) ⌝ }
+    requires stored { ⌜ (length (now key) < 2 ^ 16) × (mark < 2 ^ 16) × (markLength mark ≡ length (now value)) ⌝ }
+    ensures used { λ r. ⌜ (r ≡ used + 4 + length (now (key .entry)) + length (now (value .entry)))
+        × (recordsLength (n + 1) (now (slot .exit))
+        ≡ used + 4 + length (now (key .entry)) + length (now (value .entry))) ⌝ }
+    ensures entries { λ _. ⌜ entriesOf (n + 1) (now (slot .exit))
+        ≡ insertAt i (record { key = now (key .entry); value = valueOf mark (now (value .entry)) })
+        (entriesOf n (now (slot .entry))) ⌝ }
 {
     let next = at + 4 + key.len() + value.len();
     bytes::move_up(slot, at, next, used - at);
@@ -187,8 +177,11 @@ pub fn insert(
 }
 
 pub fn remove(slot: &mut [u8], n: u64, i: u64, used: usize, at: usize) -> usize
-    requires { ⌜ (used ≡ recordsLength n (now slot)) × (at ≡ recordsLength i (now slot)) × (i < n) × (recordsLength n (now slot) ≤ length (now slot)) ⌝ }
-    ensures { λ r. ⌜ (r + recordLength (drop at (now (slot .entry))) ≡ used) × (recordsLength (n - 1) (now (slot .exit)) ≡ r) × (entriesOf (n - 1) (now (slot .exit)) ≡ removeAt i (entriesOf n (now (slot .entry)))) ⌝ }
+    requires place { ⌜ (used ≡ recordsLength n (now slot)) × (at ≡ recordsLength i (now slot)) × (i < n) ⌝ }
+    requires within { ⌜ recordsLength n (now slot) ≤ length (now slot) ⌝ }
+    ensures used { λ r. ⌜ (r + recordLength (drop at (now (slot .entry))) ≡ used)
+        × (recordsLength (n - 1) (now (slot .exit)) ≡ r) ⌝ }
+    ensures entries { λ _. ⌜ entriesOf (n - 1) (now (slot .exit)) ≡ removeAt i (entriesOf n (now (slot .entry))) ⌝ }
 {
     let next = record::next(slot, at);
     bytes::move_down(slot, next, at, used - next);
@@ -197,8 +190,13 @@ pub fn remove(slot: &mut [u8], n: u64, i: u64, used: usize, at: usize) -> usize
 
 // Record i with another key.
 pub fn set_key(slot: &mut [u8], n: u64, i: u64, used: usize, at: usize, key: &[u8]) -> usize
-    requires { ⌜ (used ≡ recordsLength n (now slot)) × (at ≡ recordsLength i (now slot)) × (i < n) × (used + length (now key) ≤ length (now slot)) × (length (now key) < 2 ^ 16) ⌝ }
-    ensures { λ r. ⌜ (r + length (entryOf (drop at (now (slot .entry))) .key) ≡ used + length (now (key .entry))) × (recordsLength n (now (slot .exit)) ≡ r) × (entriesOf n (now (slot .exit)) ≡ withKey i (now (key .entry)) (entriesOf n (now (slot .entry)))) ⌝ }
+    requires place { ⌜ (used ≡ recordsLength n (now slot)) × (at ≡ recordsLength i (now slot)) × (i < n) ⌝ }
+    requires room { ⌜ used + length (now key) ≤ length (now slot) ⌝ }
+    requires stored { ⌜ length (now key) < 2 ^ 16 ⌝ }
+    ensures used { λ r. ⌜ (r + length (entryOf (drop at (now (slot .entry))) .key) ≡ used + length (now (key .entry)))
+        × (recordsLength n (now (slot .exit)) ≡ r) ⌝ }
+    ensures entries { λ _. ⌜ entriesOf n (now (slot .exit))
+        ≡ withKey i (now (key .entry)) (entriesOf n (now (slot .entry))) ⌝ }
 {
     let r = record::record_at(slot, at);
     let from = r.value;
@@ -220,8 +218,14 @@ pub fn set_value(
     mark: u64,
     value: &[u8],
 ) -> usize
-    requires { ⌜ (used ≡ recordsLength n (now slot)) × (at ≡ recordsLength i (now slot)) × (i < n) × (used + length (now value) ≤ length (now slot)) × (mark < 2 ^ 16) × (markLength mark ≡ length (now value)) ⌝ }
-    ensures { λ r. ⌜ (r + valueLength (entryOf (drop at (now (slot .entry))) .value) ≡ used + length (now (value .entry))) × (recordsLength n (now (slot .exit)) ≡ r) × (entriesOf n (now (slot .exit)) ≡ withValue i (valueOf mark (now (value .entry))) (entriesOf n (now (slot .entry)))) ⌝ }
+    requires place { ⌜ (used ≡ recordsLength n (now slot)) × (at ≡ recordsLength i (now slot)) × (i < n) ⌝ }
+    requires room { ⌜ used + length (now value) ≤ length (now slot) ⌝ }
+    requires stored { ⌜ (mark < 2 ^ 16) × (markLength mark ≡ length (now value)) ⌝ }
+    ensures used { λ r. ⌜ (r + valueLength (entryOf (drop at (now (slot .entry))) .value)
+        ≡ used + length (now (value .entry)))
+        × (recordsLength n (now (slot .exit)) ≡ r) ⌝ }
+    ensures entries { λ _. ⌜ entriesOf n (now (slot .exit))
+        ≡ withValue i (valueOf mark (now (value .entry))) (entriesOf n (now (slot .entry))) ⌝ }
 {
     let r = record::record_at(slot, at);
     let v = r.value;
@@ -233,12 +237,19 @@ pub fn set_value(
     to + (used - from)
 }
 
-// The records from record i on, copied to the start of another slot. The first i records are what is left here.
-pub fn part_tail(slot: &[u8], n: u64, i: u64, used: usize, at: usize, other: &mut [u8]) -> usize
-    requires { ⌜ (used ≡ recordsLength n (now slot)) × (at ≡ recordsLength i (now slot)) × (i ≤ n) × (used ≤ length (now slot)) × (used ≤ at + length (now other)) ⌝ }
-    ensures { λ r. ⌜ (r ≡ used - at) × (recordsLength (n - i) (now (other .exit)) ≡ used - at) × (entriesOf (n - i) (now (other .exit)) ≡ drop i (entriesOf n (now (slot .entry)))) ⌝ }
+// The child of record i is another, on disk or in a slot: its mark and its number change in place, and no record moves.
+pub fn relink(slot: &mut [u8], n: u64, i: u64, at: usize, mark: u64, x: u64)
+    requires place { ⌜ (at ≡ recordsLength i (now slot)) × (i < n)
+        × (recordsLength n (now slot) ≤ length (now slot)) ⌝ }
+    requires old { ⌜ isChild (entryOf (drop at (now slot)) .value) ≡ true ⌝ }
+    requires new { ⌜ (0xFFFC < mark) × (mark < 0xFFFF) ⌝ }
+    ensures entries { λ _. ⌜ entriesOf n (now (slot .exit))
+        ≡ withValue i (childOf mark x) (entriesOf n (now (slot .entry))) ⌝ }
+    ensures starts { λ _. ⌜ ((j : ℕ) → j ≤ n
+        → recordsLength j (now (slot .exit)) ≡ recordsLength j (now (slot .entry))) ⌝ }
 {
-    let tail = &slot[at..used];
-    bytes::copy_to(tail, other, 0);
-    used - at
+    let r = record::record_at(slot, at);
+    let v = r.value;
+    bytes::put_u64(slot, v, x);
+    bytes::put_u16(slot, at + 2, mark);
 }

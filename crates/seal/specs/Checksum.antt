@@ -1,8 +1,8 @@
--- The Fletcher-64 sum of an object, as document 01 ("Seal") and the Reference give it. Nothing is reduced on the way.
+-- The Fletcher-64 sum of an object, as the rules (RULES: seal) and the Reference give it. Nothing is reduced on the way.
 use mathlib.Core.Path.{_≡_}
 use mathlib.Core.List.{List, [], _∷_, _++_}
-use mathlib.Core.Bool.{Bool, true, false, _&&_}
-use Prim.Native.Nat.{ℕ, zero, suc, _+_, _-_, _*_, _%_, _^_, _≤_, _<_}
+use mathlib.Core.Bool.{Bool, _&&_}
+use Prim.Native.Nat.{ℕ, _+_, _-_, _*_, _%_, _^_, _≤_, _<_}
 use lib.ListN.{length, drop}
 use lib.Dec.{leb, eqb}
 use Rattle.seal.specs.Bytes.{le, u32At, u64At, splice, bytesOf}

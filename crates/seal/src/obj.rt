@@ -7,7 +7,18 @@ ghost use mathlib.Core.Path.{_≡_};
 ghost use Prim.Native.Nat.{_≤_, _<_, _^_};
 ghost use lib.ListN.{length};
 ghost use Rattle.seal.specs.Bytes.{splice};
-ghost use Rattle.seal.specs.Obj.{headerAt, headerBytes, kindOf, storageOf};
+ghost use Rattle.seal.specs.Obj.{o-oid, headerAt, headerBytes, kindOf, storageOf};
+
+// Where the fields of `obj_phys_t` lie, and where it ends: specs/Obj.antt has the same table.
+const O_CKSUM: usize = 0;
+
+const O_OID: usize = 8;
+
+const O_XID: usize = 16;
+
+const O_TYPE: usize = 24;
+
+const O_SUBTYPE: usize = 28;
 
 pub const OBJ_HEADER_SIZE: usize = 32;
 
@@ -38,23 +49,23 @@ impl ObjHeader {
         ensures { λ r. ⌜ (r ≡ headerAt (now (b .entry))) × (r .«obj_type» < 2 ^ 32) × (r .subtype < 2 ^ 32) ⌝ }
     {
         ObjHeader {
-            cksum: u64_at(b, 0),
-            oid: u64_at(b, 8),
-            xid: u64_at(b, 16),
-            obj_type: u32_at(b, 24),
-            subtype: u32_at(b, 28),
+            cksum: u64_at(b, O_CKSUM),
+            oid: u64_at(b, O_OID),
+            xid: u64_at(b, O_XID),
+            obj_type: u32_at(b, O_TYPE),
+            subtype: u32_at(b, O_SUBTYPE),
         }
     }
 
     // Stores all but the checksum: that is the seal's, which comes when the object is whole.
     pub fn write(self, b: &mut [u8])
         requires { ⌜ 32 ≤ length (now b) ⌝ }
-        ensures { λ _. ⌜ now (b .exit) ≡ splice (now (b .entry)) 8 (headerBytes self) ⌝ }
+        ensures { λ _. ⌜ now (b .exit) ≡ splice (now (b .entry)) (o-oid .offset) (headerBytes self) ⌝ }
     {
-        put_u64(b, 8, self.oid);
-        put_u64(b, 16, self.xid);
-        put_u32(b, 24, self.obj_type);
-        put_u32(b, 28, self.subtype);
+        put_u64(b, O_OID, self.oid);
+        put_u64(b, O_XID, self.xid);
+        put_u32(b, O_TYPE, self.obj_type);
+        put_u32(b, O_SUBTYPE, self.subtype);
     }
 
     // What the object is: the type's bits under OBJECT_TYPE_MASK.

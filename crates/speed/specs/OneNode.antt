@@ -1,8 +1,7 @@
 -- One node read into a slot and packed from one, for arguments of any kind.
-use mathlib.Core.Path.{_≡_}
-use mathlib.Core.List.{List, [], map}
+use mathlib.Core.List.{List, map}
 use mathlib.Core.Bool.{Bool, true, false, cond, _&&_}
-use Prim.Native.Nat.{ℕ, _-_, _*_, _≤_, _^_}
+use Prim.Native.Nat.{ℕ, _-_, _*_, _^_}
 use lib.ListN.{length}
 use lib.Dec.{leb}
 use Rattle.seal.specs.Bytes.{splice}

@@ -113,7 +113,8 @@ fn records_fit(b: NodeBuild, slot: &[u8], n: usize, used: u64) -> bool
     fit::fits(slot, n, b.info, b.root, b.level)
 }
 
-// Packs the n records of a slot, `used` bytes, as a root with the numbers of the root block `like`: false where they are not n records, or do not fit.
+// Packs the n records of a slot, `used` bytes, as a root with the numbers of the root block `like`: false where they are not n records, or do
+// not fit.
 #[no_mangle]
 pub extern "C" fn rattle_pack_node(
     dst: &mut [u8],
@@ -124,7 +125,8 @@ pub extern "C" fn rattle_pack_node(
     like: &[u8],
 ) -> bool
     ensures { λ r. ⌜ (r ≡ packable n used (now (like .entry)) (now (dst .entry)) (now (slot .entry)))
-        × (now (dst .exit) ≡ cond r (packInto n (now (heads .entry)) (now (like .entry)) (now (dst .entry)) (now (slot .entry))) (now (dst .entry))) ⌝ }
+        × (now (dst .exit) ≡ cond r (packInto n (now (heads .entry)) (now (like .entry)) (now (dst .entry)) (now (slot .entry)))
+        (now (dst .entry))) ⌝ }
 {
     if like.len() < 512 {
         return false;

@@ -7,8 +7,10 @@ use lib.ListN.{length}
 use Rattle.seal.specs.Bytes.{splice}
 use Rattle.node.specs.Records.{recordsOf}
 use Rattle.node.specs.Read.{spansLength, entriesFrom}
-use Rattle.node.specs.ReadLaws.{few}
-use Rattle.node.specs.AdoptLaws.{adopt-none, adopt-none-long, adopt-start, adopt-room, at-next, long-next, adopt-turn, adopt-done, adopt-done-long}
+use Rattle.node.specs.laws.ReadLaws.{few}
+use Rattle.node.specs.laws.AdoptLaws.{adopt-none, adopt-none-long, adopt-start, adopt-room, at-next, long-next, adopt-turn, adopt-done, adopt-done-long}
+use Rattle.node.specs.laws.ByteLaws.{bytes-known}
+use Rattle.node.specs.laws.AcceptedLaws.{adopted-entries, adopted-length, adopted-most}
 use Rattle.node.proofs.adopt.adopt.Statement.{statement}
 use Rattle.node.proofs.adopt.adopt.Tie as tie
 
@@ -37,7 +39,12 @@ same-length : tie.Need-same-length Inv-loop μ-loop
 same-length c = (c .before .loop .inv .1)
 
 returns : tie.Need-returns Inv-loop μ-loop
-returns c = (adopt-done _ _ _ _ _ _ (c .before .loop .inv .0) (c .loop-test .left) (c .before .loop .inv .4), adopt-done-long _ _ _ _ _ (c .before .loop .inv .0) (c .loop-test .left) (c .before .loop .inv .3))
+returns c =
+    let p = c .before .before .before .before .pre in
+    let b = bytes-known _ (c .before .before .before .shared-slice-known .given) in
+    let d = adopt-done _ _ _ _ _ _ (c .before .loop .inv .0) (c .loop-test .left) (c .before .loop .inv .4) in
+    let r = adopt-done-long _ _ _ _ _ (c .before .loop .inv .0) (c .loop-test .left) (c .before .loop .inv .3) in
+    ((d, r), (adopted-entries _ _ _ _ b (p .0) d, (adopted-length _ _ _ _ b (p .0) d _ r, adopted-most _ _ _ _ b (p .0) d _ _ (c .before .loop .inv .2) (c .before .loop .inv .0) (c .loop-test .left))))
 
 pub adopt-spec : {M : Type 1} → statement M
 adopt-spec =

@@ -2,9 +2,10 @@
 use Prim.Native.Nat.{_-_, _≤_}
 use borrow.Author.Needs.{needs}
 use mathlib.Core.Path.{_≡_}
-use Rattle.node.specs.CutLaws.{first-in, first-lengths, place-first, walk-in, walk-keys, walk-values, walk-next, walk-at, walk-room, walk-below, walk-more, walk-stop, walk-last, last-below, whole-at, whole-room}
-use Rattle.node.specs.FitLaws.{count-most}
-use Rattle.node.specs.Fit.{lengthsOf, fits}
+use Rattle.node.specs.laws.CutLaws.{first-in, first-lengths, place-first, walk-in, walk-keys, walk-values, walk-next, walk-at, walk-room, walk-below, walk-more, walk-stop, walk-last, last-below, whole-at, whole-room}
+use Rattle.node.specs.laws.FitLaws.{count-most}
+use Rattle.node.specs.Fit.{fits}
+use Rattle.node.specs.internal.SlotSteps.{lengthsOf}
 use Rattle.node.specs.Cut.{cutPlace}
 use Rattle.node.specs.Records.{entriesOf}
 use mathlib.Core.Bool.{false}
@@ -32,10 +33,10 @@ longer-requires-2 : tie.Need-longer-requires-2 Inv-loop μ-loop
 longer-requires-2 c κs = search laws
 
 further-requires : tie.Need-further-requires Inv-loop μ-loop
-further-requires c κs = search laws
+further-requires c κs = (search laws, (search laws, search laws))
 
 returns : tie.Need-returns Inv-loop μ-loop
-returns c = search laws
+returns c = (search laws, search laws)
 
 add-place : tie.Need-add-place Inv-loop μ-loop
 add-place c = search laws
@@ -47,7 +48,7 @@ loop-again : tie.Need-loop-again Inv-loop μ-loop
 loop-again c = search laws
 
 returns-2 : tie.Need-returns-2 Inv-loop μ-loop
-returns-2 c = search laws
+returns-2 c = (search laws, search laws)
 
 pub cut-place-spec : {M : Type 1} → statement M
 cut-place-spec =

@@ -3,8 +3,8 @@ use Prim.Native.Nat.{_+_, _-_, _≤_}
 use mathlib.Core.Path.{_≡_}
 use lib.ListN.{drop}
 use borrow.Author.Needs.{needs}
-use Rattle.node.specs.SlotLaws.{at-start, at-lies, at-next}
-use Rattle.node.specs.FindLaws.{place-start, place-next, there-next, found-here, found-none}
+use Rattle.node.specs.laws.SlotLaws.{at-start, at-lies, at-next}
+use Rattle.node.specs.laws.FindLaws.{place-start, place-next, there-next, found-here, found-none}
 use Rattle.node.specs.Records.{recordsLength, entriesOf}
 use Rattle.node.specs.Find.{placeOf, isThere}
 use Rattle.node.proofs.slot.below.Statement.{statement}

@@ -3,8 +3,8 @@ use Prim.Native.Nat.{_+_, _-_, _≤_}
 use mathlib.Core.Path.{_≡_}
 use lib.ListN.{drop}
 use borrow.Author.Needs.{needs}
-use Rattle.node.specs.SlotLaws.{at-start, at-lies, at-next}
-use Rattle.node.specs.FindLaws.{last-start, last-first, last-kept, last-next, last-here, last-none}
+use Rattle.node.specs.laws.SlotLaws.{at-start, at-lies, at-next}
+use Rattle.node.specs.laws.FindLaws.{last-start, last-first, last-kept, last-next, last-here, last-none}
 use Rattle.node.specs.Records.{recordsLength, entriesOf}
 use Rattle.node.specs.Find.{notAbove}
 use Rattle.node.proofs.slot.not_above.Statement.{statement}

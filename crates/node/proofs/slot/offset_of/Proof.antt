@@ -2,7 +2,7 @@
 use Prim.Native.Nat.{_-_, _≤_}
 use mathlib.Core.Path.{_≡_}
 use borrow.Author.Needs.{needs}
-use Rattle.node.specs.SlotLaws.{at-start, at-lies-below, at-next, at-end}
+use Rattle.node.specs.laws.SlotLaws.{at-start, at-lies-below, at-next, at-end}
 use Rattle.node.specs.Records.{recordsLength}
 use Rattle.node.proofs.slot.offset_of.Statement.{statement}
 use Rattle.node.proofs.slot.offset_of.Tie as tie

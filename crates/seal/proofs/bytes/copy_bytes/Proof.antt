@@ -3,7 +3,7 @@ use Prim.Native.Nat.{_-_, _≤_}
 use borrow.Author.Needs.{needs}
 use mathlib.Core.Path.{_≡_}
 use lib.ListN.{length, take}
-use Rattle.seal.specs.WindowLaws.{copy-start, copy-next, copy-done}
+use Rattle.seal.specs.laws.WindowLaws.{copy-start, copy-next, copy-done}
 use Rattle.seal.specs.Bytes.{splice}
 use Rattle.seal.proofs.bytes.copy_bytes.Statement.{statement}
 use Rattle.seal.proofs.bytes.copy_bytes.Tie as tie

@@ -4,8 +4,8 @@ use borrow.Author.Needs.{needs}
 use mathlib.Core.Path.{_≡_}
 use lib.ListN.{length, take}
 use Rattle.seal.specs.Bytes.{splice}
-use Rattle.seal.specs.WindowLaws.{copy-start}
-use Rattle.seal.specs.WordLaws.{word-next, word-last}
+use Rattle.seal.specs.laws.WindowLaws.{copy-start}
+use Rattle.seal.specs.laws.WordLaws.{word-next, word-last}
 use Rattle.seal.proofs.bytes.copy_to.Statement.{statement}
 use Rattle.seal.proofs.bytes.copy_to.Tie as tie
 

@@ -1,6 +1,6 @@
 -- `seal::bytes::copy_word` meets its contract. Assumes nothing.
 use borrow.Author.Needs.{needs}
-use Rattle.seal.specs.WordLaws.{word-moved}
+use Rattle.seal.specs.laws.WordLaws.{word-moved}
 use Rattle.seal.proofs.bytes.copy_word.Statement.{statement}
 use Rattle.seal.proofs.bytes.copy_word.Tie as tie
 

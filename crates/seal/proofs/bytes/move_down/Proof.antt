@@ -3,7 +3,7 @@ use Prim.Native.Nat.{_-_, _≤_}
 use borrow.Author.Needs.{needs}
 use mathlib.Core.Path.{_≡_}
 use lib.ListN.{length}
-use Rattle.seal.specs.MoveLaws.{moved-none, down-next, down-stop}
+use Rattle.seal.specs.laws.MoveLaws.{moved-none, down-next, down-stop}
 use Rattle.seal.specs.Bytes.{moved}
 use Rattle.seal.proofs.bytes.move_down.Statement.{statement}
 use Rattle.seal.proofs.bytes.move_down.Tie as tie

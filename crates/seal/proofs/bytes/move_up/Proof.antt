@@ -6,7 +6,7 @@ use native.Mathlib.Nat.{sub-self}
 use borrow.Author.Needs.{needs}
 use lib.ListN.{length, length-set}
 use Rattle.seal.specs.Bytes.{moved}
-use Rattle.seal.specs.MoveLaws.{moved-none, turn-up, moved-done}
+use Rattle.seal.specs.laws.MoveLaws.{moved-none, turn-up, moved-done}
 use Rattle.seal.proofs.bytes.move_up.Statement.{statement}
 use Rattle.seal.proofs.bytes.move_up.Tie as tie
 

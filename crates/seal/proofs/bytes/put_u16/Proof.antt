@@ -1,5 +1,5 @@
 -- `seal::bytes::put_u16` meets its contract. Assumes nothing.
-use Rattle.seal.specs.FieldLaws.{put-two}
+use Rattle.seal.specs.laws.FieldLaws.{put-two}
 use borrow.Author.Needs.{needs}
 use native.Mathlib.Omega.{arith}
 use lib.ListN.{length-set}

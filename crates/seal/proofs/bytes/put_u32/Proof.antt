@@ -1,5 +1,5 @@
 -- `seal::bytes::put_u32` meets its contract. Assumes nothing.
-use Rattle.seal.specs.FieldLaws.{put-join}
+use Rattle.seal.specs.laws.FieldLaws.{put-join}
 use borrow.Author.Needs.{needs}
 use Rattle.seal.proofs.bytes.put_u32.Statement.{statement}
 use Rattle.seal.proofs.bytes.put_u32.Tie as tie

@@ -1,5 +1,5 @@
 -- `seal::bytes::u16_at` meets its contract. Assumes nothing.
-use Rattle.seal.specs.FieldLaws.{u16-join}
+use Rattle.seal.specs.laws.FieldLaws.{u16-join}
 use borrow.Author.Needs.{needs}
 use Rattle.seal.proofs.bytes.u16_at.Statement.{statement}
 use Rattle.seal.proofs.bytes.u16_at.Tie as tie

@@ -1,5 +1,5 @@
 -- `seal::bytes::u32_at` meets its contract. Assumes nothing.
-use Rattle.seal.specs.FieldLaws.{field-join}
+use Rattle.seal.specs.laws.FieldLaws.{field-join}
 use borrow.Author.Needs.{needs}
 use Rattle.seal.proofs.bytes.u32_at.Statement.{statement}
 use Rattle.seal.proofs.bytes.u32_at.Tie as tie

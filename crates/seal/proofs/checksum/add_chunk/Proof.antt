@@ -3,7 +3,7 @@ use Prim.Native.Nat.{_+_, _-_, _*_, _%_, _≤_}
 use borrow.Author.Needs.{needs}
 use mathlib.Core.Path.{_≡_}
 use lib.ListN.{length, drop}
-use Rattle.seal.specs.ChecksumLaws.{pair-start-1, pair-start-2, pair-turn-1, pair-turn-2, none-left-1, none-left-2, one-left-1, one-left-2}
+use Rattle.seal.specs.laws.ChecksumLaws.{pair-start-1, pair-start-2, pair-turn-1, pair-turn-2, none-left-1, none-left-2, one-left-1, one-left-2}
 use Rattle.seal.specs.Checksum.{words, s1, s2}
 use Rattle.seal.proofs.checksum.add_chunk.Statement.{statement}
 use Rattle.seal.proofs.checksum.add_chunk.Tie as tie

@@ -1,5 +1,5 @@
 -- `seal::checksum::compute` meets its contract. Assumes nothing.
-use Rattle.seal.specs.ChecksumLaws.{compute-law}
+use Rattle.seal.specs.laws.ChecksumLaws.{compute-law}
 use borrow.Author.Needs.{needs}
 use Rattle.seal.proofs.checksum.compute.Statement.{statement}
 use Rattle.seal.proofs.checksum.compute.Tie as tie

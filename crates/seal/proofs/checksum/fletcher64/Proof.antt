@@ -3,7 +3,7 @@ use Prim.Native.Nat.{_-_, _%_, _≤_, _<_}
 use borrow.Author.Needs.{needs}
 use mathlib.Core.Path.{_≡_}
 use lib.ListN.{length, drop}
-use Rattle.seal.specs.ChecksumLaws.{chunk-turn-1, chunk-turn-2, chunk-stop-1, chunk-stop-2}
+use Rattle.seal.specs.laws.ChecksumLaws.{chunk-turn-1, chunk-turn-2, chunk-stop-1, chunk-stop-2}
 use Rattle.seal.specs.Checksum.{M, words, s1, s2}
 use Rattle.seal.proofs.checksum.fletcher64.Statement.{statement}
 use Rattle.seal.proofs.checksum.fletcher64.Tie as tie

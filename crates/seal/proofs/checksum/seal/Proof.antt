@@ -1,5 +1,5 @@
 -- `seal::checksum::seal` meets its contract. Assumes nothing.
-use Rattle.seal.specs.ChecksumLaws.{seal-law}
+use Rattle.seal.specs.laws.ChecksumLaws.{seal-law}
 use borrow.Author.Needs.{needs}
 use Rattle.seal.proofs.checksum.seal.Statement.{statement}
 use Rattle.seal.proofs.checksum.seal.Tie as tie

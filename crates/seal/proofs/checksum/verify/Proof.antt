@@ -1,5 +1,5 @@
 -- `seal::checksum::verify` meets its contract. Assumes nothing.
-use Rattle.seal.specs.ChecksumLaws.{verify-short, verify-part, verify-whole}
+use Rattle.seal.specs.laws.ChecksumLaws.{verify-short, verify-part, verify-whole}
 use borrow.Author.Needs.{needs}
 use Rattle.seal.proofs.checksum.verify.Statement.{statement}
 use Rattle.seal.proofs.checksum.verify.Tie as tie

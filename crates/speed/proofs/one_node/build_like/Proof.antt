@@ -1,5 +1,5 @@
 -- `speed::one_node::build_like` meets its contract. Assumes nothing.
-use Rattle.speed.specs.OneNodeLaws.{is-build}
+use Rattle.speed.specs.laws.OneNodeLaws.{is-build}
 use borrow.Author.Needs.{needs}
 use Rattle.speed.proofs.one_node.build_like.Statement.{statement}
 use Rattle.speed.proofs.one_node.build_like.Tie as tie

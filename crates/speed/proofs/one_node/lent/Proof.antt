@@ -1,5 +1,5 @@
 -- `speed::one_node::lent` meets its contract. Assumes nothing.
-use Rattle.speed.specs.OneNodeLaws.{lent-short, lent-long, lent-last}
+use Rattle.speed.specs.laws.OneNodeLaws.{lent-short, lent-long, lent-last}
 use borrow.Author.Needs.{needs}
 use Rattle.speed.proofs.one_node.lent.Statement.{statement}
 use Rattle.speed.proofs.one_node.lent.Tie as tie

@@ -1,6 +1,6 @@
 -- `speed::one_node::rattle_pack_node` meets its contract. Assumes nothing.
 use mathlib.Core.Path.{refl}
-use Rattle.speed.specs.OneNodeLaws.{Sizes, sizes-all, fit-within, fit-fits, pack-short, pack-sizes, pack-unfit, pack-fit, pack-block}
+use Rattle.speed.specs.laws.OneNodeLaws.{sizes-all, fit-within, fit-fits, pack-short, pack-sizes, pack-unfit, pack-fit, pack-block}
 use borrow.Author.Needs.{needs}
 use Rattle.speed.proofs.one_node.rattle_pack_node.Statement.{statement}
 use Rattle.speed.proofs.one_node.rattle_pack_node.Tie as tie
@@ -30,7 +30,7 @@ returns-3 : tie.Need-returns-3
 returns-3 c = (pack-unfit _ _ _ _ _ _ (c .before .before .before .before .before .before .if1 .left) (c .before .before .before .before .before .build-like .ensures .0) _ (c .before .before .before .sizes-hold .ensures) (c .before .before .if2 .left) _ (c .before .records-fit .ensures) (c .if3 .taken), refl)
 
 pack-requires : tie.Need-pack-requires
-pack-requires c κs = (record { least = sizes-all _ _ _ _ (c .before .before .before .before .sizes-hold .ensures) (c .before .before .before .if2 .left) .least; most = sizes-all _ _ _ _ (c .before .before .before .before .sizes-hold .ensures) (c .before .before .before .if2 .left) .most; key = c .before .before .before .before .before .before .build-like .ensures .1; value = c .before .before .before .before .before .before .build-like .ensures .2 }, sizes-all _ _ _ _ (c .before .before .before .before .sizes-hold .ensures) (c .before .before .before .if2 .left) .room, fit-within _ _ _ _ _ (c .before .before .records-fit .ensures) (c .before .if3 .left), sizes-all _ _ _ _ (c .before .before .before .before .sizes-hold .ensures) (c .before .before .before .if2 .left) .small, fit-fits _ _ _ _ _ (c .before .before .records-fit .ensures) (c .before .if3 .left))
+pack-requires c κs = (record { least = sizes-all _ _ _ _ (c .before .before .before .before .sizes-hold .ensures) (c .before .before .before .if2 .left) .least; most = sizes-all _ _ _ _ (c .before .before .before .before .sizes-hold .ensures) (c .before .before .before .if2 .left) .most; key = c .before .before .before .before .before .before .build-like .ensures .1; value = c .before .before .before .before .before .before .build-like .ensures .2 }, (sizes-all _ _ _ _ (c .before .before .before .before .sizes-hold .ensures) (c .before .before .before .if2 .left) .room, ((fit-within _ _ _ _ _ (c .before .before .records-fit .ensures) (c .before .if3 .left), sizes-all _ _ _ _ (c .before .before .before .before .sizes-hold .ensures) (c .before .before .before .if2 .left) .small), fit-fits _ _ _ _ _ (c .before .before .records-fit .ensures) (c .before .if3 .left))))
 
 same-length-3 : tie.Need-same-length-3
 same-length-3 c = search needs

@@ -1,5 +1,5 @@
 -- `speed::one_node::rattle_read_node` meets its contract. Assumes nothing.
-use Rattle.speed.specs.OneNodeLaws.{Lent, lent-all, read-lent, read-refused, read-loaded, read-sound}
+use Rattle.speed.specs.laws.OneNodeLaws.{lent-all, read-lent, read-refused, read-loaded, read-sound}
 use borrow.Author.Needs.{needs}
 use Rattle.speed.proofs.one_node.rattle_read_node.Statement.{statement}
 use Rattle.speed.proofs.one_node.rattle_read_node.Tie as tie
@@ -44,7 +44,7 @@ same-length-3 : tie.Need-same-length-3
 same-length-3 c = search needs
 
 returns-3 : tie.Need-returns-3
-returns-3 c = read-loaded _ _ _ _ _ _ _ (c .before .before .before .before .before .before .before .before .before .before .lent .ensures) (c .before .before .before .before .before .before .before .before .before .if1 .left) (c .before .before .before .before .before .before .before .before .root-place .ensures) (c .before .before .before .before .before .before .before .read-node .ensures) _ _ _ (c .before .before .before .before .before .read2 .given .1) (c .before .before .adopt .ensures .0) (c .before .before .adopt .ensures .1)
+returns-3 c = read-loaded _ _ _ _ _ _ _ (c .before .before .before .before .before .before .before .before .before .before .lent .ensures) (c .before .before .before .before .before .before .before .before .before .if1 .left) (c .before .before .before .before .before .before .before .before .root-place .ensures) (c .before .before .before .before .before .before .before .read-node .ensures) _ _ _ (c .before .before .before .before .before .read2 .given .1) (c .before .before .adopt .ensures .0 .0) (c .before .before .adopt .ensures .0 .1)
 
 pub rattle-read-node-spec : {M : Type 1} → statement M
 rattle-read-node-spec =

@@ -1,5 +1,5 @@
 -- `speed::one_node::records_fit` meets its contract. Assumes nothing.
-use Rattle.speed.specs.OneNodeLaws.{lie-within, fit-none, fit-some}
+use Rattle.speed.specs.laws.OneNodeLaws.{lie-within, fit-none, fit-some}
 use borrow.Author.Needs.{needs}
 use Rattle.speed.proofs.one_node.records_fit.Statement.{statement}
 use Rattle.speed.proofs.one_node.records_fit.Tie as tie

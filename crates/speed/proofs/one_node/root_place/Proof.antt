@@ -1,5 +1,5 @@
 -- `speed::one_node::root_place` meets its contract. Assumes nothing.
-use Rattle.speed.specs.OneNodeLaws.{is-root}
+use Rattle.speed.specs.laws.OneNodeLaws.{is-root}
 use Rattle.speed.proofs.one_node.root_place.Statement.{statement}
 use Rattle.speed.proofs.one_node.root_place.Tie as tie
 

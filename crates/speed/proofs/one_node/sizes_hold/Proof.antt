@@ -1,5 +1,5 @@
 -- `speed::one_node::sizes_hold` meets its contract. Assumes nothing.
-use Rattle.speed.specs.OneNodeLaws.{sizes-short, sizes-long, sizes-room, sizes-last}
+use Rattle.speed.specs.laws.OneNodeLaws.{sizes-short, sizes-long, sizes-room, sizes-last}
 use Rattle.speed.proofs.one_node.sizes_hold.Statement.{statement}
 use Rattle.speed.proofs.one_node.sizes_hold.Tie as tie
 

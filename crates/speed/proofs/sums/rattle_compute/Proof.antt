@@ -1,5 +1,5 @@
 -- `speed::sums::rattle_compute` meets its contract. Assumes nothing.
-use Rattle.speed.specs.AnyLaws.{sum-none, sum-some}
+use Rattle.speed.specs.laws.AnyLaws.{sum-none, sum-some}
 use borrow.Author.Needs.{needs}
 use Rattle.speed.proofs.sums.rattle_compute.Statement.{statement}
 use Rattle.speed.proofs.sums.rattle_compute.Tie as tie

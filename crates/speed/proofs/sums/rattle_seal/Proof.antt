@@ -1,5 +1,5 @@
 -- `speed::sums::rattle_seal` meets its contract. Assumes nothing.
-use Rattle.speed.specs.AnyLaws.{seal-none, seal-some}
+use Rattle.speed.specs.laws.AnyLaws.{seal-none, seal-some}
 use borrow.Author.Needs.{needs}
 use Rattle.speed.proofs.sums.rattle_seal.Statement.{statement}
 use Rattle.speed.proofs.sums.rattle_seal.Tie as tie

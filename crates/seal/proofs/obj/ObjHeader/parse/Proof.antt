@@ -1,5 +1,5 @@
 -- `seal::obj::ObjHeader::parse` meets its contract. Assumes nothing.
-use Rattle.seal.specs.ObjLaws.{parse-law}
+use Rattle.seal.specs.laws.ObjLaws.{parse-law}
 use borrow.Author.Needs.{needs}
 use Rattle.seal.proofs.obj.ObjHeader.parse.Statement.{statement}
 use Rattle.seal.proofs.obj.ObjHeader.parse.Tie as tie

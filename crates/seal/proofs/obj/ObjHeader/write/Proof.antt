@@ -1,5 +1,5 @@
 -- `seal::obj::ObjHeader::write` meets its contract. Assumes nothing.
-use Rattle.seal.specs.ObjLaws.{write-law}
+use Rattle.seal.specs.laws.ObjLaws.{write-law}
 use borrow.Author.Needs.{needs}
 use Rattle.seal.proofs.obj.ObjHeader.write.Statement.{statement}
 use Rattle.seal.proofs.obj.ObjHeader.write.Tie as tie
