@@ -1,20 +1,19 @@
--- What edits share (document 01, "Edits"): dirty marks, index keys on the way, cuts bottom up.
-use mathlib.Core.List.{List, [], _∷_, _++_}
-use mathlib.Core.Bool.{Bool, true, false, cond, _&&_, _||_, not}
-use Prim.Native.Nat.{ℕ, zero, suc, _+_, _-_, _^_}
+-- What edits share (RULES: dirty, index-keys, cut): dirty marks, index keys on the way, cuts bottom up.
+use mathlib.Core.List.{List, [], _∷_}
+use mathlib.Core.Bool.{Bool, true, cond, _&&_, _||_, not}
+use Prim.Native.Nat.{ℕ, suc, _+_, _-_, _^_}
 use lib.ListN.{length, take, drop}
 use lib.Dec.{leb, ltb, eqb}
-use Rattle.node.specs.Result.{Result, ok, refused, _>>=_, _>>_, check}
+use Rattle.node.specs.Result.{Result, ok, _>>=_, _>>_, check}
 use Rattle.node.specs.Refusals as refusal
 use Rattle.node.specs.Order.{sameKey}
-use Rattle.node.specs.Entry.{Entry, Val, mem}
+use Rattle.node.specs.Entry.{Entry, mem}
 use Rattle.node.specs.Find.{keyAt}
 use Rattle.node.specs.Fit.{fits}
-use Rattle.node.specs.Cut.{Cut, cut, tooLarge, nowhere, after}
+use Rattle.node.specs.Cut.{cut}
 use Rattle.node.specs.Slot.{MemNode, insertAt, withKey}
-use Rattle.node.specs.declared.info.BTreeInfo.{BTreeInfo}
 use Rattle.tree.specs.Lent.{Lent}
-use Rattle.tree.specs.State.{State, nodeAt, putNode, addNode, withRoot, withInfo, withCounts, withEntries, changed, markedDirty, withPlace, made}
+use Rattle.tree.specs.State.{State, nodeAt, putNode, addNode, withRoot, withInfo, withCounts, changed, markedDirty, withPlace, made}
 use Rattle.tree.specs.Lookup.{Step, leafOf}
 
 -- ---- dirty marks
@@ -60,9 +59,9 @@ moreNodes s n = withInfo s (withCounts (s .info) (s .info .«key_count») (s .in
 
 -- 17 and 11: room in the node count and in the slots for n nodes made
 unfoldable pub roomFor : Lent → State → ℕ → Result (Unit {0})
-roomFor l s n =
-    check refusal.count (leb (s .info .«node_count» + n) (2 ^ 64 - 1))
-    >> check refusal.noSlot (leb (length (s .nodes) + n) (l .slots))
+roomFor l s n = do
+  check refusal.count (leb (s .info .«node_count» + n) (2 ^ 64 - 1))
+  check refusal.noSlot (leb (length (s .nodes) + n) (l .slots))
 
 -- slot n keeps its first c entries, the next slot takes the rest; both are dirty
 unfoldable pub parted : State → ℕ → ℕ → State
@@ -103,21 +102,22 @@ cutAt l up n c s = grown up
     s′ = parted s n c
 
     grown : List Step → Result State
-    grown [] = check refusal.newRoot (newRootHolds s′ n r) >> roomFor l s 2 >> ok (moreNodes (growRoot s′ n r) 2)
-    grown (x ∷ xs) = roomFor l s 1 >> ok (moreNodes (linkRight s′ (x .slot) (x .child) r) 1)
+    grown [] = do
+      check refusal.newRoot (newRootHolds s′ n r)
+      roomFor l s 2
+      ok (moreNodes (growRoot s′ n r) 2)
+    grown (x ∷ xs) = do
+      roomFor l s 1
+      ok (moreNodes (linkRight s′ (x .slot) (x .child) r) 1)
 
 -- an unfit node: 13, 14, at the root 15, 17, 11
 unfoldable pub cutNode : Lent → List Step → ℕ → State → Result State
 cutNode l up n s =
-    cond (m .dead || fits (s .info) (eqb n (s .root)) (m .level) (m .entries)) (ok s) (placed (cut (s .info) (m .level) (m .entries)))
+    cond (m .dead || fits (s .info) (eqb n (s .root)) (m .level) (m .entries)) (ok s)
+    (cut (s .info) (m .level) (m .entries) >>= λ c. cutAt l up n c s)
   where
     m : MemNode
     m = nodeAt s n
-
-    placed : Cut → Result State
-    placed tooLarge = refused refusal.single
-    placed nowhere = refused refusal.noCut
-    placed (after c) = cutAt l up n c s
 
 -- on a way, bottom up: each node that doesn't fit is cut in two. up: the step above, none at the root
 unfoldable pub cuts : Lent → List Step → List Step → State → Result State

@@ -1,14 +1,19 @@
 -- What the crates above cite of `node`, under this crate's name: each crate sees only the one below.
-pub use Rattle.node.specs.Bytes.{window, splice, u32At, u64At, bytesOf}
+pub use Rattle.node.specs.Bytes.{u32At, u64At}
+unfoldable pub use Rattle.node.specs.Bytes.{window, splice, bytesOf}
 pub use Rattle.node.specs.Result.{Result, ok, refused, _>>=_, _>>_, check}
-pub use Rattle.node.specs.Order.{pair, byte, pairKey, less, known, keyed}
-pub use Rattle.node.specs.Entry.{Entry, Val, ghost, leaf, disk, mem, valueLength, rising}
-pub use Rattle.node.specs.Find.{keyAt, valAt, placeOf, isThere, notAbove, wayIndex, lastNotAbove, lastOf}
-pub use Rattle.node.specs.Fit.{flag, fits, dataSpace, tocLength, packedLength}
-pub use Rattle.node.specs.Cut.{cut, Cut, tooLarge, nowhere, after}
-pub use Rattle.node.specs.Read.{OnDisk, infoAt, readNode}
-pub use Rattle.node.specs.Pack.{packNode, numbered}
-pub use Rattle.node.specs.Slot.{MemNode, insertAt, removeAt, withKey, withValue}
+pub use Rattle.node.specs.Order.{pair, byte}
+unfoldable pub use Rattle.node.specs.Order.{pairKey, less, known, keyed}
+pub use Rattle.node.specs.Entry.{Entry, Val, ghost, leaf, disk, mem}
+unfoldable pub use Rattle.node.specs.Entry.{valueLength, rising}
+unfoldable pub use Rattle.node.specs.Find.{keyAt, valAt, placeOf, isThere, notAbove, wayIndex, lastNotAbove, lastOf}
+unfoldable pub use Rattle.node.specs.Fit.{flag, fits, dataSpace, tocLength, packedLength}
+unfoldable pub use Rattle.node.specs.Cut.{cut}
+pub use Rattle.node.specs.Read.{OnDisk}
+unfoldable pub use Rattle.node.specs.Read.{infoAt, readNode}
+unfoldable pub use Rattle.node.specs.Pack.{packNode, numbered}
+pub use Rattle.node.specs.Slot.{MemNode}
+unfoldable pub use Rattle.node.specs.Slot.{only, numberOf, insertAt, removeAt, withKey, withValue}
 pub use Rattle.node.specs.declared.info.BTreeInfo.{BTreeInfo}
 pub use Rattle.node.specs.declared.build.NodeBuild.{NodeBuild}
 pub use Rattle.node.specs.declared.read.Place.{Place}

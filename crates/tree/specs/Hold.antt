@@ -1,7 +1,7 @@
 -- Refusal 1, second half: slots that, dead nodes aside, hold together.
 use mathlib.Core.List.{List, [], _∷_}
-use mathlib.Core.Bool.{Bool, true, false, cond, _&&_, _||_, not}
-use Prim.Native.Nat.{ℕ, zero, suc, _+_}
+use mathlib.Core.Bool.{Bool, true, cond, _&&_, _||_, not}
+use Prim.Native.Nat.{ℕ, zero, suc, _+_, _^_}
 use lib.ListN.{length}
 use lib.Dec.{leb, ltb, eqb}
 use Rattle.node.specs.Order.{known, keyed}
@@ -37,19 +37,22 @@ standsOnDisk s n m =
     (fits (s .info) (eqb n (s .root)) (m .level) (m .entries))
     (eqb (length (m .block)) 1 && (not (s .virtual) || eqb (length (m .id)) 1))
 
--- the node of slot n holds
-unfoldable pub nodeHolds : State → ℕ → MemNode → Bool
-nodeHolds s n m =
+-- the node of slot n stands: its level, its entries one by one, its children, its place on disk
+unfoldable pub nodeStands : State → ℕ → MemNode → Bool
+nodeStands s n m =
     leb (m .level) 32
     && (eqb (m .level) 0 || not (eqb (length (m .entries)) 0))
     && every (λ e. keyFits s (e .key) && valueFits s (e .value) && suit (eqb (m .level) 0) e && childHolds s (m .level) (e .value)) (m .entries)
-    && rising (s .order) (m .entries)
     && standsOnDisk s n m
 
--- every slot from n on that is not dead holds
-unfoldable pub nodesHold : State → ℕ → List MemNode → Bool
-nodesHold s n [] = true
-nodesHold s n (m ∷ ms) = (m .dead || nodeHolds s n m) && nodesHold s (suc n) ms
+-- the node of slot n holds: it stands, and its keys rise
+unfoldable pub nodeHolds : State → ℕ → MemNode → Bool
+nodeHolds s n m = nodeStands s n m && rising (s .order) (m .entries)
+
+-- every slot from n on that is not dead passes a test
+unfoldable pub everyLive : (ℕ → MemNode → Bool) → ℕ → List MemNode → Bool
+everyLive t n [] = true
+everyLive t n (m ∷ ms) = (m .dead || t n m) && everyLive t (suc n) ms
 
 -- how often entries name slot c
 unfoldable pub naming : ℕ → List Entry → ℕ
@@ -76,15 +79,25 @@ namedOnce s (suc c) = leb (named c (s .nodes) + cond (eqb c (s .root)) 1 0) 1 &&
 unfoldable pub holdTogether : State → Bool
 holdTogether s =
     ltb (s .root) (length (s .nodes)) && not (nodeAt s (s .root) .dead)
-    && nodesHold s 0 (s .nodes)
+    && everyLive (nodeHolds s) 0 (s .nodes)
     && namedOnce s (length (s .nodes))
 
--- 1, of a call that is lent no bitmap: sizes, order, slots. A map is lent to a virtual tree and to no other
-unfoldable pub lentHolds : Lent → State → Bool
-lentHolds l s =
+-- 1: the tree's lengths and flags are u32, as its root stores them
+unfoldable pub infoHolds : BTreeInfo → Bool
+infoHolds t =
+    ltb (t .flags) (2 ^ 32) && ltb (t .«key_size») (2 ^ 32) && ltb (t .«val_size») (2 ^ 32)
+    && ltb (t .«longest_key») (2 ^ 32) && ltb (t .«longest_val») (2 ^ 32)
+
+-- 1: sizes, order, the tree's numbers. A map is lent to a virtual tree and to no other
+unfoldable pub numbersHold : Lent → State → Bool
+numbersHold l s =
     sizesHold l
     && eqb (s .info .«node_size») (l .size)
     && known (s .order)
+    && infoHolds (s .info)
     && eqb (length (l .map)) (cond (s .virtual) 1 0)
     && leb (length (s .nodes)) (l .slots)
-    && holdTogether s
+
+-- 1, of a call that is lent no bitmap
+unfoldable pub lentHolds : Lent → State → Bool
+lentHolds l s = numbersHold l s && holdTogether s

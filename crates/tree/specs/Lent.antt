@@ -1,7 +1,7 @@
--- What is lent to a call beside the slots (document 01, "What is lent").
-use mathlib.Core.List.{List, [], _∷_}
-use mathlib.Core.Bool.{Bool, true, false, cond, _&&_, _||_}
-use Prim.Native.Nat.{ℕ, zero, suc, _+_, _*_, _/_, _%_, _^_}
+-- What is lent to a call beside the slots (RULES: lent).
+use mathlib.Core.List.{List}
+use mathlib.Core.Bool.{Bool, _&&_, _||_}
+use Prim.Native.Nat.{ℕ, _*_, _/_, _%_, _^_}
 use lib.ListN.{length}
 use lib.Dec.{leb, ltb, eqb}
 use Rattle.node.specs.Bytes.{window}

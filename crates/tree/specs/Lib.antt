@@ -1,4 +1,4 @@
--- The editor on slots: document 01's rules as functions on a list of nodes.
+-- The editor on slots: the rules of docs/RULES.md as functions on a list of nodes.
 pub mod Format
 pub mod Refusals
 pub mod Lent
@@ -11,11 +11,9 @@ pub mod Edit
 pub mod Upsert
 pub mod Remove
 pub mod Omap
-pub mod NodeLaws
-pub mod EntryLaws
-pub mod StateLaws
-pub mod LoadLaws
-pub mod EditLaws
-pub mod HoldLaws
-pub mod LeafLaws
-pub mod OpenLaws
+pub mod Trust
+pub mod Answers
+-- What only internal contracts cite, or a theorem assumes.
+pub mod internal
+-- Laws: checked by the machine, nothing to believe.
+pub mod laws

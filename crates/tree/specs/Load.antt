@@ -1,7 +1,7 @@
--- Load (document 01, "Refused", the load line): bounds, a block read at an address, the object map's lookup, a child loaded into a slot.
-use mathlib.Core.List.{List, [], _∷_, _++_}
-use mathlib.Core.Bool.{Bool, true, false, cond, _&&_, _||_, not}
-use Prim.Native.Nat.{ℕ, zero, suc, _+_, _-_, _/_}
+-- Load (RULES: load): bounds, a block read at an address, the object map's lookup, a child loaded into a slot.
+use mathlib.Core.List.{List, [], _∷_}
+use mathlib.Core.Bool.{Bool, true, false, cond, _&&_, not}
+use Prim.Native.Nat.{ℕ, zero, suc, _-_, _/_}
 use lib.ListN.{length}
 use lib.Dec.{ltb, eqb}
 use Rattle.node.specs.Bytes.{u32At, u64At}
@@ -13,7 +13,6 @@ use Rattle.node.specs.Find.{keyAt, valAt, wayIndex, lastNotAbove, lastOf}
 use Rattle.node.specs.Fit.{flag}
 use Rattle.node.specs.Read.{OnDisk, readNode, infoAt}
 use Rattle.node.specs.Slot.{MemNode, withValue}
-use Rattle.node.specs.declared.info.BTreeInfo.{BTreeInfo}
 use Rattle.node.specs.declared.read.Place.{Place}
 use Rattle.tree.specs.Lent.{Lent, blockAt, inImage}
 use Rattle.tree.specs.State.{State, nodeAt, putNode, addNode, withEntries}
@@ -56,9 +55,9 @@ childBounds o bs es i =
 
 -- 2 to 9: the node at an address, in its place
 unfoldable pub loadBlock : Lent → ℕ → Place → Bounds → ℕ → Result OnDisk
-loadBlock l o p bs a =
-    check refusal.address (inImage l a)
-    >> readNode o p (boundKey (bs .lower)) (boundKey (bs .upper)) (blockAt l a)
+loadBlock l o p bs a = do
+  check refusal.address (inImage l a)
+  readNode o p (boundKey (bs .lower)) (boundKey (bs .upper)) (blockAt l a)
 
 -- a root stands alone; a child below its parent, with the tree's fixed lengths
 unfoldable pub rootPlace : ℕ → Place
@@ -81,15 +80,15 @@ rootHolds l a virtual d =
 -- ---- the object map: a physical pair tree with keys and values of 16, its nodes read without slots
 
 -- the number of a child on disk
-unfoldable pub childNumber : Val → ℕ
-childNumber ghost = 0
-childNumber (leaf v) = 0
-childNumber (disk r) = r
-childNumber (mem c) = 0
+unfoldable pub diskNumber : Val → ℕ
+diskNumber ghost = 0
+diskNumber (leaf v) = 0
+diskNumber (disk r) = r
+diskNumber (mem c) = 0
 
 unfoldable pub mapChild : Lent → OnDisk → Bounds → ℕ → Result OnDisk
 mapChild l d bs i =
-    let a : ℕ = childNumber (valAt (d .entries) i) in
+    let a : ℕ = diskNumber (valAt (d .entries) i) in
     let cs : Bounds = childBounds pair bs (d .entries) i in
     loadBlock l pair (childPlace 16 16 cs (d .node .level) a) cs a
 
@@ -137,11 +136,11 @@ mapRootHolds l a d =
 
 -- the address of an id as seen from a transaction: its entry with the greatest transaction not above
 unfoldable pub mapAddress : Lent → ℕ → ℕ → ℕ → Result ℕ
-mapAddress l xid id m =
-    loadBlock l pair (rootPlace m) unbounded m
-    >>= λ d. check refusal.root (mapRootHolds l m d)
-    >> mapFloor (d .node .level) l d unbounded (pairKey id xid)
-    >>= mapping id
+mapAddress l xid id m = do
+  d ← loadBlock l pair (rootPlace m) unbounded m
+  check refusal.root (mapRootHolds l m d)
+  es ← mapFloor (d .node .level) l d unbounded (pairKey id xid)
+  mapping id es
 
 -- the address of a reference: itself, or with a map lent its id's mapping
 unfoldable pub addressOf : Lent → ℕ → ℕ → Result ℕ
@@ -186,11 +185,11 @@ loadChild l s bs n i = child (valAt es i)
         record { state = addNode (putNode s n (withEntries (nodeAt s n) (withValue i (mem c) es))) (adopted (s .virtual) a d); slot = c }
 
     fetched : ℕ → Result At
-    fetched r =
-        check refusal.noSlot (ltb (length (s .nodes)) (l .slots))
-        >> addressOf l (s .xid) r
-        >>= λ a. loadBlock l (s .order) (childPlace (s .info .«key_size») (s .info .«val_size») cs (nodeAt s n .level) r) cs a
-        >>= λ d. ok (linked d a)
+    fetched r = do
+      check refusal.noSlot (ltb (length (s .nodes)) (l .slots))
+      a ← addressOf l (s .xid) r
+      d ← loadBlock l (s .order) (childPlace (s .info .«key_size») (s .info .«val_size») cs (nodeAt s n .level) r) cs a
+      ok (linked d a)
 
     child : Val → Result At
     child ghost = refused refusal.lent

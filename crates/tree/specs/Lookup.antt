@@ -1,21 +1,20 @@
--- Open and the lookups: get, floor, range (document 01, "Refused": open, get, floor, range).
+-- Open and the lookups: get, floor, range (RULES: open, way, get, floor, range).
 use mathlib.Core.List.{List, [], _∷_, _++_}
-use mathlib.Core.Bool.{Bool, true, false, cond, _&&_, _||_, not}
+use mathlib.Core.Bool.{Bool, true, cond, _&&_, _||_, not}
 use Prim.Native.Nat.{ℕ, zero, suc, _+_, _-_}
 use lib.ListN.{length}
 use lib.Dec.{leb, ltb}
-use Rattle.node.specs.Result.{Result, ok, refused, _>>=_, _>>_, check}
+use Rattle.node.specs.Result.{Result, ok, _>>=_, _>>_, check}
 use Rattle.node.specs.Refusals as refusal
 use Rattle.node.specs.Order.{known, keyed, less}
-use Rattle.node.specs.Entry.{Entry, Val, ghost, leaf, disk, mem, valueLength}
+use Rattle.node.specs.Entry.{Entry, Val, valueLength}
 use Rattle.node.specs.Find.{keyAt, valAt, placeOf, isThere, wayIndex, lastNotAbove, lastOf}
 use Rattle.node.specs.Records.{recordsOf}
 use Rattle.node.specs.Read.{OnDisk, infoAt}
-use Rattle.node.specs.Slot.{MemNode}
 use Rattle.tree.specs.Lent.{Lent, sizesHold, blockAt}
 use Rattle.tree.specs.State.{State, nodeAt}
 use Rattle.tree.specs.Hold.{lentHolds}
-use Rattle.tree.specs.Load.{Bounds, unbounded, childBounds, loadBlock, rootPlace, rootHolds, addressOf, adopted, At, loadChild}
+use Rattle.tree.specs.Load.{Bounds, unbounded, childBounds, loadBlock, rootPlace, rootHolds, addressOf, adopted, loadChild}
 
 -- ---- open
 
@@ -35,12 +34,12 @@ openedAt l order xid a d =
 
 -- 1; load; 10
 unfoldable pub opened : Lent → ℕ → ℕ → ℕ → Result State
-opened l r order xid =
-    check refusal.lent (sizesHold l && known order && leb (length (l .map)) 1)
-    >> addressOf l xid r
-    >>= λ a. loadBlock l order (rootPlace r) unbounded a
-    >>= λ d. check refusal.root (rootHolds l a (leb 1 (length (l .map))) d)
-    >> ok (openedAt l order xid a d)
+opened l r order xid = do
+  check refusal.lent (sizesHold l && known order && leb (length (l .map)) 1)
+  a ← addressOf l xid r
+  d ← loadBlock l order (rootPlace r) unbounded a
+  check refusal.root (rootHolds l a (leb 1 (length (l .map))) d)
+  ok (openedAt l order xid a d)
 
 -- ---- the way to a key
 
@@ -93,15 +92,20 @@ unfoldable pub gotLength : List Val → ℕ
 gotLength [] = 0
 gotLength (v ∷ vs) = valueLength v
 
--- 1; 12; load; 20
+-- 12; load; 20
+unfoldable pub getIn : Lent → State → ℕ → List ℕ → Result (Got Val)
+getIn l s room k = do
+  check refusal.argument (keyed (s .order) k)
+  w ← way l s k
+  let v : List Val = held (s .order) k (nodeAt (w .state) (leafOf (w .steps)) .entries)
+  check refusal.output (leb (gotLength v) room)
+  ok (record { state = w .state; answer = v })
+
+-- 1; what follows
 unfoldable pub get : Lent → State → ℕ → List ℕ → Result (Got Val)
-get l s room k =
-    check refusal.lent (lentHolds l s)
-    >> check refusal.argument (keyed (s .order) k)
-    >> way l s k
-    >>= λ w. let v : List Val = held (s .order) k (nodeAt (w .state) (leafOf (w .steps)) .entries) in
-    check refusal.output (leb (gotLength v) room)
-    >> ok (record { state = w .state; answer = v })
+get l s room k = do
+  check refusal.lent (lentHolds l s)
+  getIn l s room k
 
 -- ---- floor
 
@@ -134,14 +138,19 @@ floorFrom (suc d) l s bs n k =
         (loadChild l s′ bs n (i - 1) >>= λ c. lastFrom d l (c .state) (childBounds (s .order) bs es (i - 1)) (c .slot))
         (ok (record { state = s′; answer = [] }))
 
--- 1; 12; load; 20
+-- 12; load; 20
+unfoldable pub floorIn : Lent → State → ℕ → List ℕ → Result (Got Entry)
+floorIn l s room k = do
+  check refusal.argument (keyed (s .order) k)
+  g ← floorFrom (nodeAt s (s .root) .level) l s unbounded (s .root) k
+  check refusal.output (leb (length (recordsOf (g .answer))) room)
+  ok g
+
+-- 1; what follows
 unfoldable pub floor : Lent → State → ℕ → List ℕ → Result (Got Entry)
-floor l s room k =
-    check refusal.lent (lentHolds l s)
-    >> check refusal.argument (keyed (s .order) k)
-    >> floorFrom (nodeAt s (s .root) .level) l s unbounded (s .root) k
-    >>= λ g. check refusal.output (leb (length (recordsOf (g .answer))) room)
-    >> ok g
+floor l s room k = do
+  check refusal.lent (lentHolds l s)
+  floorIn l s room k
 
 -- ---- range
 
@@ -177,11 +186,16 @@ unfoldable pub rangeFrom : ℕ → Lent → List ℕ → List (List ℕ) → Sta
 rangeFrom zero l lo hi s bs n = ok (record { state = s; answer = between (s .order) lo hi (nodeAt s n .entries) })
 rangeFrom (suc d) l lo hi s bs n = rangeKids (rangeFrom d l lo hi) l s bs n lo hi (length (nodeAt s n .entries)) 0
 
--- 1; 12 of both ends; load; 20
+-- 12 of both ends; load; 20
+unfoldable pub rangeIn : Lent → State → ℕ → List ℕ → List ℕ → Result (Got Entry)
+rangeIn l s room lo hi = do
+  check refusal.argument (keyed (s .order) lo && keyed (s .order) hi)
+  g ← rangeFrom (nodeAt s (s .root) .level) l lo (hi ∷ []) s unbounded (s .root)
+  check refusal.output (leb (length (recordsOf (g .answer))) room)
+  ok g
+
+-- 1; what follows
 unfoldable pub range : Lent → State → ℕ → List ℕ → List ℕ → Result (Got Entry)
-range l s room lo hi =
-    check refusal.lent (lentHolds l s)
-    >> check refusal.argument (keyed (s .order) lo && keyed (s .order) hi)
-    >> rangeFrom (nodeAt s (s .root) .level) l lo (hi ∷ []) s unbounded (s .root)
-    >>= λ g. check refusal.output (leb (length (recordsOf (g .answer))) room)
-    >> ok g
+range l s room lo hi = do
+  check refusal.lent (lentHolds l s)
+  rangeIn l s room lo hi

@@ -1,20 +1,20 @@
--- Object-map put and drop, one call each (document 01: "`omap_put` is drop, then upsert, as one call").
+-- Object-map put and drop, one call each (RULES: omap).
 use mathlib.Core.List.{List, [], _∷_, _++_}
-use mathlib.Core.Bool.{Bool, true, false, cond, _&&_}
+use mathlib.Core.Bool.{Bool, cond, _&&_}
 use Prim.Native.Nat.{ℕ, suc, _-_, _^_}
 use lib.Dec.{eqb}
 use Rattle.node.specs.Bytes.{bytesOf}
-use Rattle.node.specs.Result.{Result, ok, refused, _>>=_, _>>_, check}
+use Rattle.node.specs.Result.{Result, ok, _>>=_, _>>_, check}
 use Rattle.node.specs.Refusals as refusal
 use Rattle.node.specs.Order.{pair, pairKey}
-use Rattle.node.specs.Entry.{Entry, Val, leaf}
+use Rattle.node.specs.Entry.{Entry, leaf}
 use Rattle.tree.specs.Lent.{Lent}
 use Rattle.tree.specs.State.{State, nodeAt}
 use Rattle.tree.specs.Hold.{lentHolds}
 use Rattle.tree.specs.Load.{unbounded}
-use Rattle.tree.specs.Lookup.{Got, rangeFrom}
+use Rattle.tree.specs.Lookup.{rangeFrom}
 use Rattle.tree.specs.Upsert.{upserted}
-use Rattle.tree.specs.Remove.{Removed, removed}
+use Rattle.tree.specs.Remove.{removed}
 
 -- 12: pair order with 16-byte keys and values
 unfoldable pub isOmap : State → Bool
@@ -39,17 +39,27 @@ dropped l s id =
 unfoldable pub omapValue : ℕ → ℕ → List ℕ
 omapValue size address = bytesOf 4 0 ++ bytesOf 4 size ++ bytesOf 8 address
 
--- 1; 12; the drop
-unfoldable pub omapDrop : Lent → State → ℕ → Result State
-omapDrop l s id =
-    check refusal.lent (lentHolds l s)
-    >> check refusal.argument (isOmap s)
-    >> dropped l s id
+-- 12; the drop
+unfoldable pub omapDropIn : Lent → State → ℕ → Result State
+omapDropIn l s id = do
+  check refusal.argument (isOmap s)
+  dropped l s id
 
--- 1; 12; the drop; the upsert
+-- 1; what follows
+unfoldable pub omapDrop : Lent → State → ℕ → Result State
+omapDrop l s id = do
+  check refusal.lent (lentHolds l s)
+  omapDropIn l s id
+
+-- 12; the drop; the upsert
+unfoldable pub omapPutIn : Lent → State → ℕ → ℕ → ℕ → ℕ → Result State
+omapPutIn l s id xid address size = do
+  check refusal.argument (isOmap s)
+  t ← dropped l s id
+  upserted l t (pairKey id xid) (leaf (omapValue size address))
+
+-- 1; what follows
 unfoldable pub omapPut : Lent → State → ℕ → ℕ → ℕ → ℕ → Result State
-omapPut l s id xid address size =
-    check refusal.lent (lentHolds l s)
-    >> check refusal.argument (isOmap s)
-    >> dropped l s id
-    >>= λ t. upserted l t (pairKey id xid) (leaf (omapValue size address))
+omapPut l s id xid address size = do
+  check refusal.lent (lentHolds l s)
+  omapPutIn l s id xid address size

@@ -1,10 +1,10 @@
--- Remove (document 01, "Edits"; "Refused": remove).
-use mathlib.Core.List.{List, [], _∷_, _++_}
-use mathlib.Core.Bool.{Bool, true, false, cond, _&&_, _||_, not}
-use Prim.Native.Nat.{ℕ, zero, suc, _+_, _-_}
+-- Remove (RULES: remove, hand-down).
+use mathlib.Core.List.{List, [], _∷_}
+use mathlib.Core.Bool.{Bool, true, false, cond, _&&_}
+use Prim.Native.Nat.{ℕ, zero, suc, _-_}
 use lib.ListN.{length}
 use lib.Dec.{leb, ltb, eqb}
-use Rattle.node.specs.Result.{Result, ok, refused, _>>=_, _>>_, check}
+use Rattle.node.specs.Result.{Result, ok, _>>=_, _>>_, check}
 use Rattle.node.specs.Refusals as refusal
 use Rattle.node.specs.Order.{keyed}
 use Rattle.node.specs.Entry.{Entry}
@@ -92,10 +92,10 @@ takeFromLeaf s n k =
 unfoldable pub shrunkOn : Lent → List ℕ → Way → Result State
 shrunkOn l k w =
     let s : State = w .state in
-    let d : Dropped = dropEmptied (w .steps) (touch (w .steps) (takeFromLeaf s (leafOf (w .steps)) k)) in
-    let s′ : State = withInfo (d .state) (withCounts (s .info) (s .info .«key_count» - 1) (s .info .«node_count» - d .nodes)) in
-    check refusal.count (ltb 0 (s .info .«key_count») && leb (d .nodes) (s .info .«node_count»))
-    >> cuts l [] (w .steps) (indexKeys (w .steps) (leveledRoot s′))
+    let d : Dropped = dropEmptied (w .steps) (takeFromLeaf (touch (w .steps) s) (leafOf (w .steps)) k) in
+    let s′ : State = withInfo (d .state) (withCounts (s .info) (s .info .«key_count» - 1) (s .info .«node_count» - d .nodes)) in do
+      check refusal.count (ltb 0 (s .info .«key_count») && leb (d .nodes) (s .info .«node_count»))
+      cuts l [] (w .steps) (indexKeys (w .steps) (leveledRoot s′))
 
 -- and last, the root's place handed down
 unfoldable pub removeOn : Lent → List ℕ → Way → Result State
@@ -114,9 +114,14 @@ removed l s k =
     (removeOn l k w >>= λ t. ok (record { state = t; present = true }))
     (ok (record { state = w .state; present = false }))
 
--- 1; 12; the edit
+-- 12; the edit
+unfoldable pub removeIn : Lent → State → List ℕ → Result Removed
+removeIn l s k = do
+  check refusal.argument (keyed (s .order) k)
+  removed l s k
+
+-- 1; what follows
 unfoldable pub remove : Lent → State → List ℕ → Result Removed
-remove l s k =
-    check refusal.lent (lentHolds l s)
-    >> check refusal.argument (keyed (s .order) k)
-    >> removed l s k
+remove l s k = do
+  check refusal.lent (lentHolds l s)
+  removeIn l s k

@@ -1,9 +1,9 @@
 -- A tree that is open: its numbers, and its nodes, one a slot in the order in which the slots were taken.
 use mathlib.Core.List.{List, [], _∷_, _++_}
-use mathlib.Core.Bool.{Bool, true, false, cond}
-use Prim.Native.Nat.{ℕ, zero, suc, _+_, _-_}
-use lib.ListN.{length, getD, set}
-use Rattle.node.specs.Entry.{Entry, Val}
+use mathlib.Core.Bool.{Bool, true, false}
+use Prim.Native.Nat.{ℕ, _+_}
+use lib.ListN.{getD, set}
+use Rattle.node.specs.Entry.{Entry}
 use Rattle.node.specs.Slot.{MemNode}
 use Rattle.node.specs.declared.info.BTreeInfo.{BTreeInfo}
 
@@ -82,8 +82,9 @@ changed m es = record { level = m .level; entries = es; block = m .block; id = m
 unfoldable pub markedDirty : MemNode → MemNode
 markedDirty m = changed m (m .entries)
 
+-- a dead node has no entries: only its block and its id are looked at again, by flush
 unfoldable pub markedDead : MemNode → MemNode
-markedDead m = record { level = m .level; entries = m .entries; block = m .block; id = m .id; dirty = m .dirty; dead = true }
+markedDead m = record { level = m .level; entries = []; block = m .block; id = m .id; dirty = m .dirty; dead = true }
 
 unfoldable pub withPlace : MemNode → List ℕ → List ℕ → MemNode
 withPlace m block id = record { level = m .level; entries = m .entries; block = block; id = id; dirty = m .dirty; dead = m .dead }

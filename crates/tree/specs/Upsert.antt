@@ -1,12 +1,12 @@
--- Upsert (document 01, "Edits"; "Refused": upsert).
-use mathlib.Core.List.{List, [], _∷_, _++_}
-use mathlib.Core.Bool.{Bool, true, false, cond, _&&_, _||_, not}
-use Prim.Native.Nat.{ℕ, suc, _+_, _-_, _^_}
+-- Upsert (RULES: upsert).
+use mathlib.Core.List.{List, []}
+use mathlib.Core.Bool.{Bool, cond, _&&_, _||_, not}
+use Prim.Native.Nat.{ℕ, _+_, _-_, _^_}
 use lib.ListN.{length}
 use lib.Dec.{ltb}
-use Rattle.node.specs.Result.{Result, ok, refused, _>>=_, _>>_, check}
+use Rattle.node.specs.Result.{Result, _>>=_, _>>_, check}
 use Rattle.node.specs.Refusals as refusal
-use Rattle.node.specs.Entry.{Entry, Val, ghost, leaf, disk, mem, valueLength}
+use Rattle.node.specs.Entry.{Entry, Val, valueLength}
 use Rattle.node.specs.Find.{placeOf, isThere}
 use Rattle.node.specs.Slot.{insertAt, withValue, isChild}
 use Rattle.node.specs.Fit.{greater}
@@ -39,9 +39,9 @@ putInLeaf s n k v =
 unfoldable pub upsertOn : Lent → List ℕ → Val → Way → Result State
 upsertOn l k v w =
     let s : State = w .state in
-    let n : ℕ = leafOf (w .steps) in
-    check refusal.count (isThere (s .order) k (nodeAt s n .entries) || ltb (s .info .«key_count») (2 ^ 64 - 1))
-    >> cuts l [] (w .steps) (indexKeys (w .steps) (touch (w .steps) (putInLeaf s n k v)))
+    let n : ℕ = leafOf (w .steps) in do
+      check refusal.count (isThere (s .order) k (nodeAt s n .entries) || ltb (s .info .«key_count») (2 ^ 64 - 1))
+      cuts l [] (w .steps) (indexKeys (w .steps) (putInLeaf (touch (w .steps) s) n k v))
 
 -- 12: key or value not the fixed length, or the key not 16 bytes in pair order. (What is put is a ghost or bytes, and no child)
 unfoldable pub entryFits : State → List ℕ → Val → Bool
@@ -51,9 +51,14 @@ entryFits s k v = keyFits s k && valueFits s v && not (isChild v)
 unfoldable pub upserted : Lent → State → List ℕ → Val → Result State
 upserted l s k v = way l s k >>= upsertOn l k v
 
--- 1; 12; the edit
+-- 12; the edit
+unfoldable pub upsertIn : Lent → State → List ℕ → Val → Result State
+upsertIn l s k v = do
+  check refusal.argument (entryFits s k v)
+  upserted l s k v
+
+-- 1; what follows
 unfoldable pub upsert : Lent → State → List ℕ → Val → Result State
-upsert l s k v =
-    check refusal.lent (lentHolds l s)
-    >> check refusal.argument (entryFits s k v)
-    >> upserted l s k v
+upsert l s k v = do
+  check refusal.lent (lentHolds l s)
+  upsertIn l s k v
