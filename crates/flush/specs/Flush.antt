@@ -1,10 +1,10 @@
--- Flush (document 01, "Flush, from the entry down"; "Refused": flush).
+-- Flush (RULES: flush).
 use mathlib.Core.List.{List, [], _∷_, _++_, map}
-use mathlib.Core.Bool.{Bool, true, false, cond, _&&_, _||_, not}
+use mathlib.Core.Bool.{Bool, true, false, cond, _&&_}
 use Prim.Native.Nat.{ℕ, zero, suc, _+_, _-_, _*_, _/_, _^_}
 use lib.ListN.{length, getD, set}
 use lib.Dec.{leb, eqb}
-use Rattle.tree.specs.Format.{splice, Result, ok, refused, _>>=_, _>>_, check, Entry, Val, ghost, leaf, disk, mem, BTreeInfo, NodeBuild, MemNode, packNode, numbered, dataSpace, packedLength}
+use Rattle.tree.specs.Format.{splice, Result, ok, _>>=_, _>>_, check, Entry, Val, ghost, leaf, disk, mem, BTreeInfo, NodeBuild, MemNode, packNode, numbered, only, numberOf, dataSpace, packedLength}
 use Rattle.tree.specs.Refusals as refusal
 use Rattle.tree.specs.Lent.{Lent, blocks}
 use Rattle.tree.specs.State.{State, noNode, nodeAt}
@@ -22,14 +22,9 @@ pub record Flushing : Type 0 where
   pub moved : List (ℕ × ℕ)
   pub allocated : ℕ
 
--- the one number of a list, 0 where there is none
-unfoldable pub only : List ℕ → ℕ
-only [] = 0
-only (x ∷ xs) = x
-
--- a loaded child's number: of a virtual tree its id, else its block
-unfoldable pub numberOf : Bool → List MemNode → ℕ → ℕ
-numberOf virtual ns c = cond virtual (only (getD ns c noNode .id)) (only (getD ns c noNode .block))
+-- the number of a slot's node for its parent: of a virtual tree its id, else its block
+unfoldable pub slotNumber : Bool → List MemNode → ℕ → ℕ
+slotNumber virtual ns c = numberOf virtual (getD ns c noNode)
 
 -- type with storage class: B-tree root 2, node 3; physical 0x40000000
 unfoldable pub typeOf : Bool → Bool → ℕ
@@ -53,7 +48,7 @@ writeAt s xid n x w =
     let isNew : Bool = s .virtual && eqb (length (m .id)) 0 in
     let id : List ℕ = cond isNew (w .next ∷ []) (m .id) in
     let oid : ℕ = cond (s .virtual) (only id) a in
-    let es : List Entry = map (numbered (numberOf (s .virtual) (w .nodes))) (m .entries) in
+    let es : List Entry = map (numbered (slotNumber (s .virtual) (w .nodes))) (m .entries) in
     record {
       image = splice (w .image) (a * s .info .«node_size») (packNode (buildOf s xid oid n m) es);
       space = taken (w .space) x;
@@ -134,11 +129,14 @@ fill s =
     let t : BTreeInfo = s .info in
     packedLength t true (m .level) (m .entries) * 100 / dataSpace (t .«node_size») true
 
--- what flush answers: the root (address or id), blocks allocated and freed, keys, fill, the next id left over; and what it leaves
+-- what flush answers: the root (address or id), blocks allocated, how many numbers stand in freed and removed and pairs in moved, keys, fill;
+-- and what it leaves, the next id left over with it
 pub record Flushed : Type 0 where
   pub root : ℕ
   pub allocated : ℕ
   pub freedCount : ℕ
+  pub removedCount : ℕ
+  pub movedCount : ℕ
   pub keys : ℕ
   pub fill : ℕ
   pub after : Flushing
@@ -159,23 +157,36 @@ flushed l p s xid next =
       allocated = 0;
     }) in
     record {
-      root = numberOf (s .virtual) (w .nodes) (s .root);
+      root = slotNumber (s .virtual) (w .nodes) (s .root);
       allocated = w .allocated;
       freedCount = length (w .freed);
+      removedCount = length (w .removed);
+      movedCount = length (w .moved);
       keys = s .info .«key_count»;
       fill = fill s;
       after = w;
     }
 
--- 1: each report list is as long as the slots
-unfoldable pub listsHold : ℕ → List ℕ → Bool
-listsHold slots [] = true
-listsHold slots (n ∷ ns) = eqb n slots && listsHold slots ns
+-- the lengths of the report lists: of freed and removed in numbers, of moved in pairs
+pub record Lists : Type 0 where
+  pub freed : ℕ
+  pub removed : ℕ
+  pub moved : ℕ
 
--- 1 (chunks and lists too); 16; 17. lists: the lengths of freed, removed and moved
-unfoldable pub flush : Lent → Space → List ℕ → State → ℕ → ℕ → Result Flushed
-flush l p lists s xid next =
-    check refusal.lent (lentHolds l s && spaceHolds (l .size) (blocks l) p && listsHold (l .slots) lists)
-    >> check refusal.full (leb (dirtyReached s) (usable (l .size) p))
-    >> check refusal.count (leb (next + idsWanted s) (2 ^ 64 - 1))
-    >> ok (flushed l p s xid next)
+-- 1: each report list is as long as the slots
+unfoldable pub listsHold : ℕ → Lists → Bool
+listsHold slots lists = eqb (lists .freed) slots && eqb (lists .removed) slots && eqb (lists .moved) slots
+
+-- 1 of chunks and lists; 16; 17
+unfoldable pub flushIn : Lent → Space → Lists → State → ℕ → ℕ → Result Flushed
+flushIn l p lists s xid next = do
+  check refusal.lent (spaceHolds (l .size) (blocks l) p && listsHold (l .slots) lists)
+  check refusal.full (leb (dirtyReached s) (usable (l .size) p))
+  check refusal.count (leb (next + idsWanted s) (2 ^ 64 - 1))
+  ok (flushed l p s xid next)
+
+-- 1 of slots; what follows
+unfoldable pub flush : Lent → Space → Lists → State → ℕ → ℕ → Result Flushed
+flush l p lists s xid next = do
+  check refusal.lent (lentHolds l s)
+  flushIn l p lists s xid next

@@ -1,7 +1,5 @@
--- Blocks and flush: document 01's rules as functions, and laws of them.
+-- Blocks and flush: the rules of docs/RULES.md as functions.
 pub mod Space
 pub mod Flush
--- Laws.
-pub mod SpaceLaws
-pub mod SpaceSteps
-pub mod FlushLaws
+-- Laws: checked by the machine, nothing to believe.
+pub mod laws

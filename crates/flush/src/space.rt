@@ -1,5 +1,5 @@
 // Blocks: the bitmap's bits, the choice of a block, the usable blocks (`alloc` of write/space.rs).
-// A chunk's block count and free count are u32, as document 01 lends them.
+// A chunk's block count and free count are u32, as they are lent (RULES: lent).
 ghost use mathlib.Core.Path.{_≡_};
 ghost use mathlib.Core.List.{[]};
 ghost use mathlib.Core.Bool.{cond};
@@ -99,7 +99,8 @@ pub fn zeros(bitmap: &[u8], a: usize, n: usize) -> usize
 // The lowest free block of a chunk; none where its free count is 0.
 fn free_in(bitmap: &[u8], counts: &[u32], free: &[u32], size: usize, c: usize) -> Found
     requires { ⌜ Held size (spaceOf (now bitmap) (now counts) (now free)) × (c < length (now counts)) ⌝ }
-    ensures { λ r. ⌜ foundMeans r ≡ cond (eqb (getD (now (free .entry)) c 0) 0) [] (firstFree (now (bitmap .entry)) (getD (now (counts .entry)) c 0) (c * chunkBlocks size)) ⌝ }
+    ensures { λ r. ⌜ foundMeans r
+        ≡ cond (eqb (getD (now (free .entry)) c 0) 0) [] (firstFree (now (bitmap .entry)) (getD (now (counts .entry)) c 0) (c * chunkBlocks size)) ⌝ }
 {
     if free[c] == 0 {
         return Found::Nothing;
@@ -127,7 +128,8 @@ pub fn choose(bitmap: &[u8], counts: &[u32], free: &[u32], size: usize) -> Answe
 pub fn alloc(bitmap: &mut [u8], counts: &[u32], free: &mut [u32], size: usize) -> Answer
     requires { ⌜ Held size (spaceOf (now bitmap) (now counts) (now free)) ⌝ }
     ensures answer { λ r. ⌜ choiceMeans r ≡ choose size (spaceOf (now (bitmap .entry)) (now (counts .entry)) (now (free .entry))) ⌝ }
-    ensures after { λ r. ⌜ spaceOf (now (bitmap .exit)) (now (counts .entry)) (now (free .exit)) ≡ allocated size (spaceOf (now (bitmap .entry)) (now (counts .entry)) (now (free .entry))) ⌝ }
+    ensures after { λ r. ⌜ spaceOf (now (bitmap .exit)) (now (counts .entry)) (now (free .exit))
+        ≡ allocated size (spaceOf (now (bitmap .entry)) (now (counts .entry)) (now (free .entry))) ⌝ }
 {
     let chosen = choose(bitmap, counts, free, size);
     let Answer::Block { chunk, block } = chosen else {
@@ -141,7 +143,9 @@ pub fn alloc(bitmap: &mut [u8], counts: &[u32], free: &mut [u32], size: usize) -
 // The usable blocks of a chunk: the smaller of its free count and its 0 bits.
 fn usable_in(bitmap: &[u8], counts: &[u32], free: &[u32], size: usize, c: usize) -> usize
     requires { ⌜ Held size (spaceOf (now bitmap) (now counts) (now free)) × (c < length (now counts)) ⌝ }
-    ensures { λ r. ⌜ (r ≡ lesser (getD (now (free .entry)) c 0) (zeros (now (bitmap .entry)) (getD (now (counts .entry)) c 0) (c * chunkBlocks size))) × (r ≤ 8 * size) ⌝ }
+    ensures { λ r. ⌜ (r
+        ≡ lesser (getD (now (free .entry)) c 0)
+        (zeros (now (bitmap .entry)) (getD (now (counts .entry)) c 0) (c * chunkBlocks size))) × (r ≤ 8 * size) ⌝ }
 {
     let all = zeros(bitmap, c * (8 * size), counts[c] as usize);
     lesser(free[c] as usize, all)

@@ -1,17 +1,16 @@
 -- Calls, and what each does: to the tree by the editor's definitions, to the plain list by its own.
-use mathlib.Core.List.{List, [], _∷_, _++_}
-use mathlib.Core.Bool.{Bool, true, false, cond}
-use Prim.Native.Nat.{ℕ, zero, suc}
-use Rattle.tree.specs.Format.{Result, ok, refused, _>>=_, Entry, Val, leaf, pairKey}
+use mathlib.Core.List.{List}
+use mathlib.Core.Bool.{Bool}
+use Prim.Native.Nat.{ℕ}
+use Rattle.tree.specs.Format.{Result, ok, refused, _>>=_, Entry, Val}
 use Rattle.tree.specs.Lent.{Lent}
-use Rattle.tree.specs.State.{State, nodeAt}
-use Rattle.tree.specs.Load.{unbounded, At, loadChild}
-use Rattle.tree.specs.Lookup.{get, floor, range, Got, Step, Way, way, rangeFrom, leafOf}
+use Rattle.tree.specs.State.{State}
+use Rattle.tree.specs.Lookup.{get, floor, range}
 use Rattle.tree.specs.Upsert.{upsert}
-use Rattle.tree.specs.Remove.{remove, Removed, removed}
-use Rattle.tree.specs.Omap.{omapPut, omapDrop, omapValue, versionsEnd}
+use Rattle.tree.specs.Remove.{remove}
+use Rattle.tree.specs.Omap.{omapPut, omapDrop}
 use Rattle.flush.specs.Space.{Space}
-use Rattle.flush.specs.Flush.{flush}
+use Rattle.flush.specs.Flush.{Lists, flush}
 use Rattle.history.specs.Plain.{plainGet, plainFloor, plainRange, plainUpsert, plainRemove, plainHas, plainPut, plainDrop}
 
 -- a call and its arguments. room: the length of the output lent. A flush is lent bitmap and counts, and its report lists' lengths
@@ -23,7 +22,7 @@ pub data Call : Type 0 where
   removeCall : (k : List ℕ) → Call
   putCall : (id xid address size : ℕ) → Call
   dropCall : (id : ℕ) → Call
-  flushCall : (p : Space) (lists : List ℕ) (xid next : ℕ) → Call
+  flushCall : (p : Space) (lists : Lists) (xid next : ℕ) → Call
 
 -- what a call answers: values, entries, whether a key was there, or nothing
 pub data Answer : Type 0 where

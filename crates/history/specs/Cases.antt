@@ -1,4 +1,5 @@
--- The cases of document 01, one table: each row says what the definitions give, and what the document says. CasesHold has the result.
+-- The cases P1 to P12 and the listing of `dock`, one table: each row says what the definitions give, and what it should be. laws/CasesHold has the
+-- result.
 use mathlib.Core.List.{List, [], _∷_, _++_}
 use mathlib.Core.Bool.{Bool, true, false, cond, _&&_}
 use Prim.Native.Nat.{ℕ, zero, suc, _+_, _*_}
@@ -7,24 +8,22 @@ use lib.ListN.{replicate, length}
 use lib.Dec.{eqb}
 use Rattle.seal.specs.Bytes.{splice, bytesOf}
 use Rattle.seal.specs.Checksum.{fletcher}
-use Rattle.node.specs.Result.{Result, ok, refused, _>>=_}
+use Rattle.node.specs.Result.{Result, ok, refused}
 use Rattle.node.specs.Order.{pair, byte, pairKey}
-use Rattle.node.specs.Entry.{Entry, Val, ghost, leaf, disk, mem}
+use Rattle.node.specs.Entry.{Entry, leaf, disk, mem}
 use Rattle.node.specs.Fit.{fits, tocLength}
 use Rattle.node.specs.Pack.{packNode}
-use Rattle.node.specs.Slot.{MemNode}
 use Rattle.node.specs.declared.info.BTreeInfo.{BTreeInfo}
-use Rattle.node.specs.declared.build.NodeBuild.{NodeBuild}
 use Rattle.tree.specs.Lent.{Lent}
-use Rattle.tree.specs.State.{State, nodeAt}
+use Rattle.tree.specs.State.{State, nodeAt, withCounts}
 use Rattle.tree.specs.Load.{mapAddress}
 use Rattle.tree.specs.Lookup.{opened}
 use Rattle.tree.specs.Upsert.{upsert}
-use Rattle.tree.specs.Remove.{Removed, remove}
+use Rattle.tree.specs.Remove.{remove}
 use Rattle.tree.specs.Omap.{omapPut, omapValue}
 use Rattle.flush.specs.Space.{Space, Choice, choose}
-use Rattle.flush.specs.Flush.{Flushed, flush}
-use Rattle.history.specs.Walk.{Disk, wellFormed}
+use Rattle.flush.specs.Flush.{flush}
+use Rattle.history.specs.Walk.{wellFormed}
 
 -- ---- rows
 
@@ -57,7 +56,16 @@ outcome f (ok a) = 0 ∷ f a
 
 -- an empty tree's numbers: 512 bytes a node, these fixed lengths
 unfoldable pub tree512 : ℕ → ℕ → BTreeInfo
-tree512 k v = record { flags = 0; «node_size» = 512; «key_size» = k; «val_size» = v; «longest_key» = 0; «longest_val» = 0; «key_count» = 0; «node_count» = 1 }
+tree512 k v = record {
+  flags = 0;
+  «node_size» = 512;
+  «key_size» = k;
+  «val_size» = v;
+  «longest_key» = 0;
+  «longest_val» = 0;
+  «key_count» = 0;
+  «node_count» = 1;
+}
 
 -- n entries with pair keys from k on and values of 16 bytes, or children on disk
 unfoldable pub pairs : ℕ → ℕ → List Entry
@@ -68,9 +76,9 @@ unfoldable pub children : ℕ → ℕ → List Entry
 children zero k = []
 children (suc n) k = record { key = pairKey k 1; value = disk k } ∷ children n (suc k)
 
--- a root at an address, packed
+-- a root at an address, packed; it stores its true counts
 unfoldable pub rootOf : BTreeInfo → ℕ → List Entry → List ℕ
-rootOf t a es = packNode (record { oid = a; xid = 1; otype = 0x40000002; subtype = 11; level = 0; root = true; info = t }) es
+rootOf t a es = packNode (record { oid = a; xid = 1; otype = 0x40000002; subtype = 11; level = 0; root = true; info = withCounts t (length es) 1 }) es
 
 -- 32 blocks of 512, a root at block 0, 64 slots, no map
 unfoldable pub lent512 : List ℕ → Lent
@@ -98,10 +106,26 @@ twoLeaves a b =
     record {
       root = 0;
       nodes =
-          record { level = 1; entries = record { key = pairKey 0 1; value = mem 1 } ∷ record { key = pairKey 1 1; value = mem 2 } ∷ []; block = 0 ∷ []; id = []; dirty = false; dead = false }
+          record {
+            level = 1;
+            entries = record { key = pairKey 0 1; value = mem 1 } ∷ record { key = pairKey 1 1; value = mem 2 } ∷ [];
+            block = 0 ∷ [];
+            id = [];
+            dirty = false;
+            dead = false;
+          }
           ∷ record { level = 0; entries = a; block = 1 ∷ []; id = []; dirty = false; dead = false }
           ∷ record { level = 0; entries = b; block = 2 ∷ []; id = []; dirty = false; dead = false } ∷ [];
-      info = record { flags = 0; «node_size» = 512; «key_size» = 16; «val_size» = 16; «longest_key» = 16; «longest_val» = 16; «key_count» = length a + length b; «node_count» = 3 };
+      info = record {
+        flags = 0;
+        «node_size» = 512;
+        «key_size» = 16;
+        «val_size» = 16;
+        «longest_key» = 16;
+        «longest_val» = 16;
+        «key_count» = length a + length b;
+        «node_count» = 3;
+      };
       virtual = false;
       subtype = 11;
       order = pair;
@@ -129,7 +153,8 @@ listing =
 
     next : Lent → Result State → List ℕ
     next l r =
-        outcome (λ s. s .info .«key_count» ∷ [] ++ outcome (λ f. f .root ∷ f .allocated ∷ f .freedCount ∷ f .keys ∷ f .fill ∷ []) (flush l space (64 ∷ 64 ∷ 64 ∷ []) s 2 0)) r
+        outcome (λ s. s .info .«key_count» ∷ [] ++ outcome (λ f. f .root ∷ f .allocated ∷ f .freedCount ∷ f .keys ∷ f .fill ∷ [])
+        (flush l space (record { freed = 64; removed = 64; moved = 64 }) s 2 0)) r
 
 -- ---- the table
 
@@ -151,14 +176,20 @@ table =
     }
     ∷ record {
       name = "P5: value 280, value 281";
-      gives = onTree (tree512 0 0) byte [] (λ l s. outcome (λ t. []) (upsert l s (key8 1) (leaf (replicate 280 7))) ++ outcome (λ t. []) (upsert l s (key8 1) (leaf (replicate 281 7))));
+      gives = onTree (tree512 0 0) byte [] (λ l s. outcome (λ t. []) (upsert l s (key8 1) (leaf (replicate 280 7))) ++ outcome (λ t. [])
+          (upsert l s (key8 1) (leaf (replicate 281 7))));
       says = 0 ∷ 13 ∷ [];
     }
-    ∷ record { name = "P6: contents of 16 and 17"; gives = tocLength (tree512 0 0) true 0 16 ∷ tocLength (tree512 0 0) true 0 17 ∷ []; says = 128 ∷ 192 ∷ [] }
+    ∷ record {
+      name = "P6: contents of 16 and 17";
+      gives = tocLength (tree512 0 0) true 0 16 ∷ tocLength (tree512 0 0) true 0 17 ∷ [];
+      says = 128 ∷ 192 ∷ [];
+    }
     ∷ record {
       name = "P7: keys, nodes, level, the parts";
-      gives = onTree (tree512 16 16) pair (pairs 11 0) (λ l s. outcome (λ t. counts t ++ sizes t (0 ∷ 1 ∷ [])) (upsert l s (pairKey 11 1) (leaf (replicate 16 7))));
-      says = 0 ∷ 1 ∷ 3 ∷ 1 ∷ 6 ∷ 6 ∷ [];
+      gives = onTree (tree512 16 16) pair (pairs 11 0)
+          (λ l s. outcome (λ t. counts t ++ sizes t (0 ∷ 1 ∷ [])) (upsert l s (pairKey 11 1) (leaf (replicate 16 7))));
+      says = 0 ∷ 12 ∷ 3 ∷ 1 ∷ 6 ∷ 6 ∷ [];
     }
     ∷ record {
       name = "P8: keys, nodes, level of leaves of 1 and 12, then of 1 and 11";
@@ -168,17 +199,27 @@ table =
     }
     ∷ record {
       name = "P9";
-      gives = onTree (tree512 0 0) byte (variable8 1 128 ∷ variable8 3 128 ∷ []) (λ l s. outcome (λ t. []) (upsert l s (key8 2) (leaf (replicate 312 7))));
+      gives = onTree (tree512 0 0) byte (variable8 1 128 ∷ variable8 3 128 ∷ [])
+          (λ l s. outcome (λ t. []) (upsert l s (key8 2) (leaf (replicate 312 7))));
       says = 14 ∷ [];
     }
     ∷ record {
       name = "P10";
-      gives = onTree (tree512 0 0) byte [] (λ l s. outcome (λ t. outcome (λ u. []) (upsert l t (replicate 200 2) (leaf []))) (upsert l s (replicate 200 1) (leaf [])));
+      gives = onTree (tree512 0 0) byte [] (λ l s. outcome (λ t. outcome (λ u. []) (upsert l t (replicate 200 2) (leaf [])))
+          (upsert l s (replicate 200 1) (leaf [])));
       says = 0 ∷ 15 ∷ [];
     }
-    ∷ record { name = "P11"; gives = blocksOf (choose 512 (record { bitmap = 0xFF ∷ 0xFE ∷ replicate 510 0; counts = 16 ∷ []; free = 1 ∷ [] })); says = 8 ∷ [] }
+    ∷ record {
+      name = "P11";
+      gives = blocksOf (choose 512 (record { bitmap = 0xFF ∷ 0xFE ∷ replicate 510 0; counts = 16 ∷ []; free = 1 ∷ [] }));
+      says = 8 ∷ [];
+    }
     ∷ record { name = "P12"; gives = outcome (λ a. a ∷ []) (mapAddress (lent512 (rootOf (tree512 16 16) 0 versions)) 8 5 0); says = 0 ∷ 3 ∷ [] }
-    ∷ record { name = "dock: the disk of (new) is well formed"; gives = number (wellFormed (record { lent = lent512 (rootOf (tree512 16 16) 0 []); order = pair; xid = 1; moved = [] }) 0) ∷ []; says = 1 ∷ [] }
+    ∷ record {
+      name = "dock: the disk of (new) is well formed";
+      gives = number (wellFormed (record { lent = lent512 (rootOf (tree512 16 16) 0 []); order = pair; xid = 1; moved = [] }) 0) ∷ [];
+      says = 1 ∷ [];
+    }
     ∷ record { name = "dock: put 0 1, put 0 1, flush 0 1 1 1 1 23"; gives = listing; says = 0 ∷ 1 ∷ 0 ∷ 1 ∷ 0 ∷ 1 ∷ 1 ∷ 1 ∷ 1 ∷ 23 ∷ [] }
     ∷ []
   where

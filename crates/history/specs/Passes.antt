@@ -1,8 +1,8 @@
 -- What an edit passes through: the ways to the keys that it puts or takes out, in the tree that Edits gives by then; and what became the root.
 use mathlib.Core.List.{List, [], _∷_, _++_}
-use mathlib.Core.Bool.{Bool, true, false, cond}
+use mathlib.Core.Bool.{true, cond}
 use Prim.Native.Nat.{ℕ, zero, suc}
-use Rattle.tree.specs.Format.{Result, ok, refused, _>>=_, Entry, Val, leaf, pairKey, isThere, fits, MemNode}
+use Rattle.tree.specs.Format.{Result, ok, refused, _>>=_, Entry, pairKey, isThere, fits, MemNode}
 use Rattle.tree.specs.Lent.{Lent}
 use Rattle.tree.specs.State.{State, nodeAt}
 use Rattle.tree.specs.Load.{unbounded, At, loadChild}

@@ -1,7 +1,7 @@
--- Demand 3's plain list: entries with rising keys, and what each call does to it (document 01, "Demand 3's plain list"). It goes by the
+-- Demand 3's plain list: entries with rising keys, and what each call does to it (RULES: plain-list). It goes by the
 -- order of keys alone and shares no function with the tree.
 use mathlib.Core.List.{List, [], _∷_}
-use mathlib.Core.Bool.{Bool, true, false, cond, _&&_, not}
+use mathlib.Core.Bool.{Bool, false, cond, _&&_, not}
 use Prim.Native.Nat.{ℕ}
 use lib.Dec.{eqb}
 use Rattle.tree.specs.Format.{Entry, Val, leaf, u64At, less, pairKey}

@@ -2,7 +2,7 @@
 use mathlib.Core.Path.{_≡_}
 use mathlib.Core.List.{List, [], _∷_, _++_}
 use mathlib.Core.Bool.{Bool, true, false, cond, _&&_, not}
-use Prim.Native.Nat.{ℕ, zero, suc, _+_, _*_, _^_, _≤_, _<_}
+use Prim.Native.Nat.{ℕ, zero, suc, _+_, _^_, _≤_, _<_}
 use lib.ListN.{length}
 use lib.Dec.{leb, eqb}
 use Rattle.seal.specs.Bytes.{AreBytes}
@@ -13,8 +13,8 @@ use Rattle.tree.specs.State.{State}
 use Rattle.tree.specs.Hold.{lentHolds}
 use Rattle.tree.specs.Lookup.{opened}
 use Rattle.flush.specs.Space.{Space, isUsed}
-use Rattle.flush.specs.Flush.{Flushing, Flushed, flush}
-use Rattle.history.specs.Walk.{Disk, Walked, walkFrom, wellFormed, blocksOf, idsOf, nodesOf, entriesOf, mapBlocks}
+use Rattle.flush.specs.Flush.{Flushed, Lists, flush}
+use Rattle.history.specs.Walk.{Disk, walkFrom, wellFormed, blocksOf, idsOf, visitsOf, listOf, mapBlocks}
 use Rattle.history.specs.Calls.{Call, getCall, floorCall, rangeCall, upsertCall, removeCall, putCall, dropCall, flushCall, Stepped, step, afterStep, plainAnswer, plainStep}
 use Rattle.history.specs.Passes.{passed}
 
@@ -41,13 +41,13 @@ pub record Start : Type 0 where
 
 -- the old tree's blocks, and its map's
 unfoldable pub treeBlocks : Start → List ℕ
-treeBlocks g = blocksOf (nodesOf (walkFrom (g .disk) (g .root)))
+treeBlocks g = blocksOf (visitsOf (walkFrom (g .disk) (g .root)))
 
 unfoldable pub oldBlocks : Start → List ℕ
 oldBlocks g = treeBlocks g ++ mapBlocks (g .disk) (g .disk .lent .map)
 
 unfoldable pub oldIds : Start → List ℕ
-oldIds g = idsOf (nodesOf (walkFrom (g .disk) (g .root)))
+oldIds g = idsOf (visitsOf (walkFrom (g .disk) (g .root)))
 
 -- open is accepted, and the tree is well formed
 pub record Begins (g : Start) : Type 0 where
@@ -155,13 +155,15 @@ written p f a = not (isUsed (p .bitmap) a) && isUsed (f .after .space .bitmap) a
 -- of an accepted flush
 pub record Flushes (g : Start) (es : List Entry) (through : List ℕ) (l : Lent) (p : Space) (f : Flushed) : Type 0 where
   -- the walk from the new root is the plain list, and that tree is well formed
-  pub walks : entriesOf (walkFrom (leftBy g l f) (f .root)) ≡ es
+  pub walks : listOf (walkFrom (leftBy g l f) (f .root)) ≡ es
   pub formed : wellFormed (leftBy g l f) (f .root) ≡ true
   -- only free blocks were written; the image elsewhere is as it was, and as long
   pub elsewhere : (a : ℕ) → written p f a ≡ false → blockAt (leftBy g l f .lent) a ≡ blockAt l a
   pub asLong : length (f .after .image) ≡ length (l .image)
+  pub bytes : AreBytes (f .after .image)
   -- old + written = new + freed, each at most once
-  pub books : (a : ℕ) → uses a (treeBlocks g) + cond (written p f a) 1 0 ≡ uses a (blocksOf (nodesOf (walkFrom (leftBy g l f) (f .root)))) + uses a (f .after .freed)
+  pub books : (a : ℕ) → uses a (treeBlocks g) + cond (written p f a) 1 0 ≡ uses a (blocksOf (visitsOf (walkFrom (leftBy g l f) (f .root)))) + uses a
+      (f .after .freed)
   pub once : (a : ℕ) → uses a (treeBlocks g) + cond (written p f a) 1 0 ≤ 1
   -- bits that were set stay set; a virtual root keeps its id
   pub stay : (a : ℕ) → isUsed (p .bitmap) a ≡ true → isUsed (f .after .space .bitmap) a ≡ true
@@ -175,17 +177,17 @@ pub record Flushes (g : Start) (es : List Entry) (through : List ℕ) (l : Lent)
 
 pub record Holds (g : Start) (ts : List Turn) : Type 0 where
   -- each accepted lookup and remove answers as the plain list
-  pub answers : AllAnswer (g .disk .order) ts (g .state) (entriesOf (walkFrom (g .disk) (g .root)))
+  pub answers : AllAnswer (g .disk .order) ts (g .state) (listOf (walkFrom (g .disk) (g .root)))
   -- the plain list's keys rise, and the key count is its length
-  pub rises : rising (g .disk .order) (plains (g .disk .order) ts (g .state) (entriesOf (walkFrom (g .disk) (g .root)))) ≡ true
-  pub keys : states ts (g .state) .info .«key_count» ≡ length (plains (g .disk .order) ts (g .state) (entriesOf (walkFrom (g .disk) (g .root))))
+  pub rises : rising (g .disk .order) (plains (g .disk .order) ts (g .state) (listOf (walkFrom (g .disk) (g .root)))) ≡ true
+  pub keys : states ts (g .state) .info .«key_count» ≡ length (plains (g .disk .order) ts (g .state) (listOf (walkFrom (g .disk) (g .root))))
   -- the slots hold together: where the sizes are right no call is refused with 1
   pub hold : (l : Lent) → Lends g l → sizesHold l ≡ true → lentHolds l (states ts (g .state)) ≡ true
   -- a flush that is accepted then
-  pub flushes : (l : Lent) (p : Space) (lists : List ℕ) (xid next : ℕ) (f : Flushed)
+  pub flushes : (l : Lent) (p : Space) (lists : Lists) (xid next : ℕ) (f : Flushed)
       → LendsFlush g l p xid next f
       → flush l p lists (states ts (g .state)) xid next ≡ ok f
-      → Flushes g (plains (g .disk .order) ts (g .state) (entriesOf (walkFrom (g .disk) (g .root)))) (passes ts (g .state)) l p f
+      → Flushes g (plains (g .disk .order) ts (g .state) (listOf (walkFrom (g .disk) (g .root)))) (passes ts (g .state)) l p f
 
 -- demand 3
 abbrev pub Demand3 : Type 0

@@ -7,7 +7,7 @@ use lib.Dec.{leb, eqb}
 use Rattle.tree.specs.Format.{Result, ok, refused, _>>=_, _>>_, check, Entry, valAt, OnDisk, infoAt, BTreeInfo, pair, known}
 use Rattle.tree.specs.Refusals as refusal
 use Rattle.tree.specs.Lent.{Lent, sizesHold, blockAt}
-use Rattle.tree.specs.Load.{Bounds, unbounded, childBounds, loadBlock, rootPlace, childPlace, childNumber, rootHolds, mapRootHolds, addressOf}
+use Rattle.tree.specs.Load.{Bounds, unbounded, childBounds, loadBlock, rootPlace, childPlace, diskNumber, rootHolds, addressOf}
 
 -- what a walk reads: image and map, order, opened transaction; ids that a flush moved, with their new addresses
 pub record Disk : Type 0 where
@@ -47,13 +47,13 @@ joined v w rest = record { nodes = v ∷ w .nodes ++ rest .nodes; entries = w .e
 unfoldable pub walkKids : (Bounds → OnDisk → Result Walk) → Disk → BTreeInfo → Bounds → OnDisk → ℕ → ℕ → Result Walk
 walkKids f x t bs d zero i = ok (record { nodes = []; entries = [] })
 walkKids f x t bs d (suc m) i =
-    let r : ℕ = childNumber (valAt (d .entries) i) in
-    let cs : Bounds = childBounds (x .order) bs (d .entries) i in
-    resolve x r
-    >>= λ a. loadBlock (x .lent) (x .order) (childPlace (t .«key_size») (t .«val_size») cs (d .node .level) r) cs a
-    >>= λ c. f cs c
-    >>= λ w. walkKids f x t bs d m (suc i)
-    >>= λ rest. ok (joined (record { block = a; id = c .node .oid }) w rest)
+    let r : ℕ = diskNumber (valAt (d .entries) i) in
+    let cs : Bounds = childBounds (x .order) bs (d .entries) i in do
+      a ← resolve x r
+      c ← loadBlock (x .lent) (x .order) (childPlace (t .«key_size») (t .«val_size») cs (d .node .level) r) cs a
+      w ← f cs c
+      rest ← walkKids f x t bs d m (suc i)
+      ok (joined (record { block = a; id = c .node .oid }) w rest)
 
 -- the walk below a node that was read, n levels down
 unfoldable pub walkBelow : ℕ → Disk → BTreeInfo → Bounds → OnDisk → Result Walk
@@ -66,15 +66,15 @@ pub record Walked : Type 0 where
   pub info : BTreeInfo
 
 unfoldable pub walkFrom : Disk → ℕ → Result Walked
-walkFrom x r =
-    resolve x r
-    >>= λ a. loadBlock (x .lent) (x .order) (rootPlace r) unbounded a
-    >>= λ d. check refusal.root (rootHolds (x .lent) a (leb 1 (length (x .lent .map))) d)
-    >> walkBelow (d .node .level) x (infoAt (blockAt (x .lent) a)) unbounded d
-    >>= λ w. ok (record {
-      walk = record { nodes = record { block = a; id = d .node .oid } ∷ w .nodes; entries = w .entries };
-      info = infoAt (blockAt (x .lent) a);
-    })
+walkFrom x r = do
+  a ← resolve x r
+  d ← loadBlock (x .lent) (x .order) (rootPlace r) unbounded a
+  check refusal.root (rootHolds (x .lent) a (leb 1 (length (x .lent .map))) d)
+  w ← walkBelow (d .node .level) x (infoAt (blockAt (x .lent) a)) unbounded d
+  ok (record {
+    walk = record { nodes = record { block = a; id = d .node .oid } ∷ w .nodes; entries = w .entries };
+    info = infoAt (blockAt (x .lent) a);
+  })
 
 -- stored key and node counts are those of the walk
 unfoldable pub countsHold : Result Walked → Bool
@@ -84,7 +84,12 @@ countsHold (ok w) = eqb (w .info .«key_count») (length (w .walk .entries)) && 
 -- a lent object map, as a disk of its own: a physical pair tree
 unfoldable pub mapDisk : Disk → Disk
 mapDisk x =
-    record { lent = record { image = x .lent .image; size = x .lent .size; map = []; slots = x .lent .slots }; order = pair; xid = x .xid; moved = [] }
+    record {
+      lent = record { image = x .lent .image; size = x .lent .size; map = []; slots = x .lent .slots };
+      order = pair;
+      xid = x .xid;
+      moved = [];
+    }
 
 -- its keys and values are fixed at 16
 unfoldable pub lengthsAre16 : Result Walked → Bool
@@ -111,15 +116,15 @@ unfoldable pub idsOf : List Visit → List ℕ
 idsOf [] = []
 idsOf (v ∷ vs) = v .id ∷ idsOf vs
 
-unfoldable pub nodesOf : Result Walked → List Visit
-nodesOf (refused n) = []
-nodesOf (ok w) = w .walk .nodes
+unfoldable pub visitsOf : Result Walked → List Visit
+visitsOf (refused n) = []
+visitsOf (ok w) = w .walk .nodes
 
-unfoldable pub entriesOf : Result Walked → List Entry
-entriesOf (refused n) = []
-entriesOf (ok w) = w .walk .entries
+unfoldable pub listOf : Result Walked → List Entry
+listOf (refused n) = []
+listOf (ok w) = w .walk .entries
 
 -- the blocks of a lent map
 unfoldable pub mapBlocks : Disk → List ℕ → List ℕ
 mapBlocks x [] = []
-mapBlocks x (m ∷ ms) = blocksOf (nodesOf (walkFrom (mapDisk x) m))
+mapBlocks x (m ∷ ms) = blocksOf (visitsOf (walkFrom (mapDisk x) m))

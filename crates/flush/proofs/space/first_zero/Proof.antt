@@ -8,7 +8,7 @@ use lib.Dec.{eqb, eqb→eq}
 use lib.ListN.{getD}
 use borrow.Author.Needs.{needs}
 use Rattle.flush.specs.Space.{firstZero, onesBelow}
-use Rattle.flush.specs.SpaceSteps.{zero-most}
+use Rattle.flush.specs.laws.SpaceSteps.{zero-most}
 use Rattle.flush.proofs.Table.{at}
 use Rattle.flush.proofs.space.first_zero.Statement.{statement}
 use Rattle.flush.proofs.space.first_zero.Tie as tie

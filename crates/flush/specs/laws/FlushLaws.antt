@@ -1,7 +1,7 @@
 -- A flush of a tree with no dirty node writes nothing; and no flush takes more blocks than it counted first. Assumes nothing.
 use mathlib.Core.Path.{_≡_, refl, sym, ap, _∙_}
 use mathlib.Core.List.{List, [], _∷_}
-use mathlib.Core.Bool.{Bool, true, false, cond, not}
+use mathlib.Core.Bool.{Bool, true, false, cond}
 use Prim.Native.Nat.{ℕ, zero, suc, _+_, _≤_}
 use native.Mathlib.Omega.{arith}
 use lib.ListN.{length, getD, set, List·getD-eq-default}
@@ -11,10 +11,10 @@ use borrow.Author.Tests.{eqb-true, eqb-false, ltb-true, ltb-false}
 use Rattle.tree.specs.Format.{Entry, Val, ghost, leaf, disk, mem, MemNode}
 use Rattle.tree.specs.Lent.{Lent}
 use Rattle.tree.specs.State.{State, noNode, nodeAt}
-use Rattle.tree.specs.NodeLaws.{by-test, never}
-use Rattle.tree.specs.StateLaws.{by-val}
+use Rattle.tree.specs.laws.NodeLaws.{by-test, never}
+use Rattle.tree.specs.laws.StateLaws.{by-val}
 use Rattle.flush.specs.Space.{Space, Choice, choose, taken, usable, spaceHolds}
-use Rattle.flush.specs.SpaceLaws.{by-list, taken-holds, usable-zero, usable-less}
+use Rattle.flush.specs.laws.SpaceLaws.{by-list, taken-holds, usable-zero, usable-less}
 use Rattle.flush.specs.Flush.{Flushing, Flushed, rewritten, writeAt, writeNode, writeKids, writeFrom, deadBlocks, deadIds, sumKids, sumFrom, dirtyReached, flushed}
 
 -- ---- no dirty node
@@ -134,7 +134,11 @@ kids-map P Q (e ∷ es) f h = (child-map P Q (e .value) f (h .0), kids-map P Q e
 
 reached-map : (P Q : ℕ → Type 0) (d : ℕ) (s : State) (n : ℕ) → ((m : ℕ) → P m → Q m) → OfReached P d s n → OfReached Q d s n
 reached-map P Q zero s n f h = f n h
-reached-map P Q (suc d) s n f h = (f n (h .0), kids-map (OfReached P d s) (OfReached Q d s) (nodeAt s n .entries) (λ c. reached-map P Q d s c f) (h .1))
+reached-map P Q (suc d) s n f h = (
+  f n (h .0),
+  kids-map (OfReached P d s) (OfReached Q d s) (nodeAt s n .entries) (λ c. reached-map P Q d s c f)
+      (h .1),
+)
 
 -- a part of the walk that counts g dirty nodes. Q: what it makes so
 pub record Wrote (size blocks : ℕ) (s : State) (g : ℕ) (Q : Flushing → Type 0) (w w′ : Flushing) : Type 0 where
@@ -156,7 +160,8 @@ module _ (s : State) (xid blocks : ℕ) where
   size = s .info .«node_size»
 
   -- a node that is not dirty
-  clean-node : (n : ℕ) (w : Flushing) (b : ℕ) → spaceHolds size blocks (w .space) ≡ true → Within s w → Clean w n → Wrote size blocks s b (λ z. Clean z n) w w
+  clean-node : (n : ℕ) (w : Flushing) (b : ℕ) → spaceHolds size blocks (w .space) ≡ true → Within s w → Clean w n
+      → Wrote size blocks s b (λ z. Clean z n) w w
   clean-node n w b h k c = record { holds = h; spent = refl; bound = omega arith; within = k; stays = λ m q. q; done = λ g. c }
 
   -- a slot set to a clean node
@@ -169,20 +174,23 @@ module _ (s : State) (xid blocks : ℕ) where
       let g : length ns ≤ n = ltb-false n (length ns) t in
       ap (λ (y : List MemNode). getD y n noNode .dirty) (set-out ns n x g) ∙ ap (λ (y : MemNode). y .dirty) (List·getD-eq-default ns noNode g))
 
-  set-clean : (ns : List MemNode) (n m : ℕ) (x : MemNode) → x .dirty ≡ false → getD ns m noNode .dirty ≡ false → getD (set ns n x) m noNode .dirty ≡ false
+  set-clean : (ns : List MemNode) (n m : ℕ) (x : MemNode) → x .dirty ≡ false → getD ns m noNode .dirty ≡ false
+      → getD (set ns n x) m noNode .dirty ≡ false
   set-clean ns n m x c h =
       by-test (eqb m n)
       (λ t. let z : m ≡ n = eqb-true m n t in rw z (set-clean-same ns n x c))
       (λ t. ap (λ (y : MemNode). y .dirty) (getD-set-other ns n m x noNode (eqb-false m n t)) ∙ h)
 
-  set-dirty : (ns : List MemNode) (n m : ℕ) (x : MemNode) → x .dirty ≡ false → getD (set ns n x) m noNode .dirty ≡ true → getD ns m noNode .dirty ≡ true
+  set-dirty : (ns : List MemNode) (n m : ℕ) (x : MemNode) → x .dirty ≡ false → getD (set ns n x) m noNode .dirty ≡ true
+      → getD ns m noNode .dirty ≡ true
   set-dirty ns n m x c h =
       by-test (eqb m n)
       (λ t. let z : m ≡ n = eqb-true m n t in never (rw z at h) (set-clean-same ns n x c))
       (λ t. sym (ap (λ (y : MemNode). y .dirty) (getD-set-other ns n m x noNode (eqb-false m n t))) ∙ h)
 
   -- a dirty node written
-  write-one : (n : ℕ) (x : Choice) (xs : List Choice) (w : Flushing) → spaceHolds size blocks (w .space) ≡ true → Within s w → getD (w .nodes) n noNode .dirty ≡ true
+  write-one : (n : ℕ) (x : Choice) (xs : List Choice) (w : Flushing) → spaceHolds size blocks (w .space) ≡ true → Within s w
+      → getD (w .nodes) n noNode .dirty ≡ true
       → choose size (w .space) ≡ x ∷ xs → Wrote size blocks s (cond (nodeAt s n .dirty) 1 0) (λ z. Clean z n) w (writeAt s xid n x w)
   unfolding writeAt rewritten
   write-one n x xs w h k t e =
@@ -198,14 +206,16 @@ module _ (s : State) (xid blocks : ℕ) where
       }
 
   -- no block is left: nothing is written, and then fewer were usable than counted
-  no-block : (n : ℕ) (w : Flushing) → spaceHolds size blocks (w .space) ≡ true → Within s w → getD (w .nodes) n noNode .dirty ≡ true → choose size (w .space) ≡ []
+  no-block : (n : ℕ) (w : Flushing) → spaceHolds size blocks (w .space) ≡ true → Within s w → getD (w .nodes) n noNode .dirty ≡ true
+      → choose size (w .space) ≡ []
       → Wrote size blocks s (cond (nodeAt s n .dirty) 1 0) (λ z. Clean z n) w w
   no-block n w h k t e =
       let c : _≡_ {A = ℕ} (cond (nodeAt s n .dirty) 1 0) 1 = ap (λ (b : Bool). cond b 1 0) (k n t) in
       let u : usable size (w .space) ≡ 0 = usable-zero size (w .space) .1 e in
       record { holds = h; spent = refl; bound = omega arith; within = k; stays = λ m q. q; done = λ g. absurd (omega arith) }
 
-  write-node : (n : ℕ) (w : Flushing) → spaceHolds size blocks (w .space) ≡ true → Within s w → Wrote size blocks s (cond (nodeAt s n .dirty) 1 0) (λ z. Clean z n) w (writeNode s xid n w)
+  write-node : (n : ℕ) (w : Flushing) → spaceHolds size blocks (w .space) ≡ true → Within s w → Wrote size blocks s (cond (nodeAt s n .dirty) 1 0)
+      (λ z. Clean z n) w (writeNode s xid n w)
   unfolding writeNode
   write-node n w h k =
       by-test (getD (w .nodes) n noNode .dirty)
@@ -218,7 +228,8 @@ module _ (s : State) (xid blocks : ℕ) where
   write-kids : (f : ℕ → Flushing → Flushing) (g : ℕ → ℕ) (R : Flushing → ℕ → Type 0)
       → ((c : ℕ) (w : Flushing) → spaceHolds size blocks (w .space) ≡ true → Within s w → Wrote size blocks s (g c) (λ z. R z c) w (f c w))
       → ((w w′ : Flushing) (c : ℕ) → ((m : ℕ) → Clean w m → Clean w′ m) → R w c → R w′ c)
-      → (es : List Entry) (w : Flushing) → spaceHolds size blocks (w .space) ≡ true → Within s w → Wrote size blocks s (sumKids g es) (λ z. OfKids (R z) es) w (writeKids f es w)
+      → (es : List Entry) (w : Flushing) → spaceHolds size blocks (w .space) ≡ true → Within s w → Wrote size blocks s (sumKids g es)
+      (λ z. OfKids (R z) es) w (writeKids f es w)
   unfolding writeKids sumKids
   write-kids f g R step keep [] w h k = record { holds = h; spent = refl; bound = omega arith; within = k; stays = λ m q. q; done = λ q. tt }
   write-kids f g R step keep (e ∷ es) w h k =
@@ -228,18 +239,28 @@ module _ (s : State) (xid blocks : ℕ) where
       (λ r q. rw q (other (write-kids f g R step keep es w h k)))
       (λ c q. let i = step c w h k in rw q (child c i (write-kids f g R step keep es (f c w) (i .holds) (i .within))))
     where
-      other : Wrote size blocks s (sumKids g es) (λ z. OfKids (R z) es) w (writeKids f es w) → Wrote size blocks s (0 + sumKids g es) (λ z. Unit {0} × OfKids (R z) es) w (writeKids f es w)
+      other : Wrote size blocks s (sumKids g es) (λ z. OfKids (R z) es) w (writeKids f es w) → Wrote size blocks s (0 + sumKids g es)
+          (λ z. Unit {0} × OfKids (R z) es) w (writeKids f es w)
       other i =
           let b : writeKids f es w .allocated ≤ w .allocated + sumKids g es = i .bound in
-          record { holds = i .holds; spent = i .spent; bound = omega arith; within = i .within; stays = i .stays; done = λ q. (tt, i .done (omega arith)) }
+          record {
+            holds = i .holds;
+            spent = i .spent;
+            bound = omega arith;
+            within = i .within;
+            stays = i .stays;
+            done = λ q. (tt, i .done (omega arith));
+          }
 
-      child : (c : ℕ) → Wrote size blocks s (g c) (λ z. R z c) w (f c w) → Wrote size blocks s (sumKids g es) (λ z. OfKids (R z) es) (f c w) (writeKids f es (f c w))
+      child : (c : ℕ) → Wrote size blocks s (g c) (λ z. R z c) w (f c w) → Wrote size blocks s (sumKids g es) (λ z. OfKids (R z) es) (f c w)
+          (writeKids f es (f c w))
           → Wrote size blocks s (g c + sumKids g es) (λ z. R z c × OfKids (R z) es) w (writeKids f es (f c w))
       child c i j =
           let b : f c w .allocated ≤ w .allocated + g c = i .bound in
           let b′ : writeKids f es (f c w) .allocated ≤ f c w .allocated + sumKids g es = j .bound in
           let p : usable size (f c w .space) + f c w .allocated ≡ usable size (w .space) + w .allocated = i .spent in
-          let p′ : usable size (writeKids f es (f c w) .space) + writeKids f es (f c w) .allocated ≡ usable size (f c w .space) + f c w .allocated = j .spent in
+          let p′ : usable size (writeKids f es (f c w) .space) + writeKids f es (f c w) .allocated ≡ usable size
+          (f c w .space) + f c w .allocated = j .spent in
           record {
             holds = j .holds;
             spent = omega arith;
@@ -255,7 +276,8 @@ module _ (s : State) (xid blocks : ℕ) where
   unfolding sumFrom writeFrom
   write-from zero n w h k = write-node n w h k
   write-from (suc d) n w h k =
-      let i = write-kids (writeFrom d s xid) (sumFrom (λ m. cond (m .dirty) 1 0) d s) (λ z c. OfReached (Clean z) d s c) (write-from d) (λ z z′ c f. reached-map (Clean z) (Clean z′) d s c f) (nodeAt s n .entries) w h k in
+      let i = write-kids (writeFrom d s xid) (sumFrom (λ m. cond (m .dirty) 1 0) d s) (λ z c. OfReached (Clean z) d s c) (write-from d)
+      (λ z z′ c f. reached-map (Clean z) (Clean z′) d s c f) (nodeAt s n .entries) w h k in
       let v : Flushing = writeKids (writeFrom d s xid) (nodeAt s n .entries) w in
       let j = write-node n v (i .holds) (i .within) in
       let b : v .allocated ≤ w .allocated + sumKids (sumFrom (λ m. cond (m .dirty) 1 0) d s) (nodeAt s n .entries) = i .bound in
@@ -268,12 +290,17 @@ module _ (s : State) (xid blocks : ℕ) where
         bound = omega arith;
         within = j .within;
         stays = λ m q. j .stays m (i .stays m q);
-        done = λ q. (j .done (omega arith), kids-map (OfReached (Clean v) d s) (OfReached (Clean (writeNode s xid n v)) d s) (nodeAt s n .entries) (λ c. reached-map (Clean v) (Clean (writeNode s xid n v)) d s c (j .stays)) (i .done (omega arith)));
+        done = λ q. (
+          j .done (omega arith),
+          kids-map (OfReached (Clean v) d s) (OfReached (Clean (writeNode s xid n v)) d s) (nodeAt s n .entries)
+              (λ c. reached-map (Clean v) (Clean (writeNode s xid n v)) d s c (j .stays)) (i .done (omega arith)),
+        );
       }
 
 -- ---- the call
 
--- 16 asks enough: a flush takes no more blocks than the dirty nodes it counted, each one usable block less; with that many usable every node reached is clean after
+-- 16 asks enough: a flush takes no more blocks than the dirty nodes it counted, each one usable block less; with that many usable every node reached
+-- is clean after
 pub record Enough (size blocks : ℕ) (p : Space) (s : State) (f : Flushed) : Type 0 where
   pub holds : spaceHolds size blocks (f .after .space) ≡ true
   pub bound : f .allocated ≤ dirtyReached s
@@ -284,7 +311,8 @@ start : (s : State) (m : ℕ) → getD (s .nodes) m noNode .dirty ≡ true → n
 unfolding nodeAt
 start s m h = h
 
-pub flush-enough : (l : Lent) (p : Space) (s : State) (xid next blocks : ℕ) → spaceHolds (s .info .«node_size») blocks p ≡ true → Enough (s .info .«node_size») blocks p s (flushed l p s xid next)
+pub flush-enough : (l : Lent) (p : Space) (s : State) (xid next blocks : ℕ) → spaceHolds (s .info .«node_size») blocks p ≡ true
+    → Enough (s .info .«node_size») blocks p s (flushed l p s xid next)
 unfolding flushed dirtyReached
 flush-enough l p s xid next blocks h =
     let w : Flushing = record {

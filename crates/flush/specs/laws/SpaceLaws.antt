@@ -9,7 +9,7 @@ use lib.ListN.{length, getD, set, length-set}
 use lib.Seq.{getD-set-same, getD-set-other, set-out}
 use lib.Dec.{leb, ltb, eqb}
 use borrow.Author.Tests.{eqb-true, eqb-false, eq-eqb, leb-true, leb-false, ltb-true, ltb-false, le-leb}
-use Rattle.tree.specs.NodeLaws.{by-test, and-split}
+use Rattle.tree.specs.laws.NodeLaws.{by-test, and-split}
 use Rattle.flush.specs.Space.{Space, Choice, chunkBlocks, isUsed, markUsed, firstFree, zeros, chooseFrom, choose, taken, lesser, usableFrom, usable, chunksHold, spaceHolds}
 
 -- ---- one bit of a byte set
@@ -90,7 +90,8 @@ mark-other bm a b n =
         by-test (eqb (b / 8) (a / 8))
         (λ u. let q : b / 8 ≡ a / 8 = eqb-true (b / 8) (a / 8) u in
         by-test (ltb (a / 8) (length bm))
-        (λ v. let g : getD (set bm (a / 8) (x + 2 ^ (a % 8))) (a / 8) 0 ≡ x + 2 ^ (a % 8) = getD-set-same bm (a / 8) (x + 2 ^ (a % 8)) 0 (ltb-true (a / 8) (length bm) v) in
+        (λ v. let g : getD (set bm (a / 8) (x + 2 ^ (a % 8))) (a / 8) 0 ≡ x + 2 ^ (a % 8) = getD-set-same bm (a / 8) (x + 2 ^ (a % 8)) 0
+        (ltb-true (a / 8) (length bm) v) in
         rw (q, g) (ap (λ (z : ℕ). eqb z 1) (bit-other x (b % 8) (a % 8) (λ e. n (omega arith)) (eqb-false (x / 2 ^ (a % 8) % 2) 1 t))))
         (λ v. rw (set-out bm (a / 8) (x + 2 ^ (a % 8)) (ltb-false (a / 8) (length bm) v))))
         (λ u. rw (getD-set-other bm (a / 8) (b / 8) (x + 2 ^ (a % 8)) 0 (eqb-false (b / 8) (a / 8) u)))
@@ -181,7 +182,8 @@ zeros-outside bm (suc n) a x h =
     (zeros-outside bm n (suc a) x (λ y p q. h y (omega arith) (omega arith)))
 
 -- a free block marked is one 0 bit less
-pub zeros-marked : (bm : List ℕ) (n a x : ℕ) → x / 8 < length bm → a ≤ x → x < a + n → isUsed bm x ≡ false → zeros (markUsed bm x) n a + 1 ≡ zeros bm n a
+pub zeros-marked : (bm : List ℕ) (n a x : ℕ) → x / 8 < length bm → a ≤ x → x < a + n → isUsed bm x ≡ false
+    → zeros (markUsed bm x) n a + 1 ≡ zeros bm n a
 unfolding zeros
 zeros-marked bm zero a x r h k f = absurd (omega arith)
 zeros-marked bm (suc n) a x r h k f =
@@ -200,7 +202,8 @@ zeros-marked bm (suc n) a x r h k f =
 
 -- ---- the block chosen
 
--- from chunk c on, x is chosen: its bit is 0, below its chunk's block count, in a chunk with nonzero free count; no lower block of its chunk is free, nor any of an
+-- from chunk c on, x is chosen: its bit is 0, below its chunk's block count, in a chunk with nonzero free count; no lower block of its chunk is free,
+-- nor any of an
 -- earlier chunk with nonzero free count
 pub record Chosen (bm : List ℕ) (size c : ℕ) (ns fs : List ℕ) (x : Choice) : Type 0 where
   pub at : ℕ
@@ -238,7 +241,8 @@ chunk-next bm size c n f ns fs x h i =
         let g : Full bm (getD ns j 0) ((suc c + j) * chunkBlocks size) = i .first j (omega arith) m in
         rw q at g
 
-pub choose-chosen : (bm : List ℕ) (size c : ℕ) (ns fs : List ℕ) (x : Choice) (xs : List Choice) → chooseFrom bm size c ns fs ≡ x ∷ xs → Chosen bm size c ns fs x
+pub choose-chosen : (bm : List ℕ) (size c : ℕ) (ns fs : List ℕ) (x : Choice) (xs : List Choice) → chooseFrom bm size c ns fs ≡ x ∷ xs
+    → Chosen bm size c ns fs x
 unfolding chooseFrom
 choose-chosen bm size c [] fs x xs e = let z : _≡_ {A = ℕ} 0 1 = cc in absurd (omega arith)
 choose-chosen bm size c (n ∷ ns) [] x xs e = let z : _≡_ {A = ℕ} 0 1 = cc in absurd (omega arith)
@@ -246,7 +250,8 @@ choose-chosen bm size c (n ∷ ns) (f ∷ fs) x xs e =
     by-test (eqb f 0)
     (λ t. chunk-next bm size c n f ns fs x (λ m. absurd (m (eqb-true f 0 t))) (choose-chosen bm size (suc c) ns fs x xs (rw t at e)))
     (λ t. by-list (firstFree bm n (c * chunkBlocks size))
-    (λ q. chunk-next bm size c n f ns fs x (λ m. first-none bm n (c * chunkBlocks size) q) (choose-chosen bm size (suc c) ns fs x xs (rw (t, q) at e)))
+    (λ q. chunk-next bm size c n f ns fs x (λ m. first-none bm n (c * chunkBlocks size) q)
+    (choose-chosen bm size (suc c) ns fs x xs (rw (t, q) at e)))
     (λ a as′ q.
     let r : record { chunk = c; block = a } ∷ [] ≡ x ∷ xs = rw (t, q) at e in
     let p : _≡_ {A = Choice} (record { chunk = c; block = a }) x = cc in
@@ -307,7 +312,8 @@ usable-none bm size c (n ∷ ns) (f ∷ fs) e =
     (λ a as′ q. let r : record { chunk = c; block = a } ∷ [] ≡ [] = rw (t, q) at e in let z : _≡_ {A = ℕ} 0 1 = cc in absurd (omega arith)))
 
 -- and some where one is
-pub usable-some : (bm : List ℕ) (size c : ℕ) (ns fs : List ℕ) (x : Choice) (xs : List Choice) → chooseFrom bm size c ns fs ≡ x ∷ xs → 0 < usableFrom bm size c ns fs
+pub usable-some : (bm : List ℕ) (size c : ℕ) (ns fs : List ℕ) (x : Choice) (xs : List Choice) → chooseFrom bm size c ns fs ≡ x ∷ xs
+    → 0 < usableFrom bm size c ns fs
 unfolding chooseFrom usableFrom
 usable-some bm size c [] fs x xs e = let z : _≡_ {A = ℕ} 0 1 = cc in absurd (omega arith)
 usable-some bm size c (n ∷ ns) [] x xs e = let z : _≡_ {A = ℕ} 0 1 = cc in absurd (omega arith)
@@ -318,11 +324,13 @@ usable-some bm size c (n ∷ ns) (f ∷ fs) x xs e =
     (λ q. let i : 0 < usableFrom bm size (suc c) ns fs = usable-some bm size (suc c) ns fs x xs (rw (t, q) at e) in omega arith)
     (λ a as′ q.
     let k : 0 < f = omega (arith, eqb-false f 0 t) in
-    let l : 0 < lesser f (zeros bm n (c * chunkBlocks size)) = lesser-some f (zeros bm n (c * chunkBlocks size)) k (zeros-some bm n (c * chunkBlocks size) a as′ q) in
+    let l : 0 < lesser f (zeros bm n (c * chunkBlocks size)) = lesser-some f (zeros bm n (c * chunkBlocks size)) k
+    (zeros-some bm n (c * chunkBlocks size) a as′ q) in
     omega arith))
 
 -- a block marked before chunk c changes nothing from chunk c on
-usable-outside : (bm : List ℕ) (size c : ℕ) (ns fs : List ℕ) (x : ℕ) → x < c * chunkBlocks size → usableFrom (markUsed bm x) size c ns fs ≡ usableFrom bm size c ns fs
+usable-outside : (bm : List ℕ) (size c : ℕ) (ns fs : List ℕ) (x : ℕ) → x < c * chunkBlocks size
+    → usableFrom (markUsed bm x) size c ns fs ≡ usableFrom bm size c ns fs
 unfolding usableFrom
 usable-outside bm size c [] fs x h = refl
 usable-outside bm size c (n ∷ ns) [] x h = refl
@@ -336,37 +344,48 @@ count-le : (size blocks c : ℕ) (ns : List ℕ) (i : ℕ) → chunksHold size b
 unfolding chunksHold
 count-le size blocks c [] i h k = absurd (omega arith)
 count-le size blocks c (n ∷ ns) zero h k =
-    leb-true n (chunkBlocks size) (and-split (leb n (chunkBlocks size)) (leb (c * chunkBlocks size + n) blocks) (and-split (leb n (chunkBlocks size) && leb (c * chunkBlocks size + n) blocks) (chunksHold size blocks (suc c) ns) h .0) .0)
+    leb-true n (chunkBlocks size) (and-split (leb n (chunkBlocks size)) (leb (c * chunkBlocks size + n) blocks)
+    (and-split (leb n (chunkBlocks size) && leb (c * chunkBlocks size + n) blocks) (chunksHold size blocks (suc c) ns) h .0) .0)
 count-le size blocks c (n ∷ ns) (suc i) h k =
-    count-le size blocks (suc c) ns i (and-split (leb n (chunkBlocks size) && leb (c * chunkBlocks size + n) blocks) (chunksHold size blocks (suc c) ns) h .1) (omega arith)
+    count-le size blocks (suc c) ns i (and-split (leb n (chunkBlocks size) && leb (c * chunkBlocks size + n) blocks)
+    (chunksHold size blocks (suc c) ns) h .1) (omega arith)
 
 chunks-rest : (size blocks c n : ℕ) (ns : List ℕ) → chunksHold size blocks c (n ∷ ns) ≡ true → chunksHold size blocks (suc c) ns ≡ true
 unfolding chunksHold
-chunks-rest size blocks c n ns h = and-split (leb n (chunkBlocks size) && leb (c * chunkBlocks size + n) blocks) (chunksHold size blocks (suc c) ns) h .1
+chunks-rest size blocks c n ns h = and-split (leb n (chunkBlocks size) && leb (c * chunkBlocks size + n) blocks)
+    (chunksHold size blocks (suc c) ns) h .1
 
 -- the block taken lies in chunk c
 usable-here : (bm : List ℕ) (size c n : ℕ) (ns : List ℕ) (f : ℕ) (fs : List ℕ) (x : Choice) → n ≤ chunkBlocks size → (f ≡ 0 → ⊥) → x .chunk ≡ c
     → Lowest bm n (c * chunkBlocks size) (x .block) → x .block / 8 < length bm
-    → usableFrom (markUsed bm (x .block)) size c (n ∷ ns) (set (f ∷ fs) (x .chunk - c) (getD (f ∷ fs) (x .chunk - c) 0 - 1)) + 1 ≡ usableFrom bm size c (n ∷ ns) (f ∷ fs)
+    → usableFrom (markUsed bm (x .block)) size c (n ∷ ns) (set (f ∷ fs) (x .chunk - c) (getD (f ∷ fs) (x .chunk - c) 0 - 1)) + 1
+    ≡ usableFrom bm size c (n ∷ ns) (f ∷ fs)
 unfolding usableFrom
 usable-here bm size c n ns f fs x k m p l r =
     let z : x .chunk - c ≡ 0 = omega arith in
     let b : x .block < c * chunkBlocks size + n = l .below in
-    let u : zeros (markUsed bm (x .block)) n (c * chunkBlocks size) + 1 ≡ zeros bm n (c * chunkBlocks size) = zeros-marked bm n (c * chunkBlocks size) (x .block) r (l .from) b (l .isFree) in
-    let v : lesser (f - 1) (zeros (markUsed bm (x .block)) n (c * chunkBlocks size)) + 1 ≡ lesser f (zeros bm n (c * chunkBlocks size)) = lesser-less f (zeros bm n (c * chunkBlocks size)) (zeros (markUsed bm (x .block)) n (c * chunkBlocks size)) m u in
-    let w : usableFrom (markUsed bm (x .block)) size (suc c) ns fs ≡ usableFrom bm size (suc c) ns fs = usable-outside bm size (suc c) ns fs (x .block) (omega arith) in
+    let u : zeros (markUsed bm (x .block)) n (c * chunkBlocks size) + 1 ≡ zeros bm n (c * chunkBlocks size) = zeros-marked bm n
+    (c * chunkBlocks size) (x .block) r (l .from) b (l .isFree) in
+    let v : lesser (f - 1) (zeros (markUsed bm (x .block)) n (c * chunkBlocks size)) + 1 ≡ lesser f
+    (zeros bm n (c * chunkBlocks size)) = lesser-less f (zeros bm n (c * chunkBlocks size))
+    (zeros (markUsed bm (x .block)) n (c * chunkBlocks size)) m u in
+    let w : usableFrom (markUsed bm (x .block)) size (suc c) ns fs ≡ usableFrom bm size (suc c) ns fs = usable-outside bm size (suc c) ns fs
+    (x .block) (omega arith) in
     rw z (omega arith)
 
 -- the block taken lies in a later chunk
 usable-later : (bm : List ℕ) (size c n : ℕ) (ns : List ℕ) (f : ℕ) (fs : List ℕ) (x : Choice) → n ≤ chunkBlocks size → Chosen bm size (suc c) ns fs x
-    → usableFrom (markUsed bm (x .block)) size (suc c) ns (set fs (x .chunk - suc c) (getD fs (x .chunk - suc c) 0 - 1)) + 1 ≡ usableFrom bm size (suc c) ns fs
-    → usableFrom (markUsed bm (x .block)) size c (n ∷ ns) (set (f ∷ fs) (x .chunk - c) (getD (f ∷ fs) (x .chunk - c) 0 - 1)) + 1 ≡ usableFrom bm size c (n ∷ ns) (f ∷ fs)
+    → usableFrom (markUsed bm (x .block)) size (suc c) ns (set fs (x .chunk - suc c) (getD fs (x .chunk - suc c) 0 - 1)) + 1 ≡ usableFrom bm size
+    (suc c) ns fs
+    → usableFrom (markUsed bm (x .block)) size c (n ∷ ns) (set (f ∷ fs) (x .chunk - c) (getD (f ∷ fs) (x .chunk - c) 0 - 1)) + 1
+    ≡ usableFrom bm size c (n ∷ ns) (f ∷ fs)
 unfolding usableFrom
 usable-later bm size c n ns f fs x k g i =
     let p : x .chunk ≡ suc c + g .at = g .chunk in
     let z : x .chunk - c ≡ suc (x .chunk - suc c) = omega arith in
     let b : (suc c + g .at) * chunkBlocks size ≤ x .block = g .block .from in
-    let u : zeros (markUsed bm (x .block)) n (c * chunkBlocks size) ≡ zeros bm n (c * chunkBlocks size) = zeros-outside bm n (c * chunkBlocks size) (x .block) (λ y q r e. omega arith) in
+    let u : zeros (markUsed bm (x .block)) n (c * chunkBlocks size) ≡ zeros bm n (c * chunkBlocks size) = zeros-outside bm n (c * chunkBlocks size)
+    (x .block) (λ y q r e. omega arith) in
     rw (z, u) (omega arith)
 
 -- the block chosen taken: one usable block less
@@ -393,27 +412,35 @@ usable-taken bm size blocks c (n ∷ ns) (f ∷ fs) x xs h e r =
     rest = chunks-rest size blocks c n ns h
 
     here : eqb f 0 ≡ false → (a : ℕ) → x .chunk ≡ c → x .block ≡ a → Lowest bm n (c * chunkBlocks size) a
-        → usableFrom (markUsed bm (x .block)) size c (n ∷ ns) (set (f ∷ fs) (x .chunk - c) (getD (f ∷ fs) (x .chunk - c) 0 - 1)) + 1 ≡ usableFrom bm size c (n ∷ ns) (f ∷ fs)
+        → usableFrom (markUsed bm (x .block)) size c (n ∷ ns) (set (f ∷ fs) (x .chunk - c) (getD (f ∷ fs) (x .chunk - c) 0 - 1)) + 1
+        ≡ usableFrom bm size c (n ∷ ns) (f ∷ fs)
     here t a p q l = usable-here bm size c n ns f fs x small (eqb-false f 0 t) p (rw (← q) at l) r
 
     later : chooseFrom bm size (suc c) ns fs ≡ x ∷ xs
-        → (chooseFrom bm size (suc c) ns fs ≡ x ∷ xs → usableFrom (markUsed bm (x .block)) size (suc c) ns (set fs (x .chunk - suc c) (getD fs (x .chunk - suc c) 0 - 1)) + 1 ≡ usableFrom bm size (suc c) ns fs)
-        → usableFrom (markUsed bm (x .block)) size c (n ∷ ns) (set (f ∷ fs) (x .chunk - c) (getD (f ∷ fs) (x .chunk - c) 0 - 1)) + 1 ≡ usableFrom bm size c (n ∷ ns) (f ∷ fs)
+        → (chooseFrom bm size (suc c) ns fs ≡ x ∷ xs → usableFrom (markUsed bm (x .block)) size (suc c) ns
+        (set fs (x .chunk - suc c) (getD fs (x .chunk - suc c) 0 - 1)) + 1 ≡ usableFrom bm size (suc c) ns fs)
+        → usableFrom (markUsed bm (x .block)) size c (n ∷ ns) (set (f ∷ fs) (x .chunk - c) (getD (f ∷ fs) (x .chunk - c) 0 - 1)) + 1
+        ≡ usableFrom bm size c (n ∷ ns) (f ∷ fs)
     later q i = usable-later bm size c n ns f fs x small (choose-chosen bm size (suc c) ns fs x xs q) (i q)
 
-chosen-from : (size : ℕ) (p : Space) (x : Choice) (xs : List Choice) → choose size p ≡ x ∷ xs → chooseFrom (p .bitmap) size 0 (p .counts) (p .free) ≡ x ∷ xs
+chosen-from : (size : ℕ) (p : Space) (x : Choice) (xs : List Choice) → choose size p ≡ x ∷ xs → chooseFrom (p .bitmap) size 0 (p .counts)
+    (p .free) ≡ x ∷ xs
 unfolding choose
 chosen-from size p x xs e = e
 
-inside-at : (size blocks c : ℕ) (ns : List ℕ) (i : ℕ) → chunksHold size blocks c ns ≡ true → i < length ns → (c + i) * chunkBlocks size + getD ns i 0 ≤ blocks
+inside-at : (size blocks c : ℕ) (ns : List ℕ) (i : ℕ) → chunksHold size blocks c ns ≡ true → i < length ns
+    → (c + i) * chunkBlocks size + getD ns i 0 ≤ blocks
 unfolding chunksHold
 inside-at size blocks c [] i h k = absurd (omega arith)
 inside-at size blocks c (n ∷ ns) zero h k =
     let q : c + 0 ≡ c = omega arith in
-    rw q (leb-true (c * chunkBlocks size + n) blocks (and-split (leb n (chunkBlocks size)) (leb (c * chunkBlocks size + n) blocks) (and-split (leb n (chunkBlocks size) && leb (c * chunkBlocks size + n) blocks) (chunksHold size blocks (suc c) ns) h .0) .1))
+    rw q (leb-true (c * chunkBlocks size + n) blocks
+    (and-split (leb n (chunkBlocks size)) (leb (c * chunkBlocks size + n) blocks)
+    (and-split (leb n (chunkBlocks size) && leb (c * chunkBlocks size + n) blocks) (chunksHold size blocks (suc c) ns) h .0) .1))
 inside-at size blocks c (n ∷ ns) (suc i) h k =
     let q : suc c + i ≡ c + suc i = omega arith in
-    let g : (suc c + i) * chunkBlocks size + getD ns i 0 ≤ blocks = inside-at size blocks (suc c) ns i (chunks-rest size blocks c n ns h) (omega arith) in
+    let g : (suc c + i) * chunkBlocks size + getD ns i 0 ≤ blocks = inside-at size blocks (suc c) ns i (chunks-rest size blocks c n ns h)
+    (omega arith) in
     rw q at g
 
 -- ---- the laws of a space that holds
@@ -423,7 +450,8 @@ holds-lengths : (size blocks : ℕ) (p : Space) → spaceHolds size blocks p ≡
     → (length (p .bitmap) ≡ length (p .counts) * size) × (length (p .free) ≡ length (p .counts)) × (chunksHold size blocks 0 (p .counts) ≡ true)
 unfolding spaceHolds
 holds-lengths size blocks p h =
-    let (q, r) = and-split (eqb (length (p .bitmap)) (length (p .counts) * size) && eqb (length (p .free)) (length (p .counts))) (chunksHold size blocks 0 (p .counts)) h in
+    let (q, r) = and-split (eqb (length (p .bitmap)) (length (p .counts) * size) && eqb (length (p .free)) (length (p .counts)))
+    (chunksHold size blocks 0 (p .counts)) h in
     let (s, t) = and-split (eqb (length (p .bitmap)) (length (p .counts) * size)) (eqb (length (p .free)) (length (p .counts))) q in
     (eqb-true (length (p .bitmap)) (length (p .counts) * size) s, eqb-true (length (p .free)) (length (p .counts)) t, r)
 
@@ -433,7 +461,8 @@ unfolding choose
 chosen size p x xs e = choose-chosen (p .bitmap) size 0 (p .counts) (p .free) x xs e
 
 -- its bit lies in the bitmap
-pub chosen-mapped : (size blocks : ℕ) (p : Space) (x : Choice) (xs : List Choice) → spaceHolds size blocks p ≡ true → choose size p ≡ x ∷ xs → x .block / 8 < length (p .bitmap)
+pub chosen-mapped : (size blocks : ℕ) (p : Space) (x : Choice) (xs : List Choice) → spaceHolds size blocks p ≡ true → choose size p ≡ x ∷ xs
+    → x .block / 8 < length (p .bitmap)
 unfolding chunkBlocks
 chosen-mapped size blocks p x xs h e =
     let l = holds-lengths size blocks p h in
@@ -446,11 +475,13 @@ chosen-mapped size blocks p x xs h e =
     omega arith
 
 -- and its address in the image
-pub chosen-inside : (size blocks : ℕ) (p : Space) (x : Choice) (xs : List Choice) → spaceHolds size blocks p ≡ true → choose size p ≡ x ∷ xs → x .block < blocks
+pub chosen-inside : (size blocks : ℕ) (p : Space) (x : Choice) (xs : List Choice) → spaceHolds size blocks p ≡ true → choose size p ≡ x ∷ xs
+    → x .block < blocks
 chosen-inside size blocks p x xs h e =
     let g = chosen size p x xs e in
     let b : x .block < (0 + g .at) * chunkBlocks size + getD (p .counts) (g .at) 0 = g .block .below in
-    let i : (0 + g .at) * chunkBlocks size + getD (p .counts) (g .at) 0 ≤ blocks = inside-at size blocks 0 (p .counts) (g .at) (holds-lengths size blocks p h .2) (g .counted) in
+    let i : (0 + g .at) * chunkBlocks size + getD (p .counts) (g .at) 0 ≤ blocks = inside-at size blocks 0 (p .counts) (g .at)
+    (holds-lengths size blocks p h .2) (g .counted) in
     omega arith
 
 -- a choice keeps what holds of a space
@@ -469,10 +500,12 @@ usable-zero size p = (
 )
 
 -- a choice takes one usable block
-pub usable-less : (size blocks : ℕ) (p : Space) (x : Choice) (xs : List Choice) → spaceHolds size blocks p ≡ true → choose size p ≡ x ∷ xs → usable size (taken p x) + 1 ≡ usable size p
+pub usable-less : (size blocks : ℕ) (p : Space) (x : Choice) (xs : List Choice) → spaceHolds size blocks p ≡ true → choose size p ≡ x ∷ xs
+    → usable size (taken p x) + 1 ≡ usable size p
 unfolding usable taken
 usable-less size blocks p x xs h e =
-    let u = usable-taken (p .bitmap) size blocks 0 (p .counts) (p .free) x xs (holds-lengths size blocks p h .2) (chosen-from size p x xs e) (chosen-mapped size blocks p x xs h e) in
+    let u = usable-taken (p .bitmap) size blocks 0 (p .counts) (p .free) x xs (holds-lengths size blocks p h .2) (chosen-from size p x xs e)
+    (chosen-mapped size blocks p x xs h e) in
     let z : x .chunk - 0 ≡ x .chunk = omega arith in
     rw z at u
 
@@ -497,8 +530,10 @@ choices-length (suc n) size blocks p h =
     (λ q. let u : usable size p ≡ 0 = usable-zero size p .1 q in let k = lesser-right (suc n) (usable size p) in rw q (omega arith))
     (λ x xs q.
     let u : usable size (taken p x) + 1 ≡ usable size p = usable-less size blocks p x xs h q in
-    let i : length (choices n size (taken p x)) ≡ lesser n (usable size (taken p x)) = choices-length n size blocks (taken p x) (taken-holds size blocks p x h) in
-    let l : lesser (suc n - 1) (usable size (taken p x)) + 1 ≡ lesser (suc n) (usable size p) = lesser-less (suc n) (usable size p) (usable size (taken p x)) (λ e. omega arith) u in
+    let i : length (choices n size (taken p x)) ≡ lesser n (usable size (taken p x)) = choices-length n size blocks (taken p x)
+    (taken-holds size blocks p x h) in
+    let l : lesser (suc n - 1) (usable size (taken p x)) + 1 ≡ lesser (suc n) (usable size p) = lesser-less (suc n) (usable size p)
+    (usable size (taken p x)) (λ e. omega arith) u in
     let z : suc n - 1 ≡ n = omega arith in
     let l′ : lesser n (usable size (taken p x)) + 1 ≡ lesser (suc n) (usable size p) = rw z at l in
     rw q (omega arith))

@@ -1,19 +1,19 @@
 -- The plain list's functions are those of one leaf: each by its own recursion, and the same. Assumes nothing.
 use mathlib.Core.Path.{_≡_, refl, sym, ap, _∙_}
 use mathlib.Core.List.{List, [], _∷_}
-use mathlib.Core.Bool.{Bool, true, false, cond, _&&_, not}
-use Prim.Native.Nat.{ℕ, zero, suc, _+_, _-_, _≤_, _<_}
+use mathlib.Core.Bool.{cond, _&&_, not}
+use Prim.Native.Nat.{ℕ, zero, suc, _-_, _≤_, _<_}
 use native.Mathlib.Omega.{arith}
 use lib.ListN.{length, take, drop, length-take, length-drop}
 use Rattle.node.specs.Order.{less}
 use Rattle.node.specs.Entry.{Entry, Val}
 use Rattle.node.specs.Find.{placeOf, isThere, notAbove, lastNotAbove}
 use Rattle.node.specs.Slot.{insertAt}
-use Rattle.node.specs.TestLaws.{by-test}
-use Rattle.node.specs.FoundLaws.{there-later, there-here, above-le}
+use Rattle.node.specs.laws.TestLaws.{by-test}
+use Rattle.node.specs.laws.FoundLaws.{there-later, there-here, above-le}
 use Rattle.tree.specs.Lookup.{held, endsAbove, between}
 use Rattle.tree.specs.Upsert.{putEntry}
-use Rattle.tree.specs.EntryLaws.{without, without-later, without-here, put-later, put-on, put-new, held-later, held-on, held-off}
+use Rattle.tree.specs.laws.EntryLaws.{without, without-later, without-here, put-later, put-on, put-new, held-later, held-on, held-off}
 use Rattle.history.specs.Plain.{plainUpsert, plainRemove, plainHas, plainGet, orLater, plainFloor, plainRange}
 
 put-none : (o : ℕ) (e : Entry) → putEntry o e [] ≡ e ∷ []

@@ -13,10 +13,10 @@ use lib.Bits.{bitAnd, bitOr, and-mask, or-add-and, and-high}
 use lib.Count.{ones, ones-step}
 use lib.Pow.{pow-pos, shl-exact, mod-pow-add}
 use borrow.Author.Tests.{eqb-true, eqb-false, eq-eqb, ne-eqb, leb-true, leb-false, le-leb, lt-leb}
-use Rattle.tree.specs.NodeLaws.{by-test, never, and-split, and-false}
+use Rattle.tree.specs.laws.NodeLaws.{by-test, never, and-split, and-false}
 use Rattle.tree.specs.Lent.{isSize}
 use Rattle.flush.specs.Space.{Space, Choice, spaceOf, chunkBlocks, isUsed, markUsed, onesBelow, firstZero, firstFree, foundMeans, zerosBelow, zeros, chooseFrom, choose, choiceMeans, taken, allocated, lesser, usableFrom, usable, chunksHold, spaceHolds, Held}
-use Rattle.flush.specs.SpaceLaws.{Chosen, chosen, mark-length}
+use Rattle.flush.specs.laws.SpaceLaws.{Chosen, chosen, mark-length}
 use Rattle.flush.specs.declared.space.Found.{Found}
 use Rattle.flush.specs.declared.space.Found.the-variants.{At, Nothing}
 use Rattle.flush.specs.declared.space.Answer.{Answer}
@@ -153,7 +153,8 @@ first-start bm n a = let p : n - 0 ≡ n = omega arith in rw (p, add-zero a)
 pub first-found : (bm : List ℕ) (n a i z : ℕ) → a % 8 ≡ 0 → i % 8 ≡ 0 → z ≡ firstZero (getD bm ((a + i) / 8) 0) → z < 8 → i + z < n
     → firstFree bm (n - i) (a + i) ≡ firstFree bm n a → (a + i + z) ∷ [] ≡ firstFree bm n a
 first-found bm n a i z e f p h k v =
-    sym (free-first bm (n - i - z) (a + i + z) (omega arith) (byte-free bm (a + i) z (omega arith) p h)) ∙ sym (byte-past bm (a + i) (n - i) z (omega arith) p) ∙ v
+    sym (free-first bm (n - i - z) (a + i + z) (omega arith) (byte-free bm (a + i) z (omega arith) p h))
+    ∙ sym (byte-past bm (a + i) (n - i) z (omega arith) p) ∙ v
 
 pub first-past : (bm : List ℕ) (n a i z : ℕ) → a % 8 ≡ 0 → i % 8 ≡ 0 → z ≡ firstZero (getD bm ((a + i) / 8) 0) → z < 8 → n ≤ i + z
     → firstFree bm (n - i) (a + i) ≡ firstFree bm n a → [] ≡ firstFree bm n a
@@ -311,7 +312,8 @@ module _ (size : ℕ) (bm cs fs : List ℕ) (h : Held size (spaceOf bm cs fs)) w
 pub free-none : (bm : List ℕ) (n f a : ℕ) → f ≡ 0 → [] ≡ cond (eqb f 0) [] (firstFree bm n a)
 free-none bm n f a e = rw (eq-eqb f 0 e)
 
-pub free-some : (bm l : List ℕ) (n f c size : ℕ) → (f ≡ 0 → ⊥) → l ≡ firstFree bm n (c * (8 * size)) → l ≡ cond (eqb f 0) [] (firstFree bm n (c * chunkBlocks size))
+pub free-some : (bm l : List ℕ) (n f c size : ℕ) → (f ≡ 0 → ⊥) → l ≡ firstFree bm n (c * (8 * size))
+    → l ≡ cond (eqb f 0) [] (firstFree bm n (c * chunkBlocks size))
 unfolding chunkBlocks
 free-some bm l n f c size e p = rw (ne-eqb f 0 e) p
 
@@ -340,13 +342,15 @@ module _ (size : ℕ) (bm cs fs : List ℕ) where
       let g : [] ≡ cond (eqb (getD fs c 0) 0) [] (firstFree bm (getD cs c 0) (c * chunkBlocks size)) = ap foundMeans (sym q) ∙ p in
       rw (add-one c) (rw (drop-cons cs c 0 k, drop-cons fs c 0 (chunk-free size bm cs fs h c k), ← g) at v)
 
-  pub choose-end : (c : ℕ) → length cs ≤ c → chooseFrom bm size c (drop c cs) (drop c fs) ≡ choose size (spaceOf bm cs fs) → [] ≡ choose size (spaceOf bm cs fs)
+  pub choose-end : (c : ℕ) → length cs ≤ c → chooseFrom bm size c (drop c cs) (drop c fs) ≡ choose size (spaceOf bm cs fs)
+      → [] ≡ choose size (spaceOf bm cs fs)
   unfolding chooseFrom
   choose-end c k v = rw (drop-of-length-le cs k) at v
 
 -- ---- alloc
 
-module _ (size : ℕ) (bm cs fs : List ℕ) (c b : ℕ) (x : Answer) (h : Held size (spaceOf bm cs fs)) (e : choiceMeans x ≡ choose size (spaceOf bm cs fs)) (i : x ≡ Block c b) where
+module _ (size : ℕ) (bm cs fs : List ℕ) (c b : ℕ) (x : Answer) (h : Held size (spaceOf bm cs fs))
+    (e : choiceMeans x ≡ choose size (spaceOf bm cs fs)) (i : x ≡ Block c b) where
   choice-is : choose size (spaceOf bm cs fs) ≡ record { chunk = c; block = b } ∷ []
   choice-is = sym e ∙ ap choiceMeans i
 
@@ -398,7 +402,8 @@ pub usable-most : (size : ℕ) (bm cs fs : List ℕ) (c z r : ℕ) → Held size
 unfolding chunkBlocks
 usable-most size bm cs fs c z r h k l = let n : getD cs c 0 ≤ 8 * size = h .counted c in omega arith
 
-pub usable-is : (size : ℕ) (bm : List ℕ) (n f c z r : ℕ) → z ≡ zeros bm n (c * (8 * size)) → r ≡ lesser f z → r ≡ lesser f (zeros bm n (c * chunkBlocks size))
+pub usable-is : (size : ℕ) (bm : List ℕ) (n f c z r : ℕ) → z ≡ zeros bm n (c * (8 * size)) → r ≡ lesser f z
+    → r ≡ lesser f (zeros bm n (c * chunkBlocks size))
 unfolding chunkBlocks
 usable-is size bm n f c z r p q = q ∙ ap (lesser f) p
 
@@ -413,11 +418,13 @@ module _ (size : ℕ) (bm cs fs : List ℕ) where
       → sum + r + usableFrom bm size (c + 1) (drop (c + 1) cs) (drop (c + 1) fs) ≡ usable size (spaceOf bm cs fs)
   unfolding usableFrom
   usable-next c r sum h k p v =
-      let w : sum + (lesser (getD fs c 0) (zeros bm (getD cs c 0) (c * chunkBlocks size)) + usableFrom bm size (suc c) (drop (suc c) cs) (drop (suc c) fs)) ≡ usable size (spaceOf bm cs fs) =
+      let w : sum + (lesser (getD fs c 0) (zeros bm (getD cs c 0) (c * chunkBlocks size)) + usableFrom bm size (suc c) (drop (suc c) cs)
+      (drop (suc c) fs)) ≡ usable size (spaceOf bm cs fs) =
       rw (drop-cons cs c 0 k, drop-cons fs c 0 (chunk-free size bm cs fs h c k)) at v in
       rw (add-one c) (omega arith)
 
-  pub usable-end : (c sum : ℕ) → length cs ≤ c → sum + usableFrom bm size c (drop c cs) (drop c fs) ≡ usable size (spaceOf bm cs fs) → sum ≡ usable size (spaceOf bm cs fs)
+  pub usable-end : (c sum : ℕ) → length cs ≤ c → sum + usableFrom bm size c (drop c cs) (drop c fs) ≡ usable size (spaceOf bm cs fs)
+      → sum ≡ usable size (spaceOf bm cs fs)
   unfolding usableFrom
   usable-end c sum k v = let w : sum + 0 ≡ usable size (spaceOf bm cs fs) = rw (drop-of-length-le cs k) at v in omega arith
 
@@ -431,14 +438,16 @@ module _ (size : ℕ) (bm cs fs : List ℕ) where
 
 module _ (size blocks : ℕ) (cs : List ℕ) where
   chunks-head : (c : ℕ) → c < length cs
-      → chunksHold size blocks c (drop c cs) ≡ leb (getD cs c 0) (chunkBlocks size) && leb (c * chunkBlocks size + getD cs c 0) blocks && chunksHold size blocks (suc c) (drop (suc c) cs)
+      → chunksHold size blocks c (drop c cs) ≡ leb (getD cs c 0) (chunkBlocks size) && leb (c * chunkBlocks size + getD cs c 0) blocks
+      && chunksHold size blocks (suc c) (drop (suc c) cs)
   unfolding chunksHold
   chunks-head c k = rw (drop-cons cs c 0 k)
 
   pub chunks-start : chunksHold size blocks 0 (drop 0 cs) ≡ chunksHold size blocks 0 cs
   chunks-start = refl
 
-  pub chunks-large : (c : ℕ) → c < length cs → size < (getD cs c 0 + 7) / 8 → chunksHold size blocks c (drop c cs) ≡ chunksHold size blocks 0 cs → false ≡ chunksHold size blocks 0 cs
+  pub chunks-large : (c : ℕ) → c < length cs → size < (getD cs c 0 + 7) / 8 → chunksHold size blocks c (drop c cs) ≡ chunksHold size blocks 0 cs
+      → false ≡ chunksHold size blocks 0 cs
   unfolding chunkBlocks
   chunks-large c k l v = sym (chunks-head c k ∙ rw (lt-leb (getD cs c 0) (8 * size) (omega arith))) ∙ v
 
@@ -450,7 +459,8 @@ module _ (size blocks : ℕ) (cs : List ℕ) where
       sym (chunks-head c k ∙ rw (f, and-false (leb (getD cs c 0) (8 * size)))) ∙ v
 
   chunks-on : (c left : ℕ) → c < length cs → (getD cs c 0 + 7) / 8 ≤ size → left + c * (8 * size) ≡ blocks → getD cs c 0 ≤ left
-      → chunksHold size blocks c (drop c cs) ≡ chunksHold size blocks 0 cs → chunksHold size blocks (c + 1) (drop (c + 1) cs) ≡ chunksHold size blocks 0 cs
+      → chunksHold size blocks c (drop c cs) ≡ chunksHold size blocks 0 cs → chunksHold size blocks (c + 1) (drop (c + 1) cs)
+      ≡ chunksHold size blocks 0 cs
   unfolding chunkBlocks
   chunks-on c left k l e o v =
       let f : leb (getD cs c 0) (8 * size) ≡ true = le-leb (getD cs c 0) (8 * size) (omega arith) in
@@ -466,14 +476,17 @@ module _ (size blocks : ℕ) (cs : List ℕ) where
       rw (drop-of-length-le cs h) at w
 
   pub chunks-past : (c left : ℕ) → c < length cs → (getD cs c 0 + 7) / 8 ≤ size → left + c * (8 * size) ≡ blocks → getD cs c 0 ≤ left
-      → chunksHold size blocks c (drop c cs) ≡ chunksHold size blocks 0 cs → (c + 1 ≡ length cs → ⊥) → left / 8 < size → false ≡ chunksHold size blocks 0 cs
+      → chunksHold size blocks c (drop c cs) ≡ chunksHold size blocks 0 cs → (c + 1 ≡ length cs → ⊥) → left / 8 < size
+      → false ≡ chunksHold size blocks 0 cs
   unfolding chunkBlocks
   chunks-past c left k l e o v q d =
-      let f : leb ((c + 1) * (8 * size) + getD cs (c + 1) 0) blocks ≡ false = lt-leb ((c + 1) * (8 * size) + getD cs (c + 1) 0) blocks (omega arith) in
+      let f : leb ((c + 1) * (8 * size) + getD cs (c + 1) 0) blocks ≡ false = lt-leb ((c + 1) * (8 * size) + getD cs (c + 1) 0) blocks
+      (omega arith) in
       sym (chunks-head (c + 1) (omega arith) ∙ rw (f, and-false (leb (getD cs (c + 1) 0) (8 * size)))) ∙ chunks-on c left k l e o v
 
   pub chunks-next : (c left : ℕ) → c < length cs → (getD cs c 0 + 7) / 8 ≤ size → left + c * (8 * size) ≡ blocks → getD cs c 0 ≤ left
-      → chunksHold size blocks c (drop c cs) ≡ chunksHold size blocks 0 cs → size ≤ left / 8 → chunksHold size blocks (c + 1) (drop (c + 1) cs) ≡ chunksHold size blocks 0 cs
+      → chunksHold size blocks c (drop c cs) ≡ chunksHold size blocks 0 cs → size ≤ left / 8 → chunksHold size blocks (c + 1) (drop (c + 1) cs)
+      ≡ chunksHold size blocks 0 cs
   chunks-next c left k l e o v d = chunks-on c left k l e o v
 
   pub chunks-end : (c : ℕ) → length cs ≤ c → chunksHold size blocks c (drop c cs) ≡ chunksHold size blocks 0 cs → true ≡ chunksHold size blocks 0 cs
@@ -486,12 +499,14 @@ chunks-left size blocks c left e d = omega arith
 -- ---- a space that holds
 
 -- the chunks past the first c lie in the image, but for the last
-chunks-few : (size blocks c : ℕ) (ns : List ℕ) → c * chunkBlocks size ≤ blocks + chunkBlocks size → chunksHold size blocks c ns ≡ true → (c + length ns) * chunkBlocks size ≤ blocks + chunkBlocks size
+chunks-few : (size blocks c : ℕ) (ns : List ℕ) → c * chunkBlocks size ≤ blocks + chunkBlocks size → chunksHold size blocks c ns ≡ true
+    → (c + length ns) * chunkBlocks size ≤ blocks + chunkBlocks size
 unfolding chunksHold
 chunks-few size blocks c [] h t = let z : c + 0 ≡ c = omega arith in rw z h
 chunks-few size blocks c (n ∷ ns) h t =
     let (u, v) = and-split (leb n (chunkBlocks size) && leb (c * chunkBlocks size + n) blocks) (chunksHold size blocks (suc c) ns) t in
-    let l : c * chunkBlocks size + n ≤ blocks = leb-true (c * chunkBlocks size + n) blocks (and-split (leb n (chunkBlocks size)) (leb (c * chunkBlocks size + n) blocks) u .1) in
+    let l : c * chunkBlocks size + n ≤ blocks = leb-true (c * chunkBlocks size + n) blocks
+    (and-split (leb n (chunkBlocks size)) (leb (c * chunkBlocks size + n) blocks) u .1) in
     let i = chunks-few size blocks (suc c) ns (omega arith) v in
     let s : suc c + length ns ≡ c + suc (length ns) = omega arith in
     rw s at i
@@ -500,9 +515,11 @@ chunks-counted : (size blocks c : ℕ) (ns : List ℕ) (i : ℕ) → chunksHold 
 unfolding chunksHold
 chunks-counted size blocks c [] i t = omega arith
 chunks-counted size blocks c (n ∷ ns) zero t =
-    leb-true n (chunkBlocks size) (and-split (leb n (chunkBlocks size)) (leb (c * chunkBlocks size + n) blocks) (and-split (leb n (chunkBlocks size) && leb (c * chunkBlocks size + n) blocks) (chunksHold size blocks (suc c) ns) t .0) .0)
+    leb-true n (chunkBlocks size) (and-split (leb n (chunkBlocks size)) (leb (c * chunkBlocks size + n) blocks)
+    (and-split (leb n (chunkBlocks size) && leb (c * chunkBlocks size + n) blocks) (chunksHold size blocks (suc c) ns) t .0) .0)
 chunks-counted size blocks c (n ∷ ns) (suc i) t =
-    chunks-counted size blocks (suc c) ns i (and-split (leb n (chunkBlocks size) && leb (c * chunkBlocks size + n) blocks) (chunksHold size blocks (suc c) ns) t .1)
+    chunks-counted size blocks (suc c) ns i (and-split (leb n (chunkBlocks size) && leb (c * chunkBlocks size + n) blocks)
+    (chunksHold size blocks (suc c) ns) t .1)
 
 -- so the bitmap is small
 chunks-small : (size blocks : ℕ) (cs : List ℕ) → size ≤ 65536 → blocks ≤ 2 ^ 20 → chunksHold size blocks 0 cs ≡ true → length cs * size ≤ 2 ^ 25
@@ -525,11 +542,13 @@ chunks-fit size blocks cs h k t =
     (λ u. let m : length cs * size ≤ 1 * size = mul-le-mul-right size (leb-true (length cs) 1 u) in omega arith)
     (λ u. let m : 2 * size ≤ length cs * size = mul-le-mul-right size (leb-false (length cs) 1 u) in omega arith)
 
-pub bitmap-fits : (size blocks : ℕ) (cs : List ℕ) (t : Bool) → t ≡ chunksHold size blocks 0 cs → not t ≡ false → size < 2 ^ 64 → blocks < 2 ^ 64 → length cs * size < 2 ^ 64
+pub bitmap-fits : (size blocks : ℕ) (cs : List ℕ) (t : Bool) → t ≡ chunksHold size blocks 0 cs → not t ≡ false → size < 2 ^ 64 → blocks < 2 ^ 64
+    → length cs * size < 2 ^ 64
 bitmap-fits size blocks cs true p q h k = chunks-fit size blocks cs h k (sym p)
 bitmap-fits size blocks cs false p q h k = never refl q
 
-pub space-chunks : (size blocks : ℕ) (bm cs fs : List ℕ) (t : Bool) → t ≡ chunksHold size blocks 0 cs → not t ≡ true → false ≡ spaceHolds size blocks (spaceOf bm cs fs)
+pub space-chunks : (size blocks : ℕ) (bm cs fs : List ℕ) (t : Bool) → t ≡ chunksHold size blocks 0 cs → not t ≡ true → false ≡ spaceHolds size blocks
+    (spaceOf bm cs fs)
 unfolding spaceHolds
 space-chunks size blocks bm cs fs true p q = never refl (sym q)
 space-chunks size blocks bm cs fs false p q = rw (← p, and-false (eqb (length bm) (length cs * size) && eqb (length fs) (length cs)))
@@ -538,7 +557,8 @@ pub space-counts : (size blocks : ℕ) (bm cs fs : List ℕ) → (length fs ≡ 
 unfolding spaceHolds
 space-counts size blocks bm cs fs n = rw (ne-eqb (length fs) (length cs) n, and-false (eqb (length bm) (length cs * size)))
 
-pub space-map : (size blocks : ℕ) (bm cs fs : List ℕ) (t : Bool) → t ≡ chunksHold size blocks 0 cs → not t ≡ false → length fs ≡ length cs → eqb (length bm) (length cs * size) ≡ spaceHolds size blocks (spaceOf bm cs fs)
+pub space-map : (size blocks : ℕ) (bm cs fs : List ℕ) (t : Bool) → t ≡ chunksHold size blocks 0 cs → not t ≡ false → length fs ≡ length cs
+    → eqb (length bm) (length cs * size) ≡ spaceHolds size blocks (spaceOf bm cs fs)
 unfolding spaceHolds
 space-map size blocks bm cs fs false p q e = never refl q
 space-map size blocks bm cs fs true p q e =
@@ -554,13 +574,23 @@ size-most size t =
     (λ u.
     let h : 65536 < size = leb-false size 65536 u in
     let n : (k : ℕ) → k ≤ 65536 → eqb size k ≡ false = λ k l. ne-eqb size k (λ e. omega arith) in
-    never t (rw (n 512 (omega arith), n 1024 (omega arith), n 2048 (omega arith), n 4096 (omega arith), n 8192 (omega arith), n 16384 (omega arith), n 32768 (omega arith), n 65536 (omega arith))))
+    never t (rw (
+      n 512 (omega arith),
+      n 1024 (omega arith),
+      n 2048 (omega arith),
+      n 4096 (omega arith),
+      n 8192 (omega arith),
+      n 16384 (omega arith),
+      n 32768 (omega arith),
+      n 65536 (omega arith),
+    )))
 
 -- what block choice asks holds of a space that holds, in an image of at most 2^20 blocks
 pub space-held : (size blocks : ℕ) (p : Space) → isSize size ≡ true → blocks ≤ 2 ^ 20 → spaceHolds size blocks p ≡ true → Held size p
 unfolding spaceHolds
 space-held size blocks p s k t =
-    let (q, r) = and-split (eqb (length (p .bitmap)) (length (p .counts) * size) && eqb (length (p .free)) (length (p .counts))) (chunksHold size blocks 0 (p .counts)) t in
+    let (q, r) = and-split (eqb (length (p .bitmap)) (length (p .counts) * size) && eqb (length (p .free)) (length (p .counts)))
+    (chunksHold size blocks 0 (p .counts)) t in
     let (u, v) = and-split (eqb (length (p .bitmap)) (length (p .counts) * size)) (eqb (length (p .free)) (length (p .counts))) q in
     let m : length (p .bitmap) ≡ length (p .counts) * size = eqb-true (length (p .bitmap)) (length (p .counts) * size) u in
     let f = chunks-small size blocks (p .counts) (size-most size s) k r in
@@ -581,5 +611,6 @@ allocated-held size p h = after (choose size p) refl
     after [] e = rw e h
     after (x ∷ xs) e =
         let l : length (markUsed (p .bitmap) (x .block)) ≡ length (p .bitmap) = mark-length (p .bitmap) (x .block) in
-        let g : length (set (p .free) (x .chunk) (getD (p .free) (x .chunk) 0 - 1)) ≡ length (p .free) = length-set (p .free) (x .chunk) (getD (p .free) (x .chunk) 0 - 1) in
+        let g : length (set (p .free) (x .chunk) (getD (p .free) (x .chunk) 0 - 1)) ≡ length (p .free) = length-set (p .free) (x .chunk)
+        (getD (p .free) (x .chunk) 0 - 1) in
         rw e (record { sized = h .sized; mapped = l ∙ h .mapped; few = rw l (h .few); paired = g ∙ h .paired; counted = h .counted })

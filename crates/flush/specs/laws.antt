@@ -1,0 +1,4 @@
+-- Laws of blocks and of flush.
+pub mod SpaceLaws
+pub mod SpaceSteps
+pub mod FlushLaws

@@ -1,0 +1,622 @@
+-- Wrong answers, one table: for each public contract an input, what its definition gives there, and two wrong answers that it rules out.
+-- laws/WrongAnswersRuledOut has the result. A contract is an equality to the definition, so what the definition does not give no program may answer.
+use mathlib.Core.List.{List, [], _∷_, _++_}
+use mathlib.Core.Bool.{Bool, true, false, _&&_, not}
+use Prim.Native.Nat.{ℕ, _+_}
+use Prim.Native.String.{String}
+use lib.ListN.{replicate, length, getD, take, drop}
+use lib.Dec.{leb}
+use Rattle.seal.specs.Bytes.{window, splice, moved, bytesOf, u16At, u32At, u64At}
+use Rattle.seal.specs.Checksum.{fletcher, verified, sealed}
+use Rattle.seal.specs.Obj.{headerAt, headerBytes, kindOf, storageOf}
+use Rattle.node.specs.Result.{Result}
+use Rattle.node.specs.Order.{pair, byte, known, keyedLength, less, sameKey, pairKey}
+use Rattle.node.specs.Entry.{Entry, ghost, leaf, disk, valueLength, valueBytes}
+use Rattle.node.specs.Records.{recordsOf, recordBytes, markLength, recordLength, entryOf, recordsLength, entriesOf}
+use Rattle.node.specs.Find.{placeOf, isThere, notAbove}
+use Rattle.node.specs.Fit.{align8, padded, dataSpace, tocSlots, tocLength, fitsSums, fits, packedLength}
+use Rattle.node.specs.Cut.{cut}
+use Rattle.node.specs.Read.{OnDisk, infoAt, parsed, isFixed, spanAt, isGhost, entryAt, entriesFrom, readNode}
+use Rattle.node.specs.Slot.{headAt, headWords, insertAt, removeAt, withKey, withValue, recordsHold, isChild, suit, suits, keyLengthHolds, valueLengthHolds}
+use Rattle.node.specs.internal.SlotSteps.{lengthsOf, longerOf, childOf, readHead, recordsStand}
+use Rattle.node.specs.Pack.{childNumber, packNode}
+use Rattle.node.specs.declared.info.BTreeInfo.{BTreeInfo}
+use Rattle.node.specs.declared.fit.Lengths.{Lengths}
+use Rattle.node.specs.declared.read.Node.{Node}
+use Rattle.node.specs.declared.read.Place.{Place}
+use Rattle.node.specs.declared.read.Span.{Span}
+use Rattle.flush.specs.Space.{Space, Choice, firstZero, isUsed, markUsed, firstFree, zeros, choose, allocated, usable, chunksHold, spaceHolds}
+use Rattle.history.specs.Cases.{same, number, outcome, tree512, pairs, children}
+
+-- a row: the contract, what its definition gives, what that is, and two answers that are wrong
+pub record Row : Type 0 where
+  pub contract : String
+  pub gives : List ℕ
+  pub right : List ℕ
+  pub wrong : List ℕ
+  pub wrong′ : List ℕ
+
+abbrev pub allRuledOut : List Row → Bool
+allRuledOut [] = true
+allRuledOut (r ∷ rs) = same (r .gives) (r .right) && not (same (r .gives) (r .wrong)) && not (same (r .gives) (r .wrong′)) && allRuledOut rs
+
+-- ---- what the rows are about
+
+-- eight bytes
+unfoldable pub eight : List ℕ
+eight = 1 ∷ 2 ∷ 3 ∷ 4 ∷ 5 ∷ 6 ∷ 7 ∷ 8 ∷ []
+
+-- two entries: key 1 2 with value 9, key 3 a ghost; and their records, with three bytes behind
+unfoldable pub two : List Entry
+two = record { key = 1 ∷ 2 ∷ []; value = leaf (9 ∷ []) } ∷ record { key = 3 ∷ []; value = ghost } ∷ []
+
+unfoldable pub slot : List ℕ
+slot = recordsOf two ++ 7 ∷ 7 ∷ 7 ∷ []
+
+-- the head words of one slot, and a number in each
+unfoldable pub words : List ℕ
+words = 1 ∷ 2 ∷ 12 ∷ 1 ∷ 40 ∷ 1 ∷ 50 ∷ 0 ∷ 0 ∷ []
+
+-- variable lengths, 512 bytes a node; keys and values of 16
+unfoldable pub loose : BTreeInfo
+loose = tree512 0 0
+
+unfoldable pub tight : BTreeInfo
+tight = tree512 16 16
+
+-- a packed leaf with the two entries, as a root at address 7
+unfoldable pub block : List ℕ
+block = packNode (record { oid = 7; xid = 2; otype = 0x40000002; subtype = 11; level = 0; root = true; info = loose }) two
+
+unfoldable pub place : Place
+place = record { root = true; oid = 7; parent = 0; ksize = 0; vsize = 0; bounded = false }
+
+unfoldable pub node : Node
+node = parsed place block
+
+-- a node that was read: its refusal, or its level and its entries' records
+unfoldable pub readAs : Result OnDisk → List ℕ
+readAs r = outcome (λ d. d .node .level ∷ recordsOf (d .entries)) r
+
+unfoldable pub spanNumbers : Span → List ℕ
+spanNumbers s = s .key ∷ s .klen ∷ s .voff ∷ s .vlen ∷ []
+
+unfoldable pub lengthsNumbers : Lengths → List ℕ
+lengthsNumbers s = s .at ∷ s .keys ∷ s .values ∷ []
+
+-- one chunk of 16 blocks, of which block 9 is free
+unfoldable pub space : Space
+space = record { bitmap = 0xFF ∷ 0xFD ∷ replicate 510 0; counts = 16 ∷ []; free = 1 ∷ [] }
+
+unfoldable pub chosen : List Choice → List ℕ
+chosen [] = []
+chosen (x ∷ xs) = x .block ∷ x .chunk ∷ chosen xs
+
+-- ---- the table: seal
+
+unfoldable pub sealRows : List Row
+sealRows =
+    record { contract = "bytes::u8_at"; gives = getD eight 2 0 ∷ []; right = 3 ∷ []; wrong = 2 ∷ []; wrong′ = 0 ∷ [] }
+    ∷ record { contract = "bytes::u16_at"; gives = u16At eight 1 ∷ []; right = 0x0302 ∷ []; wrong = 0x0203 ∷ []; wrong′ = 0x0201 ∷ [] }
+    ∷ record { contract = "bytes::u32_at"; gives = u32At eight 1 ∷ []; right = 0x05040302 ∷ []; wrong = 0x02030405 ∷ []; wrong′ = 0x0302 ∷ [] }
+    ∷ record {
+      contract = "bytes::u64_at";
+      gives = u64At eight 0 ∷ [];
+      right = 0x0807060504030201 ∷ [];
+      wrong = 0x0102030405060708 ∷ [];
+      wrong′ = 0x04030201 ∷ [];
+    }
+    ∷ record {
+      contract = "bytes::put_u16";
+      gives = splice eight 1 (bytesOf 2 0xABCD);
+      right = 1 ∷ 0xCD ∷ 0xAB ∷ 4 ∷ 5 ∷ 6 ∷ 7 ∷ 8 ∷ [];
+      wrong = 1 ∷ 0xAB ∷ 0xCD ∷ 4 ∷ 5 ∷ 6 ∷ 7 ∷ 8 ∷ [];
+      wrong′ = eight;
+    }
+    ∷ record {
+      contract = "bytes::put_u32";
+      gives = splice eight 4 (bytesOf 4 1);
+      right = 1 ∷ 2 ∷ 3 ∷ 4 ∷ 1 ∷ 0 ∷ 0 ∷ 0 ∷ [];
+      wrong = 1 ∷ 2 ∷ 3 ∷ 4 ∷ 1 ∷ 0 ∷ 7 ∷ 8 ∷ [];
+      wrong′ = 1 ∷ 2 ∷ 3 ∷ 1 ∷ 0 ∷ 0 ∷ 0 ∷ 8 ∷ [];
+    }
+    ∷ record {
+      contract = "bytes::put_u64";
+      gives = splice eight 0 (bytesOf 8 0x0102);
+      right = 2 ∷ 1 ∷ 0 ∷ 0 ∷ 0 ∷ 0 ∷ 0 ∷ 0 ∷ [];
+      wrong = 0 ∷ 0 ∷ 0 ∷ 0 ∷ 0 ∷ 0 ∷ 1 ∷ 2 ∷ [];
+      wrong′ = 2 ∷ 1 ∷ 0 ∷ 0 ∷ 5 ∷ 6 ∷ 7 ∷ 8 ∷ [];
+    }
+    ∷ record {
+      contract = "bytes::copy_to";
+      gives = splice eight 2 (9 ∷ 8 ∷ []);
+      right = 1 ∷ 2 ∷ 9 ∷ 8 ∷ 5 ∷ 6 ∷ 7 ∷ 8 ∷ [];
+      wrong = 1 ∷ 2 ∷ 9 ∷ 4 ∷ 5 ∷ 6 ∷ 7 ∷ 8 ∷ [];
+      wrong′ = 1 ∷ 9 ∷ 8 ∷ 4 ∷ 5 ∷ 6 ∷ 7 ∷ 8 ∷ [];
+    }
+    ∷ record {
+      contract = "bytes::move_down";
+      gives = moved eight 2 1 4;
+      right = 1 ∷ 3 ∷ 4 ∷ 5 ∷ 6 ∷ 6 ∷ 7 ∷ 8 ∷ [];
+      wrong = 1 ∷ 6 ∷ 6 ∷ 6 ∷ 6 ∷ 6 ∷ 7 ∷ 8 ∷ [];
+      wrong′ = 1 ∷ 3 ∷ 4 ∷ 5 ∷ 5 ∷ 6 ∷ 7 ∷ 8 ∷ [];
+    }
+    ∷ record {
+      contract = "bytes::move_up";
+      gives = moved eight 1 2 4;
+      right = 1 ∷ 2 ∷ 2 ∷ 3 ∷ 4 ∷ 5 ∷ 7 ∷ 8 ∷ [];
+      wrong = 1 ∷ 2 ∷ 2 ∷ 2 ∷ 2 ∷ 2 ∷ 7 ∷ 8 ∷ [];
+      wrong′ = 1 ∷ 2 ∷ 2 ∷ 3 ∷ 4 ∷ 6 ∷ 7 ∷ 8 ∷ [];
+    }
+    ∷ record {
+      contract = "bytes::clear";
+      gives = splice eight 3 (replicate 2 0);
+      right = 1 ∷ 2 ∷ 3 ∷ 0 ∷ 0 ∷ 6 ∷ 7 ∷ 8 ∷ [];
+      wrong = 1 ∷ 2 ∷ 3 ∷ 0 ∷ 0 ∷ 0 ∷ 7 ∷ 8 ∷ [];
+      wrong′ = 1 ∷ 2 ∷ 3 ∷ 0 ∷ 5 ∷ 6 ∷ 7 ∷ 8 ∷ [];
+    }
+    ∷ record {
+      contract = "checksum::compute";
+      gives = fletcher (replicate 32 0) ∷ [];
+      right = 0xFFFFFFFFFFFFFFFF ∷ [];
+      wrong = 0 ∷ [];
+      wrong′ = 0xFFFFFFFF ∷ [];
+    }
+    ∷ record {
+      contract = "checksum::stored";
+      gives = u64At eight 0 ∷ [];
+      right = 0x0807060504030201 ∷ [];
+      wrong = 0x04030201 ∷ [];
+      wrong′ = 0x08070605 ∷ [];
+    }
+    ∷ record {
+      contract = "checksum::verify";
+      gives = number (verified (sealed (replicate 32 5))) ∷ number (verified (replicate 32 5)) ∷ [];
+      right = 1 ∷ 0 ∷ [];
+      wrong = 1 ∷ 1 ∷ [];
+      wrong′ = 0 ∷ 0 ∷ [];
+    }
+    ∷ record {
+      contract = "checksum::seal";
+      gives = sealed (replicate 16 0);
+      right = replicate 8 0xFF ++ replicate 8 0;
+      wrong = replicate 16 0;
+      wrong′ = replicate 16 0xFF;
+    }
+    ∷ record {
+      contract = "ObjHeader::parse";
+      gives = headerAt block .oid ∷ headerAt block .xid ∷ headerAt block .«obj_type» ∷ headerAt block .subtype ∷ [];
+      right = 7 ∷ 2 ∷ 0x40000002 ∷ 11 ∷ [];
+      wrong = 2 ∷ 7 ∷ 0x40000002 ∷ 11 ∷ [];
+      wrong′ = 7 ∷ 2 ∷ 11 ∷ 0x40000002 ∷ [];
+    }
+    ∷ record {
+      contract = "ObjHeader::write";
+      gives = headerBytes (record { cksum = 9; oid = 7; xid = 2; «obj_type» = 3; subtype = 11 });
+      right = 7 ∷ replicate 7 0 ++ 2 ∷ replicate 7 0 ++ 3 ∷ replicate 3 0 ++ 11 ∷ replicate 3 0;
+      wrong = 9 ∷ replicate 7 0 ++ 7 ∷ replicate 7 0 ++ 2 ∷ replicate 7 0;
+      wrong′ = 2 ∷ replicate 7 0 ++ 7 ∷ replicate 7 0 ++ 3 ∷ replicate 3 0 ++ 11 ∷ replicate 3 0;
+    }
+    ∷ record { contract = "ObjHeader::kind"; gives = kindOf 0x40010002 ∷ []; right = 2 ∷ []; wrong = 0x10002 ∷ []; wrong′ = 1 ∷ [] }
+    ∷ record { contract = "ObjHeader::storage"; gives = storageOf 0x40000002 ∷ []; right = 0x40000000 ∷ []; wrong = 2 ∷ []; wrong′ = 1 ∷ [] }
+    ∷ []
+
+-- ---- node: orders and heads
+
+unfoldable pub orderRows : List Row
+orderRows =
+    record {
+      contract = "Order::known";
+      gives = number (known 0) ∷ number (known 1) ∷ number (known 2) ∷ [];
+      right = 1 ∷ 1 ∷ 0 ∷ [];
+      wrong = 1 ∷ 1 ∷ 1 ∷ [];
+      wrong′ = 1 ∷ 0 ∷ 0 ∷ [];
+    }
+    ∷ record {
+      contract = "Order::keyed";
+      gives = number (keyedLength pair 16) ∷ number (keyedLength pair 17) ∷ number (keyedLength byte 17) ∷ [];
+      right = 1 ∷ 0 ∷ 1 ∷ [];
+      wrong = 1 ∷ 1 ∷ 1 ∷ [];
+      wrong′ = 1 ∷ 0 ∷ 0 ∷ [];
+    }
+    ∷ record {
+      contract = "Order::less";
+      gives = number (less pair (pairKey 1 9) (pairKey 2 0)) ∷ number (less pair (pairKey 256 0) (pairKey 1 0)) ∷ number
+          (less byte (1 ∷ []) (1 ∷ 0 ∷ [])) ∷ number (less byte (2 ∷ []) (1 ∷ 0 ∷ [])) ∷ [];
+      right = 1 ∷ 0 ∷ 1 ∷ 0 ∷ [];
+      wrong = 1 ∷ 1 ∷ 1 ∷ 0 ∷ [];
+      wrong′ = 1 ∷ 0 ∷ 0 ∷ 0 ∷ [];
+    }
+    ∷ record {
+      contract = "Order::pair_key";
+      gives = pairKey 5 3;
+      right = 5 ∷ replicate 7 0 ++ 3 ∷ replicate 7 0;
+      wrong = 3 ∷ replicate 7 0 ++ 5 ∷ replicate 7 0;
+      wrong′ = 5 ∷ replicate 7 0 ++ 5 ∷ replicate 7 0;
+    }
+    ∷ record {
+      contract = "order::same";
+      gives = number (sameKey (1 ∷ []) (1 ∷ [])) ∷ number (sameKey (1 ∷ []) (1 ∷ 1 ∷ [])) ∷ [];
+      right = 1 ∷ 0 ∷ [];
+      wrong = 1 ∷ 1 ∷ [];
+      wrong′ = 0 ∷ 0 ∷ [];
+    }
+    ∷ record {
+      contract = "Head::load";
+      gives = headWords (headAt (replicate 9 3 ++ words) 1);
+      right = words;
+      wrong = replicate 9 3;
+      wrong′ = replicate 9 0;
+    }
+    ∷ record {
+      contract = "Head::store";
+      gives = splice (replicate 18 3) 9 (headWords (headAt words 0));
+      right = replicate 9 3 ++ words;
+      wrong = words ++ replicate 9 3;
+      wrong′ = replicate 18 3;
+    }
+    ∷ record {
+      contract = "BTreeInfo::parse";
+      gives = infoAt block .«node_size» ∷ infoAt block .«key_size» ∷ [];
+      right = 512 ∷ 0 ∷ [];
+      wrong = 0 ∷ 512 ∷ [];
+      wrong′ = 0 ∷ 0 ∷ [];
+    }
+    ∷ []
+
+-- ---- node: records in a slot
+
+unfoldable pub recordRows : List Row
+recordRows =
+    record {
+      contract = "record::mark_length";
+      gives = markLength 5 ∷ markLength 0xFFFF ∷ markLength 0xFFFE ∷ [];
+      right = 5 ∷ 0 ∷ 8 ∷ [];
+      wrong = 5 ∷ 8 ∷ 8 ∷ [];
+      wrong′ = 5 ∷ 0 ∷ 0xFFFE ∷ [];
+    }
+    ∷ record {
+      contract = "record::next, record::record_at";
+      gives = recordLength slot ∷ recordLength (drop 7 slot) ∷ [];
+      right = 7 ∷ 5 ∷ [];
+      wrong = 3 ∷ 5 ∷ [];
+      wrong′ = 7 ∷ 4 ∷ [];
+    }
+    ∷ record {
+      contract = "record::lies";
+      gives = number (leb (7 + recordLength (drop 7 slot)) (length slot)) ∷ number (leb (7 + recordLength (drop 7 slot)) 11) ∷ [];
+      right = 1 ∷ 0 ∷ [];
+      wrong = 1 ∷ 1 ∷ [];
+      wrong′ = 0 ∷ 0 ∷ [];
+    }
+    ∷ record {
+      contract = "record::child_at";
+      gives = number (isChild (entryOf slot .value)) ∷ number (isChild (disk 3)) ∷ [];
+      right = 0 ∷ 1 ∷ [];
+      wrong = 1 ∷ 1 ∷ [];
+      wrong′ = 0 ∷ 0 ∷ [];
+    }
+    ∷ record {
+      contract = "record::suits";
+      gives = number (suit true (entryOf slot)) ∷ number (suit false (entryOf slot)) ∷ [];
+      right = 1 ∷ 0 ∷ [];
+      wrong = 1 ∷ 1 ∷ [];
+      wrong′ = 0 ∷ 1 ∷ [];
+    }
+    ∷ record {
+      contract = "record::put";
+      gives = recordBytes (1 ∷ 2 ∷ []) 1 (9 ∷ []);
+      right = 2 ∷ 0 ∷ 1 ∷ 0 ∷ 1 ∷ 2 ∷ 9 ∷ [];
+      wrong = 1 ∷ 0 ∷ 2 ∷ 0
+          ∷ 1 ∷ 2 ∷ 9 ∷ [];
+      wrong′ = 2 ∷ 0 ∷ 1 ∷ 0 ∷ 9 ∷ 1 ∷ 2 ∷ [];
+    }
+    ∷ record { contract = "slot::offset_of"; gives = recordsLength 1 slot ∷ []; right = 7 ∷ []; wrong = 0 ∷ []; wrong′ = 12 ∷ [] }
+    ∷ record {
+      contract = "slot::records_hold";
+      gives = number (recordsHold 2 12 slot) ∷ number (recordsHold 2 11 slot) ∷ [];
+      right = 1 ∷ 0 ∷ [];
+      wrong = 1 ∷ 1 ∷ [];
+      wrong′ = 0 ∷ 0 ∷ [];
+    }
+    ∷ record {
+      contract = "slot::marks_suit";
+      gives = number (suits true (entriesOf 2 slot)) ∷ number (suits false (entriesOf 2 slot)) ∷ [];
+      right = 1 ∷ 0 ∷ [];
+      wrong = 1 ∷ 1 ∷ [];
+      wrong′ = 0 ∷ 0 ∷ [];
+    }
+    ∷ record { contract = "slot::key_of"; gives = entryOf slot .key; right = 1 ∷ 2 ∷ []; wrong = 9 ∷ []; wrong′ = 2 ∷ 0 ∷ [] }
+    ∷ record {
+      contract = "slot::value_of";
+      gives = valueLength (entryOf slot .value) ∷ valueBytes (entryOf slot .value) ++ valueLength (entryOf (drop 7 slot) .value) ∷ [];
+      right = 1 ∷ 9 ∷ 0 ∷ [];
+      wrong = 2 ∷ 1 ∷ 2 ∷ 0 ∷ [];
+      wrong′ = 1 ∷ 9 ∷ 8 ∷ [];
+    }
+    ∷ record {
+      contract = "slot::below";
+      gives = placeOf byte (3 ∷ []) two ∷ number (isThere byte (3 ∷ []) two) ∷ placeOf byte (2 ∷ []) two ∷ number (isThere byte (2 ∷ []) two) ∷ [];
+      right = 1 ∷ 1 ∷ 1 ∷ 0 ∷ [];
+      wrong = 2 ∷ 1 ∷ 1 ∷ 0 ∷ [];
+      wrong′ = 1 ∷ 1 ∷ 1 ∷ 1 ∷ [];
+    }
+    ∷ record {
+      contract = "slot::not_above";
+      gives = notAbove byte (3 ∷ []) two ∷ notAbove byte (0 ∷ []) two ∷ [];
+      right = 2 ∷ 0 ∷ [];
+      wrong = 1 ∷ 0 ∷ [];
+      wrong′ = 2 ∷ 1 ∷ [];
+    }
+    ∷ record {
+      contract = "slot::insert";
+      gives = recordsOf (insertAt 1 (record { key = 2 ∷ []; value = leaf [] }) two);
+      right = take 7 slot ++ 1 ∷ 0 ∷ 0 ∷ 0 ∷ 2 ∷ [] ++ take 5 (drop 7 slot);
+      wrong = 1 ∷ 0 ∷ 0 ∷ 0 ∷ 2 ∷ [] ++ take 12 slot;
+      wrong′ = take 12 slot;
+    }
+    ∷ record {
+      contract = "slot::remove";
+      gives = recordsOf (removeAt 0 two);
+      right = take 5 (drop 7 slot);
+      wrong = take 7 slot;
+      wrong′ = take 12 slot;
+    }
+    ∷ record {
+      contract = "slot::set_key";
+      gives = recordsOf (withKey 1 (3 ∷ 3 ∷ []) two);
+      right = take 7 slot ++ 2 ∷ 0 ∷ 0xFF ∷ 0xFF ∷ 3 ∷ 3 ∷ [];
+      wrong = take 7 slot ++ 1 ∷ 0 ∷ 0xFF ∷ 0xFF ∷ 3 ∷ 3 ∷ [];
+      wrong′ = take 12 slot;
+    }
+    ∷ record {
+      contract = "slot::relink";
+      gives = recordsOf (withValue 0 (childOf 0xFFFD 5) (record { key = 1 ∷ []; value = disk 9 } ∷ []));
+      right = 1 ∷ 0 ∷ 0xFD ∷ 0xFF ∷ 1 ∷ 5 ∷ replicate 7 0;
+      wrong = 1 ∷ 0 ∷ 0xFE ∷ 0xFF ∷ 1 ∷ 5 ∷ replicate 7 0;
+      wrong′ = 1 ∷ 0 ∷ 0xFD ∷ 0xFF ∷ 1 ∷ 9 ∷ replicate 7 0;
+    }
+    ∷ record {
+      contract = "stands::key_holds";
+      gives = number (keyLengthHolds pair tight 16) ∷ number (keyLengthHolds pair loose 17) ∷ number (keyLengthHolds byte tight 15)
+          ∷ number (keyLengthHolds byte loose 15) ∷ [];
+      right = 1 ∷ 0 ∷ 0 ∷ 1 ∷ [];
+      wrong = 1 ∷ 0 ∷ 1 ∷ 1 ∷ [];
+      wrong′ = 1 ∷ 1 ∷ 0 ∷ 1 ∷ [];
+    }
+    ∷ record {
+      contract = "stands::value_holds";
+      gives = number (valueLengthHolds tight 16) ∷ number (valueLengthHolds tight 8) ∷ number (valueLengthHolds loose 8) ∷ [];
+      right = 1 ∷ 0 ∷ 1 ∷ [];
+      wrong = 1 ∷ 1 ∷ 1 ∷ [];
+      wrong′ = 1 ∷ 0 ∷ 0 ∷ [];
+    }
+    ∷ record {
+      contract = "stands::check";
+      gives = number (recordsStand byte loose true 2 12 slot) ∷ number (recordsStand byte loose true 2 11 slot) ∷ number
+          (recordsStand byte loose false 2 12 slot)
+          ∷ number (recordsStand byte loose true 2 12 (take 5 (drop 7 slot) ++ take 7 slot)) ∷ [];
+      right = 1 ∷ 0 ∷ 0 ∷ 0 ∷ [];
+      wrong = 1 ∷ 0 ∷ 0 ∷ 1 ∷ [];
+      wrong′ = 1 ∷ 1 ∷ 0 ∷ 0 ∷ [];
+    }
+    ∷ record {
+      contract = "slot::set_value";
+      gives = recordsOf (withValue 1 (leaf []) two);
+      right = take 7 slot ++ 1 ∷ 0 ∷ 0 ∷ 0 ∷ 3 ∷ [];
+      wrong = take 12 slot;
+      wrong′ = take 7 slot ++ 1 ∷ 0 ∷ 1 ∷ 0 ∷ 3 ∷ [];
+    }
+    ∷ []
+
+-- ---- node: fitting and cutting
+
+unfoldable pub fitRows : List Row
+fitRows =
+    record { contract = "fit::align8"; gives = align8 8 ∷ align8 9 ∷ []; right = 8 ∷ 16 ∷ []; wrong = 16 ∷ 16 ∷ []; wrong′ = 8 ∷ 8 ∷ [] }
+    ∷ record { contract = "fit::padded"; gives = padded loose 9 ∷ []; right = 16 ∷ []; wrong = 9 ∷ []; wrong′ = 8 ∷ [] }
+    ∷ record {
+      contract = "fit::data_space";
+      gives = dataSpace 512 true ∷ dataSpace 512 false ∷ [];
+      right = 416 ∷ 456 ∷ [];
+      wrong = 456 ∷ 456 ∷ [];
+      wrong′ = 416 ∷ 416 ∷ [];
+    }
+    ∷ record {
+      contract = "fit::toc_slots";
+      gives = tocSlots loose true 0 17 ∷ tocSlots tight true 0 1 ∷ [];
+      right = 24 ∷ 16 ∷ [];
+      wrong = 17 ∷ 16
+          ∷ [];
+      wrong′ = 24 ∷ 11 ∷ [];
+    }
+    ∷ record {
+      contract = "fit::toc_length";
+      gives = tocLength loose true 0 17 ∷ tocLength tight true 0 1 ∷ [];
+      right = 192 ∷ 64 ∷ [];
+      wrong = 192 ∷ 128 ∷ [];
+      wrong′ = 96 ∷ 64 ∷ [];
+    }
+    ∷ record {
+      contract = "fit::fits_sums";
+      gives = number (fitsSums loose true 0 1 288) ∷ number (fitsSums loose true 0 1 289) ∷ [];
+      right = 1 ∷ 0 ∷ [];
+      wrong = 0 ∷ 0 ∷ [];
+      wrong′ = 1 ∷ 1 ∷ [];
+    }
+    ∷ record {
+      contract = "fit::fits";
+      gives = number (fits tight true 0 (pairs 12 0)) ∷ number (fits tight false 0 (pairs 12 0)) ∷ number (fits tight true 1 (children 14 0)) ∷ [];
+      right = 0 ∷ 1 ∷ 1 ∷ [];
+      wrong = 1 ∷ 1 ∷ 1 ∷ [];
+      wrong′ = 0 ∷ 1 ∷ 0 ∷ [];
+    }
+    ∷ record {
+      contract = "fit::longer";
+      gives = lengthsNumbers (longerOf loose slot (record { at = 0; keys = 0; values = 0 }));
+      right = 7 ∷ 8 ∷ 8 ∷ [];
+      wrong = 7 ∷ 2 ∷ 1 ∷ [];
+      wrong′ = 7 ∷ 8 ∷ 0 ∷ [];
+    }
+    ∷ record {
+      contract = "fit::lengths_of";
+      gives = lengthsNumbers (lengthsOf loose 2 slot);
+      right = 12 ∷ 16 ∷ 8 ∷ [];
+      wrong = 12 ∷ 8 ∷ 8 ∷ [];
+      wrong′ = 7 ∷ 8 ∷ 8 ∷ [];
+    }
+    ∷ record { contract = "flush: fill"; gives = packedLength loose true 0 two ∷ []; right = 152 ∷ []; wrong = 132 ∷ []; wrong′ = 24 ∷ [] }
+    ∷ record {
+      contract = "cut::cut";
+      gives = outcome (λ c. c ∷ []) (cut tight 0 (pairs 13 0)) ++ outcome (λ c. c ∷ []) (cut tight 0 (pairs 1 0));
+      right = 0 ∷ 6 ∷ 13 ∷ [];
+      wrong = 0 ∷ 7 ∷ 13 ∷ [];
+      wrong′ = 0 ∷ 6 ∷ 14 ∷ [];
+    }
+    ∷ []
+
+-- ---- node: a block read and packed
+
+unfoldable pub blockRows : List Row
+blockRows =
+    record {
+      contract = "Node::parse";
+      gives = node .level ∷ node .nkeys ∷ node .keys ∷ node .vals ∷ [];
+      right = 0 ∷ 2 ∷ 184 ∷ 472 ∷ [];
+      wrong = 0 ∷ 2 ∷ 128 ∷ 472 ∷ [];
+      wrong′ = 0 ∷ 2 ∷ 184 ∷ 512 ∷ [];
+    }
+    ∷ record { contract = "Node::is_fixed"; gives = number (isFixed node) ∷ []; right = 0 ∷ []; wrong = 1 ∷ []; wrong′ = 2 ∷ [] }
+    ∷ record {
+      contract = "read::span_at";
+      gives = spanNumbers (spanAt node block 0);
+      right = 184 ∷ 2 ∷ 8 ∷ 1 ∷ [];
+      wrong = 0 ∷ 2 ∷ 8 ∷ 1 ∷ [];
+      wrong′ = 184 ∷ 8 ∷ 8 ∷ 8 ∷ [];
+    }
+    ∷ record {
+      contract = "read::is_ghost";
+      gives = number (isGhost (spanAt node block 0)) ∷ number (isGhost (spanAt node block 1)) ∷ [];
+      right = 0 ∷ 1 ∷ [];
+      wrong = 0 ∷ 0 ∷ [];
+      wrong′ = 1 ∷ 1 ∷ [];
+    }
+    ∷ record {
+      contract = "read::key_in";
+      gives = window (spanAt node block 0 .key) (spanAt node block 0 .klen) block;
+      right = 1 ∷ 2 ∷ [];
+      wrong = 1 ∷ 2 ∷ replicate 6 0;
+      wrong′ = 2 ∷ 1 ∷ [];
+    }
+    ∷ record {
+      contract = "read::value_at, read::child_at";
+      gives = valueBytes (entryAt node block 0 .value) ++ valueLength (entryAt node block 1 .value) ∷ [];
+      right = 9 ∷ 0 ∷ [];
+      wrong = 0 ∷ 0 ∷ [];
+      wrong′ = 9 ∷ 8 ∷ [];
+    }
+    ∷ record {
+      contract = "read::read_node";
+      gives = readAs (readNode byte place [] [] block) ++ readAs (readNode byte place [] [] (splice block 100 (1 ∷ [])));
+      right = 0 ∷ 0 ∷ recordsOf two ++ 3 ∷ [];
+      wrong = 0 ∷ 0 ∷ recordsOf two ++ 0 ∷ 0 ∷ recordsOf two;
+      wrong′ = 6 ∷ 3 ∷ [];
+    }
+    ∷ record {
+      contract = "search::not_above";
+      gives = notAbove byte (3 ∷ []) (entriesFrom node block 0 2) ∷ notAbove byte (2 ∷ []) (entriesFrom node block 0 2) ∷ [];
+      right = 2 ∷ 1 ∷ [];
+      wrong = 1 ∷ 1 ∷ [];
+      wrong′ = 2 ∷ 2 ∷ [];
+    }
+    ∷ record {
+      contract = "head::head_of";
+      gives = headWords (readHead node 12 40 true);
+      right = 0 ∷ 2 ∷ 12 ∷ 1 ∷ 40 ∷ 1 ∷ 7 ∷ 0 ∷ 0 ∷ [];
+      wrong = 0 ∷ 2 ∷ 12 ∷ 1 ∷ 7 ∷ 1 ∷ 40 ∷ 0 ∷ 0 ∷ [];
+      wrong′ = 0 ∷ 2 ∷ 12 ∷ 1 ∷ 40 ∷ 1 ∷ 7 ∷ 1 ∷ 0 ∷ [];
+    }
+    ∷ record {
+      contract = "adopt::adopt";
+      gives = recordsOf (entriesFrom node block 0 2);
+      right = take 12 slot;
+      wrong = take 7 slot;
+      wrong′ = 1 ∷ 2 ∷ 9 ∷ 3 ∷ [];
+    }
+    ∷ record {
+      contract = "pack::child_number";
+      gives = childNumber words true 0 ∷ childNumber words false 0 ∷ childNumber words true 1 ∷ [];
+      right = 50 ∷ 40 ∷ 0 ∷ [];
+      wrong = 40 ∷ 50 ∷ 0 ∷ [];
+      wrong′ = 50 ∷ 40 ∷ 50 ∷ [];
+    }
+    ∷ record {
+      contract = "pack::pack";
+      gives = window 56 8 block ++ window 184 2 block ++ window 464 1 block ++ window 40 4 block;
+      right = 0 ∷ 0 ∷ 2 ∷ 0 ∷ 8 ∷ 0 ∷ 1 ∷ 0 ∷ 1 ∷ 2 ∷ 9 ∷ 0 ∷ 0 ∷ 128 ∷ 0 ∷ [];
+      wrong = 0 ∷ 0 ∷ 2 ∷ 0 ∷ 1 ∷ 0 ∷ 1 ∷ 0 ∷ 1 ∷ 2 ∷ 9 ∷ 0 ∷ 0 ∷ 128 ∷ 0 ∷ [];
+      wrong′ = 0 ∷ 0 ∷ 2 ∷ 0 ∷ 8 ∷ 0 ∷ 1 ∷ 0 ∷ 1 ∷ 2 ∷ 0 ∷ 0 ∷ 0 ∷ 128 ∷ 0 ∷ [];
+    }
+    ∷ []
+
+-- ---- flush: blocks
+
+unfoldable pub spaceRows : List Row
+spaceRows =
+    record {
+      contract = "space::first_zero";
+      gives = firstZero 0xFB ∷ firstZero 255 ∷ [];
+      right = 2 ∷ 8 ∷ [];
+      wrong = 2 ∷ 7 ∷ [];
+      wrong′ = 3 ∷ 8 ∷ [];
+    }
+    ∷ record {
+      contract = "space::is_used";
+      gives = number (isUsed (0 ∷ 2 ∷ []) 9) ∷ number (isUsed (0 ∷ 2 ∷ []) 8) ∷ [];
+      right = 1 ∷ 0 ∷ [];
+      wrong = 0 ∷ 0 ∷ [];
+      wrong′ = 1 ∷ 1 ∷ [];
+    }
+    ∷ record { contract = "space::mark_used"; gives = markUsed (1 ∷ 2 ∷ []) 10; right = 1 ∷ 6 ∷ []; wrong = 1 ∷ 4 ∷ []; wrong′ = 5 ∷ 2 ∷ [] }
+    ∷ record {
+      contract = "space::first_free";
+      gives = firstFree (0xFF ∷ 0xFD ∷ []) 16 0 ++ firstFree (0xFF ∷ []) 8 0;
+      right = 9 ∷ [];
+      wrong = 8 ∷ [];
+      wrong′ = 9 ∷ 8 ∷ [];
+    }
+    ∷ record { contract = "space::zeros"; gives = zeros (0xF0 ∷ 0 ∷ []) 6 2 ∷ []; right = 2 ∷ []; wrong = 4 ∷ []; wrong′ = 6 ∷ [] }
+    ∷ record { contract = "space::choose"; gives = chosen (choose 512 space); right = 9 ∷ 0 ∷ []; wrong = 8 ∷ 0 ∷ []; wrong′ = [] }
+    ∷ record {
+      contract = "space::alloc";
+      gives = take 2 (allocated 512 space .bitmap) ++ allocated 512 space .free;
+      right = 0xFF ∷ 0xFF ∷ 0 ∷ [];
+      wrong = 0xFF ∷ 0xFF ∷ 1 ∷ [];
+      wrong′ = 0xFF ∷ 0xFD ∷ 0 ∷ [];
+    }
+    ∷ record {
+      contract = "space::usable";
+      gives = usable 512 space ∷ usable 512
+          (record { bitmap = replicate 512 0; counts = 16 ∷ []; free = 3 ∷ [] }) ∷ [];
+      right = 1 ∷ 3 ∷ [];
+      wrong = 1 ∷ 16 ∷ [];
+      wrong′ = 0 ∷ 3 ∷ [];
+    }
+    ∷ record {
+      contract = "space::chunks_hold";
+      gives = number (chunksHold 512 16 0 (16 ∷ [])) ∷ number (chunksHold 512 15 0 (16 ∷ [])) ∷ [];
+      right = 1 ∷ 0 ∷ [];
+      wrong = 1 ∷ 1 ∷ [];
+      wrong′ = 0 ∷ 0 ∷ [];
+    }
+    ∷ record {
+      contract = "space::space_holds";
+      gives = number (spaceHolds 512 16 space) ∷ number (spaceHolds 512 16 (record { bitmap = []; counts = 16 ∷ []; free = 1 ∷ [] })) ∷ [];
+      right = 1 ∷ 0 ∷ [];
+      wrong = 1 ∷ 1 ∷ [];
+      wrong′ = 0 ∷ 0 ∷ [];
+    }
+    ∷ []
+
+unfoldable pub table : List Row
+table = sealRows ++ orderRows ++ recordRows ++ fitRows ++ blockRows ++ spaceRows
