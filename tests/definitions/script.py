@@ -1,6 +1,8 @@
 """Reads a script with its kept answers and says it as a list of lines of world.txt."""
 import re
+from pathlib import Path
 
+ANSWERS = Path(__file__).resolve().parent.parent / 'answers'
 ANY_REFUSAL = 999  # world.txt's number for a refusal of which the Rust does not say the number
 
 
@@ -195,3 +197,11 @@ class Script:
             taken.append(line)
             calls -= line.is_call()
         return taken
+
+
+def load(name):
+    """A kept script, with the answers that the rules demand where they are kept, else the Rust's."""
+    script = ANSWERS / f'{name}.script'
+    demanded = script.with_suffix('.demanded')
+    answer = demanded if demanded.exists() else script.with_suffix('.answer')
+    return Script(name, script.read_text(), answer.read_text())
