@@ -76,10 +76,10 @@ impl Tree {
         requires { ⌜ suits true (nodeAt (stateOf size self (now heads) (now bytes)) n .entries) ≡ true ⌝ }
         ensures answer { λ r. ⌜ gotMeans size (now (heads .entry)) (now (bytes .entry)) (now (out .exit)) r
             ≡ gotAt (stateOf size self (now (heads .entry)) (now (bytes .entry))) (length (now (out .entry))) n
-                (now (key .entry)) ⌝ }
+            (now (key .entry)) ⌝ }
         ensures output { λ _. ⌜ now (out .exit)
             ≡ gotOutput (now (out .entry)) (gotAt (stateOf size self (now (heads .entry)) (now (bytes .entry)))
-                (length (now (out .entry))) n (now (key .entry))) ⌝ }
+            (length (now (out .entry))) n (now (key .entry))) ⌝ }
         ensures ready { λ r. ⌜ ReadyGot size slots (now (heads .entry)) (now (bytes .entry)) r ⌝ }
     {
         if self.used <= n {
@@ -117,10 +117,10 @@ impl Tree {
         requires { ⌜ trusted (lentOf (now image) lent) (stateOf (lent .size) self (now heads) (now bytes)) ≡ true ⌝ }
         ensures answer { λ r. ⌜ gotMeans (lent .size) (now (heads .exit)) (now (bytes .exit)) (now (out .exit)) r
             ≡ gotWay (lentOf (now (image .entry)) lent) (stateOf (lent .size) self (now (heads .entry)) (now
-                (bytes .entry))) (length (now (out .entry))) (now (key .entry)) ⌝ }
+            (bytes .entry))) (length (now (out .entry))) (now (key .entry)) ⌝ }
         ensures output { λ _. ⌜ now (out .exit)
             ≡ gotOutput (now (out .entry)) (gotWay (lentOf (now (image .entry)) lent) (stateOf (lent .size) self
-                (now (heads .entry)) (now (bytes .entry))) (length (now (out .entry))) (now (key .entry))) ⌝ }
+            (now (heads .entry)) (now (bytes .entry))) (length (now (out .entry))) (now (key .entry))) ⌝ }
         ensures ready { λ r. ⌜ ReadyGot (lent .size) (lent .slots) (now (heads .exit)) (now (bytes .exit)) r ⌝ }
         ensures follows { λ _. ⌜ Follows (lent .size) (lent .slots) (self .used) (now (heads .entry)) (now
             (bytes .entry)) (now (heads .exit)) (now (bytes .exit)) ⌝ }
@@ -153,10 +153,10 @@ impl Tree {
         requires { ⌜ trusted (lentOf (now image) lent) (stateOf (lent .size) self (now heads) (now bytes)) ≡ true ⌝ }
         ensures answer { λ r. ⌜ gotMeans (lent .size) (now (heads .exit)) (now (bytes .exit)) (now (out .exit)) r
             ≡ getIn (lentOf (now (image .entry)) lent) (stateOf (lent .size) self (now (heads .entry)) (now
-                (bytes .entry))) (length (now (out .entry))) (now (key .entry)) ⌝ }
+            (bytes .entry))) (length (now (out .entry))) (now (key .entry)) ⌝ }
         ensures output { λ _. ⌜ now (out .exit)
             ≡ gotOutput (now (out .entry)) (getIn (lentOf (now (image .entry)) lent) (stateOf (lent .size) self
-                (now (heads .entry)) (now (bytes .entry))) (length (now (out .entry))) (now (key .entry))) ⌝ }
+            (now (heads .entry)) (now (bytes .entry))) (length (now (out .entry))) (now (key .entry))) ⌝ }
         ensures left { λ r. ⌜ GotCalled (lent .size) (lent .slots) self (now (heads .entry)) (now (bytes .entry))
             (now (heads .exit)) (now (bytes .exit)) r ⌝ }
     {
@@ -189,10 +189,10 @@ impl Tree {
     ) -> Got
         ensures answer { λ r. ⌜ gotMeans (lent .size) (now (heads .exit)) (now (bytes .exit)) (now (out .exit)) r
             ≡ gotIn (lentOf (now (image .entry)) lent) self (now (heads .entry)) (now (bytes .entry)) (length (now
-                (out .entry))) (now (key .entry)) ⌝ }
+            (out .entry))) (now (key .entry)) ⌝ }
         ensures output { λ _. ⌜ now (out .exit)
             ≡ gotOutput (now (out .entry)) (gotIn (lentOf (now (image .entry)) lent) self (now (heads .entry))
-                (now (bytes .entry)) (length (now (out .entry))) (now (key .entry))) ⌝ }
+            (now (bytes .entry)) (length (now (out .entry))) (now (key .entry))) ⌝ }
         ensures left { λ r. ⌜ gotLeaves (lent .size) self (now (heads .entry)) (now (bytes .entry)) (now
             (heads .exit)) (now (bytes .exit)) r ⌝ }
         ensures ready { λ r. ⌜ ReadyGot (lent .size) (lent .slots) (now (heads .exit)) (now (bytes .exit)) r ⌝ }
