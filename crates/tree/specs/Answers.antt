@@ -1,6 +1,7 @@
 -- What the answers of public calls mean, of the words, bytes and output that they leave.
 use mathlib.Core.Path.{_≡_}
 use mathlib.Core.List.{List, [], _∷_}
+use mathlib.Core.Bool.{true}
 use Prim.Native.Nat.{ℕ}
 use lib.ListN.{take}
 use Rattle.node.specs.Bytes.{splice}
@@ -31,6 +32,11 @@ openedIn l heads bytes r order xid = do
   check refusal.lent (workspaceHolds (l .size) (l .slots) 0 heads bytes)
   opened l r order xid
 
+-- an accepted open leaves a workspace that the next call accepts
+abbrev pub openedLeaves : ℕ → ℕ → List ℕ → List ℕ → Opened → Type 0
+openedLeaves size slots heads bytes (opening.Refused x) = Unit {0}
+openedLeaves size slots heads bytes (opening.Open t) = workspaceHolds size slots (t .used) heads bytes ≡ true
+
 -- ---- get
 
 -- get's answer: a refusal, or what the key holds; a value of n bytes stands at the output's start
@@ -54,9 +60,12 @@ unfoldable pub gotOutput : List ℕ → Result (lookup.Got Val) → List ℕ
 gotOutput out (refused x) = out
 gotOutput out (ok g) = splice out 0 (gotBytes (g .answer))
 
--- a refused get leaves the tree's state as it was
-abbrev pub gotLeaves : ℕ → Tree → List ℕ → List ℕ → List ℕ → List ℕ → got.Got → Type 0
-gotLeaves size t heads bytes heads′ bytes′ (getting.Refused x) = stateOf size t heads′ bytes′ ≡ stateOf size t heads bytes
-gotLeaves size t heads bytes heads′ bytes′ (getting.None u) = Unit {0}
-gotLeaves size t heads bytes heads′ bytes′ (getting.Ghost u) = Unit {0}
-gotLeaves size t heads bytes heads′ bytes′ (getting.Value u n) = Unit {0}
+-- a refused get leaves the tree's state as it was, and a workspace that holds if it held before; an accepted one leaves a workspace that the next
+-- call accepts
+abbrev pub gotLeaves : ℕ → ℕ → Tree → List ℕ → List ℕ → List ℕ → List ℕ → got.Got → Type 0
+gotLeaves size slots t heads bytes heads′ bytes′ (getting.Refused x) =
+    (stateOf size t heads′ bytes′ ≡ stateOf size t heads bytes)
+    × (workspaceHolds size slots (t .used) heads′ bytes′ ≡ workspaceHolds size slots (t .used) heads bytes)
+gotLeaves size slots t heads bytes heads′ bytes′ (getting.None u) = workspaceHolds size slots (u .used) heads′ bytes′ ≡ true
+gotLeaves size slots t heads bytes heads′ bytes′ (getting.Ghost u) = workspaceHolds size slots (u .used) heads′ bytes′ ≡ true
+gotLeaves size slots t heads bytes heads′ bytes′ (getting.Value u n) = workspaceHolds size slots (u .used) heads′ bytes′ ≡ true

@@ -1,10 +1,11 @@
 -- What is lent to a call beside the slots (RULES: lent).
-use mathlib.Core.List.{List}
-use mathlib.Core.Bool.{Bool, _&&_, _||_}
+use mathlib.Core.List.{List, [], _∷_}
+use mathlib.Core.Bool.{Bool, cond, _&&_, _||_}
 use Prim.Native.Nat.{ℕ, _*_, _/_, _%_, _^_}
 use lib.ListN.{length}
 use lib.Dec.{leb, ltb, eqb}
 use Rattle.node.specs.Bytes.{window}
+use Rattle.tree.specs.declared.lent.Lent as lending
 
 -- the image, the block size, the object map's root (none or one), and how many slots there are
 pub record Lent : Type 0 where
@@ -12,6 +13,10 @@ pub record Lent : Type 0 where
   pub size : ℕ
   pub map : List ℕ
   pub slots : ℕ
+
+-- what the image and the numbers of a call lend: the object map's root counts only where a map is lent
+unfoldable pub lentOf : List ℕ → lending.Lent → Lent
+lentOf image l = record { image = image; size = l .size; map = cond (l .mapped) (l .map ∷ []) []; slots = l .slots }
 
 -- a power of two from 512 to 65,536
 unfoldable pub isSize : ℕ → Bool

@@ -21,14 +21,13 @@ ghost use Rattle.node.specs.Find.{keyAt, valAt};
 ghost use Rattle.node.specs.Slot.{headAt, isChild};
 ghost use Rattle.node.specs.Read.{spansLength, onDisk, readOf};
 ghost use Rattle.node.specs.internal.ReadSteps.{Sound};
-ghost use Rattle.tree.specs.Lent.{blockAt};
+ghost use Rattle.tree.specs.Lent.{blockAt, lentOf};
 ghost use Rattle.tree.specs.State.{nodeAt};
 ghost use Rattle.tree.specs.Load.{boundKey, tighterLower, tighterUpper, childBounds, loadChild};
-ghost use Rattle.tree.specs.laws.LoadLaws.{brought};
+ghost use Rattle.tree.specs.internal.Brought.{brought};
 ghost use Rattle.tree.specs.internal.Bank.{live, Ready};
 ghost use Rattle.tree.specs.internal.Undo.{Follows};
 ghost use Rattle.tree.specs.Workspace.{stateOf};
-ghost use Rattle.tree.specs.internal.Map.{lentOf};
 ghost use Rattle.tree.specs.internal.Tree.{childOf, boundOf, BoundIn, BoundsIn, boundsOf, readChild, fetchedAt, loadedOf, ReadyAfter};
 
 pub struct Tree {

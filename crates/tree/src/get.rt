@@ -16,6 +16,7 @@ ghost use Prim.Native.Nat.{_+_, _≤_, _<_};
 ghost use lib.ListN.{length};
 ghost use Rattle.node.specs.Records.{recordsLength, entriesOf};
 ghost use Rattle.node.specs.Slot.{suits};
+ghost use Rattle.tree.specs.Lent.{lentOf};
 ghost use Rattle.tree.specs.State.{nodeAt};
 ghost use Rattle.tree.specs.Trust.{trusted};
 ghost use Rattle.tree.specs.Lookup.{held, getIn};
@@ -23,7 +24,6 @@ ghost use Rattle.tree.specs.Workspace.{stateOf};
 ghost use Rattle.tree.specs.Answers.{gotMeans, gotIn, gotOutput, gotLeaves};
 ghost use Rattle.tree.specs.internal.Bank.{Ready};
 ghost use Rattle.tree.specs.internal.Undo.{Follows};
-ghost use Rattle.tree.specs.internal.Map.{lentOf};
 ghost use Rattle.tree.specs.internal.Get.{heldMeans, HeldIn, gotAt, gotWay, ReadyGot, GotCalled};
 
 // What a key holds in a slot: nothing, a ghost, or a value, which starts there and has so many bytes.
@@ -193,9 +193,8 @@ impl Tree {
         ensures output { λ _. ⌜ now (out .exit)
             ≡ gotOutput (now (out .entry)) (gotIn (lentOf (now (image .entry)) lent) self (now (heads .entry))
             (now (bytes .entry)) (length (now (out .entry))) (now (key .entry))) ⌝ }
-        ensures left { λ r. ⌜ gotLeaves (lent .size) self (now (heads .entry)) (now (bytes .entry)) (now
-            (heads .exit)) (now (bytes .exit)) r ⌝ }
-        ensures ready { λ r. ⌜ ReadyGot (lent .size) (lent .slots) (now (heads .exit)) (now (bytes .exit)) r ⌝ }
+        ensures left { λ r. ⌜ gotLeaves (lent .size) (lent .slots) self (now (heads .entry)) (now (bytes .entry))
+            (now (heads .exit)) (now (bytes .exit)) r ⌝ }
     {
         if !lent::lent_holds(self, image, heads, bytes, lent) {
             return Got::Refused(refusal::LENT);

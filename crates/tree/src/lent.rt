@@ -8,11 +8,10 @@ ghost use mathlib.Core.List.{List};
 ghost use mathlib.Core.Bool.{cond, _&&_};
 ghost use Prim.Native.Nat.{ℕ, _≤_};
 ghost use lib.Dec.{eqb};
-ghost use Rattle.tree.specs.Lent.{isSize, sizesHold};
+ghost use Rattle.tree.specs.Lent.{isSize, sizesHold, lentOf};
 ghost use Rattle.tree.specs.Hold.{infoHolds, numbersHold, lentHolds};
 ghost use Rattle.tree.specs.Workspace.{stateOf, workspaceHolds};
 ghost use Rattle.tree.specs.internal.Holding.{roomHolds};
-ghost use Rattle.tree.specs.internal.Map.{lentOf};
 
 // Blocks of an image, and slots: at most.
 pub const MOST_BLOCKS: usize = 0x100000;

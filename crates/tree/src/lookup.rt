@@ -13,9 +13,9 @@ use node::refusal;
 ghost use mathlib.Core.Path.{_≡_};
 ghost use Prim.Native.Nat.{_+_, _*_, _≤_};
 ghost use lib.ListN.{length};
+ghost use Rattle.tree.specs.Lent.{lentOf};
 ghost use Rattle.tree.specs.Lookup.{opened};
-ghost use Rattle.tree.specs.internal.Map.{lentOf};
-ghost use Rattle.tree.specs.Answers.{openedOf, openedIn};
+ghost use Rattle.tree.specs.Answers.{openedOf, openedIn, openedLeaves};
 ghost use Rattle.tree.specs.internal.Open.{openedRoot, ReadyOpened};
 
 pub enum Opened {
@@ -115,7 +115,7 @@ pub fn open(
 ) -> Opened
     ensures answer { λ x. ⌜ openedOf (lent .size) (now (heads .exit)) (now (bytes .exit)) x
         ≡ openedIn (lentOf (now (image .entry)) lent) (now (heads .entry)) (now (bytes .entry)) r order xid ⌝ }
-    ensures ready { λ x. ⌜ ReadyOpened (lent .size) (lent .slots) (now (heads .exit)) (now (bytes .exit)) x ⌝ }
+    ensures left { λ x. ⌜ openedLeaves (lent .size) (lent .slots) (now (heads .exit)) (now (bytes .exit)) x ⌝ }
 {
     if !lent::sizes_hold(image, lent) {
         return Opened::Refused(refusal::LENT);

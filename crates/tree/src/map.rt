@@ -20,9 +20,9 @@ ghost use Rattle.node.specs.Order.{pair};
 ghost use Rattle.node.specs.Find.{keyAt, valAt, notAbove};
 ghost use Rattle.node.specs.Read.{readOf, onDisk, entryAt, entriesFrom};
 ghost use Rattle.node.specs.internal.ReadSteps.{Sound};
-ghost use Rattle.tree.specs.Lent.{blockAt};
+ghost use Rattle.tree.specs.Lent.{blockAt, lentOf};
 ghost use Rattle.tree.specs.Load.{boundKey, diskNumber, tighterLower, tighterUpper, childBounds, rootHolds, mapLast, mapFloor, mapping, mapRootHolds, mapAddress, addressOf};
-ghost use Rattle.tree.specs.internal.Map.{lentOf, loadAt, edgeOf, edgesOf, EdgeIn, EdgesIn, MapSound, mapEntries, mapRead, mapChildAt, mapLoadedOf, MapSoundAfter, leftward, spottedOf, SpottedIn, addressAt, mappingIn, lookedUp};
+ghost use Rattle.tree.specs.internal.Map.{loadAt, edgeOf, edgesOf, EdgeIn, EdgesIn, MapSound, mapEntries, mapRead, mapChildAt, mapLoadedOf, MapSoundAfter, leftward, spottedOf, SpottedIn, addressAt, mappingIn, lookedUp};
 
 // Fixed lengths of the map's keys and values (`omap_key_t`, `omap_val_t`).
 const PAIR_SIZE: u64 = 16;

@@ -5,20 +5,19 @@ use crate::editor::Bounds;
 use crate::editor::Loaded;
 use crate::editor::Tree;
 use crate::lent::Lent;
-use crate::undo;
 use node::order::Order;
 use node::slot;
 ghost use mathlib.Core.Path.{_≡_};
 ghost use Prim.Native.Nat.{_+_, _≤_, _<_};
 ghost use Rattle.node.specs.Find.{wayIndex};
+ghost use Rattle.tree.specs.Lent.{lentOf};
 ghost use Rattle.tree.specs.State.{nodeAt};
 ghost use Rattle.tree.specs.Load.{unbounded};
 ghost use Rattle.tree.specs.Lookup.{wayFrom};
 ghost use Rattle.tree.specs.internal.Bank.{Ready};
 ghost use Rattle.tree.specs.Workspace.{stateOf};
-ghost use Rattle.tree.specs.internal.Map.{lentOf};
 ghost use Rattle.tree.specs.internal.Undo.{Follows};
-ghost use Rattle.tree.specs.internal.Way.{wayOf, WayReady, WayCalled};
+ghost use Rattle.tree.specs.internal.Way.{wayOf, WayReady};
 
 // The most nodes on a way: levels 32 to 0, and one more.
 pub const STEPS: usize = 34;
@@ -128,35 +127,6 @@ impl Tree {
             steps: k + 1,
             slots: way,
             kids: kids,
-        }
-    }
-    // The way as a call: refused, it leaves every slot as it was.
-    pub fn way_call(
-        self,
-        image: &[u8],
-        heads: &mut [u64],
-        bytes: &mut [u8],
-        lent: Lent,
-        level: u64,
-        key: &[u8],
-    ) -> Way
-        requires { ⌜ Ready (lent .size) (lent .slots) (self .used) (now heads) (now bytes) ⌝ }
-        requires { ⌜ level ≤ 32 ⌝ }
-        ensures answer { λ r. ⌜ wayOf (lent .size) (now (heads .exit)) (now (bytes .exit)) r
-            ≡ wayFrom level (lentOf (now (image .entry)) lent) (stateOf (lent .size) self (now (heads .entry)) (now
-            (bytes .entry))) unbounded (self .root) (now (key .entry)) ⌝ }
-        ensures left { λ r. ⌜ WayCalled (lent .size) (lent .slots) self (now (heads .entry)) (now (bytes .entry))
-            (now (heads .exit)) (now (bytes .exit)) r ⌝ }
-    {
-        undo::clear_marks(heads, lent.slots, self.used);
-        let w = self.way(image, heads, bytes, lent, level, key);
-        let went = w.went;
-        match went {
-            Went::Refused(_) => {
-                undo::restore(heads, bytes, lent.size, lent.slots, self.used);
-                w
-            }
-            Went::Arrived => w,
         }
     }
 }

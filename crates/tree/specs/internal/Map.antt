@@ -16,7 +16,6 @@ use Rattle.node.specs.internal.ReadSteps.{Sound}
 use Rattle.node.specs.declared.read.Place.{Place}
 use Rattle.tree.specs.Lent as lent
 use Rattle.tree.specs.Load as load
-use Rattle.tree.specs.declared.lent.Lent.{Lent}
 use Rattle.tree.specs.declared.map.MapNode.{MapNode}
 use Rattle.tree.specs.declared.map.Edge.{Edge}
 use Rattle.tree.specs.declared.map.Edges.{Edges}
@@ -26,10 +25,6 @@ use Rattle.tree.specs.declared.map.Spotted.{Spotted}
 use Rattle.tree.specs.declared.map.Spotted.the-variants as spotted
 use Rattle.tree.specs.declared.map.Address.{Address}
 use Rattle.tree.specs.declared.map.Address.the-variants as address
-
--- what is lent beside the slots
-unfoldable pub lentOf : List ℕ → Lent → lent.Lent
-lentOf image l = record { image = image; size = l .size; map = cond (l .mapped) (l .map ∷ []) []; slots = l .slots }
 
 -- `loadBlock`, of the keys of its bounds
 unfoldable pub loadAt : lent.Lent → ℕ → Place → List ℕ → List ℕ → ℕ → Result OnDisk

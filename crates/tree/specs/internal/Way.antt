@@ -37,14 +37,6 @@ WayReady size slots heads bytes w = ready (w .went)
     ready (Refused x) = Unit {0}
     ready Arrived = Ready size slots (w .tree .used) heads bytes
 
--- a refused call leaves the tree as it was, an accepted one a tree that is ready
-abbrev pub WayCalled : ℕ → ℕ → Tree → List ℕ → List ℕ → List ℕ → List ℕ → Way → Type 0
-WayCalled size slots t heads bytes heads′ bytes′ w = called (w .went)
-  where
-    called : Went → Type 0
-    called (Refused x) = (stateOf size t heads′ bytes′ ≡ stateOf size t heads bytes) × Ready size slots (t .used) heads′ bytes′
-    called Arrived = Ready size slots (w .tree .used) heads′ bytes′
-
 -- the slots of a way are in use
 pub record WayIn (used : ℕ) (way : List ℕ) (steps : ℕ) : Type 0 where
   pub long : steps ≤ length way

@@ -8,20 +8,13 @@ use lib.Seq.{ext-getD}
 use Rattle.node.specs.Bytes.{window, splice}
 use Rattle.node.specs.laws.SealLaws.{length-splice, getD-before, getD-window, window-splice-same}
 use Rattle.node.specs.Slot.{headAt, nodeOf}
-use Rattle.node.specs.Result.{Result}
-use Rattle.tree.specs.State.{State, noNode}
+use Rattle.tree.specs.State.{noNode}
 use Rattle.tree.specs.Workspace.{slotBytes, nodesOf, stateOf}
-use Rattle.tree.specs.Lent.{Lent}
-use Rattle.tree.specs.Load.{Bounds}
-use Rattle.tree.specs.Lookup as lookup
 use Rattle.tree.specs.internal.Bank.{nodeIn, Ready}
 use Rattle.tree.specs.laws.BankLaws.{length-nodes, node-at}
 use Rattle.tree.specs.internal.Undo.{savedAt, originAt, originIn, Follows, Saved, Shadowed, Back}
 use Rattle.tree.specs.laws.UndoLaws.{origin-live, saved-nodes}
-use Rattle.tree.specs.internal.Way.{wentOf, wayOf, WayReady, WayCalled}
 use Rattle.tree.specs.declared.editor.Tree.{Tree}
-use Rattle.tree.specs.declared.way.Way.{Way}
-use Rattle.tree.specs.declared.way.Went.the-variants as went
 
 pub saved-state : (size slots n : ℕ) (t : Tree) (h0 b0 h1 b1 : List ℕ) → Saved size slots (t .used) h0 b0 h1 b1 n → t .used ≤ slots
     → stateOf size t h1 b1 ≡ stateOf size t h0 b0
@@ -98,10 +91,6 @@ module _ (size slots : ℕ) (t : Tree) (h0 b0 h1 : List ℕ) (r : Ready size slo
   unfolding stateOf
   call-state = rw (nodes-same size (t .used) h0 b0 h1 b0 same-at)
 
-  pub call-way : (l : Lent) (level n : ℕ) (bs : Bounds) (key : List ℕ) (x : Result lookup.Way)
-      → x ≡ lookup.wayFrom level l (stateOf size t h1 b0) bs n key → x ≡ lookup.wayFrom level l (stateOf size t h0 b0) bs n key
-  call-way l level n bs key x q = q ∙ ap (λ (s : State). lookup.wayFrom level l s bs n key) call-state
-
   -- refused
   module _ (h2 b2 : List ℕ) (f : Follows size slots (t .used) h1 b0 h2 b2) where
     pub call-shadowed : length h2 ≡ length h1 → length b2 ≡ length b0 → Shadowed size slots (t .used) h2 b2
@@ -133,17 +122,3 @@ module _ (size slots : ℕ) (t : Tree) (h0 b0 h1 : List ℕ) (r : Ready size slo
       pub back-state : stateOf size t h3 b3 ≡ stateOf size t h0 b0
       unfolding stateOf originIn
       back-state = rw (nodes-same size (t .used) h0 b0 h3 b3 (λ k q. g .node k q ∙ f .node k q ∙ ap (nodeIn size h1 b0) (origin k q) ∙ same-at k q))
-
--- ---- the way as a call
-
-pub refused-any : (size : ℕ) (h b h′ b′ : List ℕ) (w : Way) (x : ℕ) → w .went ≡ went.Refused x → wayOf size h b w ≡ wayOf size h′ b′ w
-unfolding wayOf wentOf
-refused-any size h b h′ b′ w x e = rw e
-
-pub called-refused : (size slots : ℕ) (t : Tree) (h b h′ b′ : List ℕ) (w : Way) (x : ℕ) → w .went ≡ went.Refused x
-    → stateOf size t h′ b′ ≡ stateOf size t h b → Ready size slots (t .used) h′ b′ → WayCalled size slots t h b h′ b′ w
-called-refused size slots t h b h′ b′ w x e s r = rw e (s, r)
-
-pub called-arrived : (size slots : ℕ) (t : Tree) (h b h′ b′ : List ℕ) (w : Way) → w .went ≡ went.Arrived → WayReady size slots h′ b′ w
-    → WayCalled size slots t h b h′ b′ w
-called-arrived size slots t h b h′ b′ w e r = rw e (rw e at r)

@@ -25,6 +25,7 @@ use Rattle.node.specs.declared.read.Place.{Place}
 use Rattle.node.specs.declared.read.Read.{Read}
 use Rattle.node.specs.declared.read.Read.the-variants as read
 use Rattle.tree.specs.Lent as lent
+use Rattle.tree.specs.Lent.{lentOf}
 use Rattle.tree.specs.Workspace.{slotBytes, stateOf}
 use Rattle.tree.specs.State.{State, noNode, nodeAt}
 use Rattle.tree.specs.laws.StateLaws.{by-val, at-used, val-used}
@@ -33,7 +34,7 @@ use Rattle.tree.specs.Load as load
 use Rattle.tree.specs.laws.LoadLaws.{brought, load-there}
 use Rattle.tree.specs.internal.Bank.{nodeIn, live, Lies, Ready}
 use Rattle.tree.specs.laws.BankLaws.{live-entries}
-use Rattle.tree.specs.internal.Map.{lentOf, loadAt, addressAt}
+use Rattle.tree.specs.internal.Map.{loadAt, addressAt}
 use Rattle.tree.specs.laws.MapLaws.{block-long, block-at}
 use Rattle.tree.specs.laws.MapFloorLaws.{load-inside, load-accepts}
 use Rattle.tree.specs.internal.Tree.{childOf, boundOf, boundsOf, readChild, fetchedAt, loadedOf}

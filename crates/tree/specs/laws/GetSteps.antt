@@ -14,6 +14,7 @@ use Rattle.node.specs.Entry.{Entry, Val, every}
 use Rattle.node.specs.Slot.{keyLengthHolds, valueHolds, suit, suits, entryHolds}
 use Rattle.node.specs.declared.info.BTreeInfo.{BTreeInfo}
 use Rattle.tree.specs.Lent as lent
+use Rattle.tree.specs.Lent.{lentOf}
 use Rattle.tree.specs.State.{State, nodeAt}
 use Rattle.tree.specs.Workspace.{stateOf, workspaceHolds, called}
 use Rattle.tree.specs.Hold.{lentHolds}
@@ -21,8 +22,7 @@ use Rattle.tree.specs.Load.{unbounded}
 use Rattle.tree.specs.Lookup as lookup
 use Rattle.tree.specs.Trust.{trusted}
 use Rattle.tree.specs.Answers.{gotMeans, gotIn, gotOutput, gotLeaves}
-use Rattle.tree.specs.internal.Map.{lentOf}
-use Rattle.tree.specs.laws.ReadyLaws.{holds-ready, holds-trusted}
+use Rattle.tree.specs.laws.ReadyLaws.{ready-holds, holds-ready, holds-trusted}
 use Rattle.tree.specs.declared.lent.Lent.{Lent}
 use Rattle.tree.specs.internal.Bank.{Ready}
 use Rattle.tree.specs.internal.Way.{stepsOf, wentOf, wayOf, WayReady}
@@ -215,17 +215,20 @@ value-ready size slots h b g u n e r = rw e at r
 
 -- ---- 1 first
 
-pub left-of : (size slots : ℕ) (t : Tree) (h b h′ b′ : List ℕ) (g : Got) → GotCalled size slots t h b h′ b′ g → gotLeaves size t h b h′ b′ g
-left-of size slots t h b h′ b′ (getting.Refused x) c = c .0
-left-of size slots t h b h′ b′ (getting.None u) c = tt
-left-of size slots t h b h′ b′ (getting.Ghost u) c = tt
-left-of size slots t h b h′ b′ (getting.Value u n) c = tt
+pub left-of : (size slots : ℕ) (t : Tree) (h b h′ b′ : List ℕ) (g : Got) → Ready size slots (t .used) h b → GotCalled size slots t h b h′ b′ g
+    → gotLeaves size slots t h b h′ b′ g
+left-of size slots t h b h′ b′ (getting.Refused x) r c =
+    (c .0, ready-holds size slots (t .used) h′ b′ (c .1) ∙ sym (ready-holds size slots (t .used) h b r))
+left-of size slots t h b h′ b′ (getting.None u) r c = ready-holds size slots (u .used) h′ b′ c
+left-of size slots t h b h′ b′ (getting.Ghost u) r c = ready-holds size slots (u .used) h′ b′ c
+left-of size slots t h b h′ b′ (getting.Value u n) r c = ready-holds size slots (u .used) h′ b′ c
 
-pub ready-of : (size slots : ℕ) (t : Tree) (h b h′ b′ : List ℕ) (g : Got) → GotCalled size slots t h b h′ b′ g → ReadyGot size slots h′ b′ g
-ready-of size slots t h b h′ b′ (getting.Refused x) c = tt
-ready-of size slots t h b h′ b′ (getting.None u) c = c
-ready-of size slots t h b h′ b′ (getting.Ghost u) c = c
-ready-of size slots t h b h′ b′ (getting.Value u n) c = c
+-- after a refused get every call answers as if there had been none
+pub refused-none : {A : Type 0} (size slots : ℕ) (t : Tree) (heads bytes heads′ bytes′ : List ℕ) (x : ℕ)
+    → gotLeaves size slots t heads bytes heads′ bytes′ (getting.Refused x) → (f : State → Result A)
+    → called size slots t heads′ bytes′ f ≡ called size slots t heads bytes f
+unfolding called
+refused-none size slots t heads bytes heads′ bytes′ x c f = rw (c .1, c .0)
 
 module _ (image : List ℕ) (l : Lent) (t : Tree) (h0 b0 : List ℕ) (a : Bool)
     (ea : a ≡ workspaceHolds (l .size) (l .slots) (t .used) h0 b0 && lentHolds (lentOf image l) (stateOf (l .size) t h0 b0)) where

@@ -10,10 +10,9 @@ use borrow.Author.Tests.{le-leb, lt-leb, lt-ltb, le-ltb, eq-eqb, ne-eqb, eqb-tru
 use Rattle.node.specs.Order.{known}
 use Rattle.node.specs.declared.info.BTreeInfo.{BTreeInfo}
 use Rattle.tree.specs.laws.NodeLaws.{never}
-use Rattle.tree.specs.Lent.{isSize, blocks, sizesHold}
+use Rattle.tree.specs.Lent.{isSize, blocks, sizesHold, lentOf}
 use Rattle.tree.specs.Workspace.{stateOf}
 use Rattle.tree.specs.Hold.{infoHolds, numbersHold}
-use Rattle.tree.specs.internal.Map.{lentOf}
 use Rattle.tree.specs.laws.BankLaws.{length-nodes}
 use Rattle.tree.specs.declared.editor.Tree.{Tree}
 use Rattle.tree.specs.declared.lent.Lent.{Lent}

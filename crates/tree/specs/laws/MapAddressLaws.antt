@@ -30,10 +30,11 @@ use Rattle.node.specs.declared.val.Val.the-variants as held
 use Rattle.node.specs.declared.val.Child as Child
 use Rattle.node.specs.declared.val.Child.the-variants as child
 use Rattle.tree.specs.Lent as lent
+use Rattle.tree.specs.Lent.{lentOf}
 use Rattle.tree.specs.Load.{unbounded, boundKey, loadBlock, rootPlace, storageClass, rootHolds, mapFloor, mapping, mapRootHolds, mapAddress, addressOf}
 use Rattle.tree.specs.laws.MapLaws.{map-sound}
 use Rattle.tree.specs.laws.MapFloorLaws.{load-inside, load-accepts}
-use Rattle.tree.specs.internal.Map.{lentOf, loadAt, edgeOf, edgesOf, EdgesIn, MapSound, mapRead, spottedOf, addressAt, mappingIn, lookedUp}
+use Rattle.tree.specs.internal.Map.{loadAt, edgeOf, edgesOf, EdgesIn, MapSound, mapRead, spottedOf, addressAt, mappingIn, lookedUp}
 use Rattle.tree.specs.declared.lent.Lent.{Lent}
 use Rattle.tree.specs.declared.map.MapNode.{MapNode}
 use Rattle.tree.specs.declared.map.Edges.{Edges}

@@ -25,9 +25,10 @@ use Rattle.node.specs.declared.read.Read.{Read}
 use Rattle.node.specs.declared.read.Read.the-variants as read
 use Rattle.node.specs.laws.LoadedLaws.{entries-length}
 use Rattle.tree.specs.Lent as lent
+use Rattle.tree.specs.Lent.{lentOf}
 use Rattle.tree.specs.Load.{boundKey, diskNumber, childBounds, childPlace, loadBlock, mapChild, mapLast, mapFloor, orElse}
 use Rattle.tree.specs.laws.MapLaws.{block-long}
-use Rattle.tree.specs.internal.Map.{lentOf, loadAt, edgeOf, edgesOf, MapSound, mapEntries, mapRead, mapChildAt, mapLoadedOf, MapSoundAfter, leftward, spottedOf, SpottedIn}
+use Rattle.tree.specs.internal.Map.{loadAt, edgeOf, edgesOf, MapSound, mapEntries, mapRead, mapChildAt, mapLoadedOf, MapSoundAfter, leftward, spottedOf, SpottedIn}
 use Rattle.tree.specs.declared.lent.Lent.{Lent}
 use Rattle.tree.specs.declared.map.MapNode.{MapNode}
 use Rattle.tree.specs.declared.map.Edge.{Edge}

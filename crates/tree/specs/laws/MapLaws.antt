@@ -29,8 +29,9 @@ use Rattle.node.specs.declared.val.Child as Child
 use Rattle.node.specs.declared.val.Child.the-variants as child
 use Rattle.node.specs.laws.LoadedLaws.{entries-length}
 use Rattle.tree.specs.Lent as lent
+use Rattle.tree.specs.Lent.{lentOf}
 use Rattle.tree.specs.Load.{boundKey, diskNumber, tighterLower, tighterUpper, childBounds}
-use Rattle.tree.specs.internal.Map.{lentOf, loadAt, edgeOf, edgesOf, EdgeIn, MapSound, mapEntries}
+use Rattle.tree.specs.internal.Map.{loadAt, edgeOf, edgesOf, EdgeIn, MapSound, mapEntries}
 use Rattle.tree.specs.declared.lent.Lent.{Lent}
 use Rattle.tree.specs.declared.map.MapNode.{MapNode}
 use Rattle.tree.specs.declared.map.Edge.{Edge}

@@ -22,23 +22,25 @@ use Rattle.node.specs.declared.read.Place.{Place}
 use Rattle.node.specs.declared.read.Read.{Read}
 use Rattle.node.specs.declared.read.Read.the-variants as read
 use Rattle.tree.specs.Lent as lent
-use Rattle.tree.specs.Lent.{isSize, blocks, sizesHold}
+use Rattle.tree.specs.Lent.{isSize, blocks, sizesHold, lentOf}
 use Rattle.tree.specs.State.{State}
 use Rattle.tree.specs.Workspace.{nodesFrom, nodesOf, stateOf, slotsHold, workspaceHolds}
 use Rattle.tree.specs.Load.{unbounded, boundKey, loadBlock, rootPlace, rootHolds, addressOf, adopted}
 use Rattle.tree.specs.Lookup.{openedAt, opened}
 use Rattle.tree.specs.internal.Bank.{nodeIn, Ready, Wrote}
-use Rattle.tree.specs.internal.Map.{lentOf, loadAt, addressAt}
-use Rattle.tree.specs.Answers.{openedOf, openedIn}
-use Rattle.tree.specs.internal.Open.{openedRoot}
+use Rattle.tree.specs.internal.Map.{loadAt, addressAt}
+use Rattle.tree.specs.Answers.{openedOf, openedIn, openedLeaves}
+use Rattle.tree.specs.internal.Open.{openedRoot, ReadyOpened}
 use Rattle.tree.specs.internal.Holding.{roomHolds}
 use Rattle.tree.specs.laws.BankLaws.{slots-below, add-ready}
 use Rattle.tree.specs.laws.UndoLaws.{put-of}
 use Rattle.tree.specs.laws.SizeLaws.{size-bounds}
+use Rattle.tree.specs.laws.ReadyLaws.{ready-holds}
 use Rattle.tree.specs.laws.MapLaws.{block-long, block-at}
 use Rattle.tree.specs.laws.MapFloorLaws.{load-inside, load-accepts}
 use Rattle.tree.specs.declared.editor.Tree.{Tree}
 use Rattle.tree.specs.declared.lent.Lent.{Lent}
+use Rattle.tree.specs.declared.lookup.Opened.{Opened}
 use Rattle.tree.specs.declared.lookup.Opened.the-variants as opening
 use Rattle.tree.specs.declared.map.Address.{Address}
 use Rattle.tree.specs.declared.map.Address.the-variants as address
@@ -243,3 +245,9 @@ module _ (image : List ℕ) (l : Lent) (r order xid : ℕ) (heads bytes : List �
         → y ≡ openedIn (lentOf image l) heads bytes r order xid
     unfolding openedIn
     checked-open n y e = sym (rw (room-is, not-false t n) (sym e))
+
+-- a tree that is open leaves a workspace that the next call accepts
+pub opened-holds : (size slots : ℕ) (heads bytes : List ℕ) (x : Opened) → ReadyOpened size slots heads bytes x
+    → openedLeaves size slots heads bytes x
+opened-holds size slots heads bytes (opening.Refused k) r = tt
+opened-holds size slots heads bytes (opening.Open t) r = ready-holds size slots (t .used) heads bytes r

@@ -18,14 +18,13 @@ use Rattle.node.specs.Slot.{headAt, recordsHold}
 use Rattle.node.specs.declared.head.Head.{Head}
 use Rattle.node.specs.declared.info.BTreeInfo.{BTreeInfo}
 use Rattle.tree.specs.Lent as lent
-use Rattle.tree.specs.Lent.{isSize, blocks, sizesHold}
+use Rattle.tree.specs.Lent.{isSize, blocks, sizesHold, lentOf}
 use Rattle.tree.specs.State.{State}
 use Rattle.tree.specs.Workspace.{slotBytes, stateOf, slotHolds, slotsHold, workspaceHolds, called}
 use Rattle.tree.specs.Hold.{infoHolds, numbersHold, holdTogether, lentHolds}
 use Rattle.tree.specs.Trust.{trusted}
 use Rattle.tree.specs.internal.Bank.{live, Lies, Ready, wordsHold, numberHolds}
 use Rattle.tree.specs.internal.Holding.{Laid, roomHolds}
-use Rattle.tree.specs.internal.Map.{lentOf}
 use Rattle.tree.specs.laws.BankLaws.{live-words}
 use Rattle.tree.specs.laws.SlotSteps.{ready-part, part-long}
 use Rattle.tree.specs.laws.LentLaws.{size-between}

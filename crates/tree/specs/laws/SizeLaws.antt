@@ -8,8 +8,7 @@ use lib.ListN.{length}
 use lib.Dec.{leb, eqb}
 use borrow.Author.Tests.{eq-eqb, ne-eqb, eqb-true, le-leb, lt-leb, not-true, not-false}
 use Rattle.tree.specs.Lent as lent
-use Rattle.tree.specs.Lent.{isSize, sizesHold}
-use Rattle.tree.specs.internal.Map.{lentOf}
+use Rattle.tree.specs.Lent.{isSize, sizesHold, lentOf}
 use Rattle.tree.specs.declared.lent.Lent.{Lent}
 
 pub size-512 : (n : ℕ) → n ≡ 512 → true ≡ isSize n

@@ -1,11 +1,11 @@
 -- `tree::lookup::open` meets its contract. Assumes nothing.
-use Rattle.tree.specs.laws.OpenSteps.{open-most, open-many, checked-sizes, checked-room, checked-open, room-words, room-bytes}
+use Rattle.tree.specs.laws.OpenSteps.{open-most, open-many, checked-sizes, checked-room, checked-open, room-words, room-bytes, opened-holds}
 use borrow.Author.Needs.{needs}
 use Prim.Native.Nat.{_-_}
 use Rattle.tree.proofs.lookup.open.Statement.{statement}
 use Rattle.tree.proofs.lookup.open.Tie as tie
 
-ruleset laws = (needs, open-most, open-many, checked-sizes, checked-room, checked-open, room-words, room-bytes)
+ruleset laws = (needs, open-most, open-many, checked-sizes, checked-room, checked-open, room-words, room-bytes, opened-holds)
 
 sizes-hold-requires : tie.Need-sizes-hold-requires
 sizes-hold-requires c κs = search laws

@@ -9,7 +9,7 @@ use Rattle.tree.specs.Lookup.{wayFrom}
 use Rattle.tree.specs.internal.Bank.{Ready}
 use Rattle.tree.specs.Workspace.{stateOf}
 use Rattle.tree.specs.internal.Tree.{boundsOf, BoundsIn}
-use Rattle.tree.specs.internal.Map.{lentOf}
+use Rattle.tree.specs.Lent.{lentOf}
 use Rattle.tree.specs.internal.Way.{stepsOf, onto}
 use Rattle.tree.specs.laws.WayLaws.{way-start, none-in, turn-refused, turn-in, turn-down, way-end}
 use Rattle.tree.specs.laws.UndoLaws.{follows-same, follows-on}
