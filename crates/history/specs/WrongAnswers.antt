@@ -11,8 +11,8 @@ use Rattle.seal.specs.Checksum.{fletcher, verified, sealed}
 use Rattle.seal.specs.Obj.{headerAt, headerBytes, kindOf, storageOf}
 use Rattle.node.specs.Result.{Result}
 use Rattle.node.specs.Order.{pair, byte, known, keyedLength, less, sameKey, pairKey}
-use Rattle.node.specs.Entry.{Entry, ghost, leaf, disk, valueLength, valueBytes}
-use Rattle.node.specs.Records.{recordsOf, recordBytes, markLength, recordLength, entryOf, recordsLength, entriesOf}
+use Rattle.node.specs.Entry.{Entry, Val, ghost, leaf, disk, valueLength, valueBytes}
+use Rattle.node.specs.Records.{markOf, recordsOf, recordBytes, markLength, recordLength, entryOf, recordsLength, entriesOf}
 use Rattle.node.specs.Find.{placeOf, isThere, notAbove}
 use Rattle.node.specs.Fit.{align8, padded, dataSpace, tocSlots, tocLength, fitsSums, fits, packedLength}
 use Rattle.node.specs.Cut.{cut}
@@ -25,8 +25,17 @@ use Rattle.node.specs.declared.fit.Lengths.{Lengths}
 use Rattle.node.specs.declared.read.Node.{Node}
 use Rattle.node.specs.declared.read.Place.{Place}
 use Rattle.node.specs.declared.read.Span.{Span}
+use Rattle.tree.specs.Lent.{isSize, sizesHold, lentOf}
+use Rattle.tree.specs.State.{State, nodeAt}
+use Rattle.tree.specs.Workspace.{stateOf, workspaceHolds}
+use Rattle.tree.specs.Hold.{infoHolds, lentHolds}
+use Rattle.tree.specs.Load.{addressOf}
+use Rattle.tree.specs.Lookup.{Got}
+use Rattle.tree.specs.Answers.{openedIn, gotIn, gotOutput}
+use Rattle.tree.specs.declared.lent.Lent.{Lent}
+use Rattle.tree.specs.declared.editor.Tree.{Tree}
 use Rattle.flush.specs.Space.{Space, Choice, firstZero, isUsed, markUsed, firstFree, zeros, choose, allocated, usable, chunksHold, spaceHolds}
-use Rattle.history.specs.Cases.{same, number, outcome, tree512, pairs, children}
+use Rattle.history.specs.Cases.{same, number, outcome, tree512, pairs, children, rootOf, versions}
 
 -- a row: the contract, what its definition gives, what that is, and two answers that are wrong
 pub record Row : Type 0 where
@@ -83,6 +92,59 @@ spanNumbers s = s .key ∷ s .klen ∷ s .voff ∷ s .vlen ∷ []
 
 unfoldable pub lengthsNumbers : Lengths → List ℕ
 lengthsNumbers s = s .at ∷ s .keys ∷ s .values ∷ []
+
+-- eight blocks, of which the last is that leaf; one slot, and no map or one whose root is at block 0
+unfoldable pub image : List ℕ
+image = replicate 3584 0 ++ block
+
+unfoldable pub lent : Lent
+lent = record { size = 512; slots = 1; mapped = false; map = 0 }
+
+unfoldable pub mapped : Lent
+mapped = record { size = 512; slots = 1; mapped = true; map = 0 }
+
+-- the leaf opened: its tree in an order, its words with a shadow's and a mark, its bytes with a shadow's
+unfoldable pub tree : ℕ → Tree
+tree order = record { root = 0; used = 1; info = loose; «by_id» = false; subtype = 11; order = order; xid = 2 }
+
+unfoldable pub heads : List ℕ
+heads = 0 ∷ 2 ∷ 12 ∷ 1 ∷ 7 ∷ 0 ∷ 0 ∷ 0 ∷ 0 ∷ replicate 10 0
+
+unfoldable pub bytes : List ℕ
+bytes = slot ++ replicate 4081 0
+
+-- the same words, with a dirty mark that is none; and without entries
+unfoldable pub unmarked : List ℕ
+unmarked = splice heads 7 (2 ∷ [])
+
+unfoldable pub empty : List ℕ
+empty = splice heads 1 (0 ∷ 0 ∷ [])
+
+-- a tree that was opened: its refusal, or its order, its transaction, how many slots it uses, its root's level, block and records
+unfoldable pub openedAs : Result State → List ℕ
+openedAs r =
+    outcome
+    (λ s. s .order ∷ s .xid ∷ length (s .nodes) ∷ nodeAt s (s .root) .level ∷ nodeAt s (s .root) .block ++ recordsOf (nodeAt s (s .root) .entries))
+    r
+
+unfoldable pub addressAs : Result ℕ → List ℕ
+addressAs r = outcome (λ a. a ∷ []) r
+
+-- refusal 1 passed, of these words
+unfoldable pub heldAs : ℕ → List ℕ → ℕ
+heldAs order hs = number (workspaceHolds 512 1 1 hs bytes && lentHolds (lentOf image lent) (stateOf 512 (tree order) hs bytes))
+
+-- what a key holds: its refusal; or 0, then nothing, or a value's mark and bytes
+unfoldable pub valueAs : List Val → List ℕ
+valueAs [] = []
+valueAs (v ∷ vs) = markOf v ∷ valueBytes v
+
+unfoldable pub gotAs : Result (Got Val) → List ℕ
+gotAs r = outcome (λ g. valueAs (g .answer)) r
+
+-- get of a key in the leaf, with so much room for its value
+unfoldable pub got : ℕ → List ℕ → Result (Got Val)
+got room k = gotIn (lentOf image lent) (tree byte) heads bytes room k
 
 -- one chunk of 16 blocks, of which block 9 is free
 unfoldable pub space : Space
@@ -559,6 +621,82 @@ blockRows =
     }
     ∷ []
 
+-- ---- tree: what is lent, open, get
+
+unfoldable pub treeRows : List Row
+treeRows =
+    record {
+      contract = "lent::is_size";
+      gives = number (isSize 512) ∷ number (isSize 768) ∷ number (isSize 131072) ∷ [];
+      right = 1 ∷ 0 ∷ 0 ∷ [];
+      wrong = 1 ∷ 1 ∷ 0 ∷ [];
+      wrong′ = 1 ∷ 0 ∷ 1 ∷ [];
+    }
+    ∷ record {
+      contract = "lent::sizes_hold";
+      gives = number (sizesHold (lentOf image lent)) ∷ number (sizesHold (lentOf (0 ∷ image) lent)) ∷ number (sizesHold (lentOf [] lent)) ∷ [];
+      right = 1 ∷ 0 ∷ 0 ∷ [];
+      wrong = 1 ∷ 1 ∷ 0 ∷ [];
+      wrong′ = 1 ∷ 0 ∷ 1 ∷ [];
+    }
+    ∷ record {
+      contract = "lent::info_holds";
+      gives = number (infoHolds (tree512 0xFFFFFFFF 0)) ∷ number (infoHolds (tree512 0x100000000 0))
+          ∷ number (infoHolds (tree512 0 0x100000000)) ∷ [];
+      right = 1 ∷ 0 ∷ 0 ∷ [];
+      wrong = 0 ∷ 0 ∷ 0 ∷ [];
+      wrong′ = 1 ∷ 0 ∷ 1 ∷ [];
+    }
+    ∷ record {
+      contract = "lent::lent_holds: a dirty mark of 2; keys that pair order cannot hold";
+      gives = heldAs byte heads ∷ heldAs byte unmarked ∷ heldAs pair heads ∷ heldAs pair empty ∷ [];
+      right = 1 ∷ 0 ∷ 0 ∷ 1 ∷ [];
+      wrong = 1 ∷ 1 ∷ 0 ∷ 1 ∷ [];
+      wrong′ = 1 ∷ 0 ∷ 1 ∷ 1 ∷ [];
+    }
+    ∷ record {
+      contract = "map::address_of: of transactions 8 and 2, and without a map";
+      gives = addressAs (addressOf (lentOf (rootOf tight 0 versions) mapped) 8 5) ++ addressAs
+          (addressOf (lentOf (rootOf tight 0 versions) mapped) 2 5) ++ addressAs (addressOf (lentOf (rootOf tight 0 versions) lent) 8 5);
+      right = 0 ∷ 3 ∷ 18 ∷ 0 ∷ 5 ∷ [];
+      wrong = 0 ∷ 9 ∷ 18 ∷ 0 ∷ 5 ∷ [];
+      wrong′ = 0 ∷ 3 ∷ 0 ∷ 3 ∷ 0 ∷ 5 ∷ [];
+    }
+    ∷ record {
+      contract = "lookup::open: accepted";
+      gives = openedAs (openedIn (lentOf image lent) heads bytes 7 byte 2);
+      right = 0 ∷ 1 ∷ 2 ∷ 1 ∷ 0 ∷ 7 ∷ take 12 slot;
+      wrong = 0 ∷ 1 ∷ 2 ∷ 1 ∷ 0 ∷ 7 ∷ take 7 slot;
+      wrong′ = 0 ∷ 1 ∷ 2 ∷ 1 ∷ 0 ∷ 0 ∷ take 12 slot;
+    }
+    ∷ record {
+      contract = "lookup::open: a block past the image; one that is not sealed; an order that is none; words too few";
+      gives = openedAs (openedIn (lentOf image lent) heads bytes 8 byte 2) ++ openedAs (openedIn (lentOf image lent) heads bytes 6 byte 2)
+          ++ openedAs (openedIn (lentOf image lent) heads bytes 8 2 2) ++ openedAs (openedIn (lentOf image lent) (drop 1 heads) bytes 7 byte 2);
+      right = 2 ∷ 3 ∷ 1 ∷ 1 ∷ [];
+      wrong = 2 ∷ 3 ∷ 2 ∷ 1 ∷ [];
+      wrong′ = 2 ∷ 4 ∷ 1 ∷ 1 ∷ [];
+    }
+    ∷ record { contract = "Tree::get: a value"; gives = gotAs (got 3 (1 ∷ 2 ∷ [])); right = 0 ∷ 1 ∷ 9 ∷ []; wrong = 0 ∷ []; wrong′ = 0 ∷ 0xFFFF ∷ [] }
+    ∷ record { contract = "Tree::get: a ghost"; gives = gotAs (got 3 (3 ∷ [])); right = 0 ∷ 0xFFFF ∷ []; wrong = 0 ∷ []; wrong′ = 0 ∷ 0 ∷ [] }
+    ∷ record { contract = "Tree::get: none"; gives = gotAs (got 3 (1 ∷ [])); right = 0 ∷ []; wrong = 0 ∷ 1 ∷ 9 ∷ []; wrong′ = 0 ∷ 0xFFFF ∷ [] }
+    ∷ record {
+      contract = "Tree::get: no room; a ghost needs none; a dirty mark of 2; a key that pair order cannot hold";
+      gives = gotAs (got 0 (1 ∷ 2 ∷ [])) ++ gotAs (got 0 (3 ∷ [])) ++ gotAs (gotIn (lentOf image lent) (tree byte) unmarked bytes 0 (1 ∷ 2 ∷ []))
+          ++ gotAs (gotIn (lentOf image lent) (tree pair) empty bytes 3 (1 ∷ 2 ∷ []));
+      right = 20 ∷ 0 ∷ 0xFFFF ∷ 1 ∷ 12 ∷ [];
+      wrong = 20 ∷ 0 ∷ 0xFFFF ∷ 20 ∷ 12 ∷ [];
+      wrong′ = 20 ∷ 20 ∷ 1 ∷ 12 ∷ [];
+    }
+    ∷ record {
+      contract = "Tree::get: the output of a value, of a ghost and of a refusal";
+      gives = gotOutput (5 ∷ 6 ∷ []) (got 2 (1 ∷ 2 ∷ [])) ++ gotOutput (5 ∷ 6 ∷ []) (got 2 (3 ∷ [])) ++ gotOutput (5 ∷ 6 ∷ []) (got 0 (1 ∷ 2 ∷ []));
+      right = 9 ∷ 6 ∷ 5 ∷ 6 ∷ 5 ∷ 6 ∷ [];
+      wrong = 9 ∷ 0 ∷ 5 ∷ 6 ∷ 5 ∷ 6 ∷ [];
+      wrong′ = 9 ∷ 6 ∷ 5 ∷ 6 ∷ 9 ∷ 6 ∷ [];
+    }
+    ∷ []
+
 -- ---- flush: blocks
 
 unfoldable pub spaceRows : List Row
@@ -619,4 +757,4 @@ spaceRows =
     ∷ []
 
 unfoldable pub table : List Row
-table = sealRows ++ orderRows ++ recordRows ++ fitRows ++ blockRows ++ spaceRows
+table = sealRows ++ orderRows ++ recordRows ++ fitRows ++ blockRows ++ treeRows ++ spaceRows

@@ -23,25 +23,25 @@ unfolding Rattle.history.specs.Cases.number Rattle.history.specs
     Rattle.node.specs.Pack.numberedValue Rattle.node.specs.Pack.numbered Rattle.node.specs.Pack.padTo Rattle.node.specs.Pack.valueOffset
     Rattle.node.specs.Pack.tocEntry Rattle.node.specs.Pack.toc Rattle.node.specs.Pack.keyArea Rattle.node.specs.Pack.valueArea
     Rattle.node.specs.Pack.nodeFlags Rattle.node.specs.Pack.headBytes Rattle.node.specs.Pack.infoBytes Rattle.node.specs.Pack.packNode
-    Rattle.tree.specs.Lent.isSize Rattle.tree.specs.Lent.blocks Rattle.tree.specs.Lent.sizesHold Rattle.tree.specs.Lent.blockAt
-    Rattle.tree.specs.Lent.inImage Rattle.tree.specs.State.withNodes Rattle.tree.specs.State.withRoot Rattle.tree.specs.State.withInfo
-    Rattle.tree.specs.State.withCounts Rattle.tree.specs.State.withLongest Rattle.tree.specs.State.noNode Rattle.tree.specs.State.nodeAt
-    Rattle.tree.specs.State.putNode Rattle.tree.specs.State.addNode Rattle.tree.specs.State.withEntries Rattle.tree.specs.State.changed
-    Rattle.tree.specs.State.markedDirty Rattle.tree.specs.State.markedDead Rattle.tree.specs.State.withPlace Rattle.tree.specs.State.withLevel
-    Rattle.tree.specs.State.made Rattle.tree.specs.Load.unbounded Rattle.tree.specs.Load.boundKey Rattle.tree.specs.Load.tighterLower
-    Rattle.tree.specs.Load.tighterUpper Rattle.tree.specs.Load.childBounds Rattle.tree.specs.Load.loadBlock Rattle.tree.specs.Load.rootPlace
-    Rattle.tree.specs.Load.childPlace Rattle.tree.specs.Load.storageClass Rattle.tree.specs.Load.rootHolds Rattle.tree.specs.Load.diskNumber
-    Rattle.tree.specs.Load.mapChild Rattle.tree.specs.Load.mapLast Rattle.tree.specs.Load.orElse Rattle.tree.specs.Load.mapFloor
-    Rattle.tree.specs.Load.mapping Rattle.tree.specs.Load.mapRootHolds Rattle.tree.specs.Load.mapAddress Rattle.tree.specs.Load.addressOf
-    Rattle.tree.specs.Load.adopted Rattle.tree.specs.Load.loadChild Rattle.tree.specs.Lookup.openedAt Rattle.tree.specs.Lookup.opened
-    Rattle.tree.specs.Lookup.above Rattle.tree.specs.Lookup.wayFrom Rattle.tree.specs.Lookup.way Rattle.tree.specs.Lookup.leafOf
-    Rattle.tree.specs.Lookup.held Rattle.tree.specs.Lookup.gotLength Rattle.tree.specs.Lookup.getIn Rattle.tree.specs.Lookup.get
-    Rattle.tree.specs.Lookup.lastFrom Rattle.tree.specs.Lookup.floorFrom Rattle.tree.specs.Lookup.floorIn Rattle.tree.specs.Lookup.floor
-    Rattle.tree.specs.Lookup.endsAbove Rattle.tree.specs.Lookup.between Rattle.tree.specs.Lookup.rangeEnters Rattle.tree.specs.Lookup.rangeKids
-    Rattle.tree.specs.Lookup.rangeFrom Rattle.tree.specs.Lookup.rangeIn Rattle.tree.specs.Lookup.range Rattle.tree.specs.Upsert.putEntry
-    Rattle.tree.specs.Upsert.grownLongest Rattle.tree.specs.Upsert.putInLeaf Rattle.tree.specs.Upsert.upsertOn Rattle.tree.specs.Upsert.entryFits
-    Rattle.tree.specs.Upsert.upserted Rattle.tree.specs.Upsert.upsertIn Rattle.tree.specs.Upsert.upsert Rattle.tree.specs.Remove.dropNode
-    Rattle.tree.specs.Remove.dropEmptied Rattle.tree.specs.Remove.leveledRoot Rattle.tree.specs.Remove.handedDown
+    Rattle.tree.specs.Lent.lentOf Rattle.tree.specs.Lent.isSize Rattle.tree.specs.Lent.blocks Rattle.tree.specs.Lent.sizesHold
+    Rattle.tree.specs.Lent.blockAt Rattle.tree.specs.Lent.inImage Rattle.tree.specs.State.withNodes Rattle.tree.specs.State.withRoot
+    Rattle.tree.specs.State.withInfo Rattle.tree.specs.State.withCounts Rattle.tree.specs.State.withLongest Rattle.tree.specs.State.noNode
+    Rattle.tree.specs.State.nodeAt Rattle.tree.specs.State.putNode Rattle.tree.specs.State.addNode Rattle.tree.specs.State.withEntries
+    Rattle.tree.specs.State.changed Rattle.tree.specs.State.markedDirty Rattle.tree.specs.State.markedDead Rattle.tree.specs.State.withPlace
+    Rattle.tree.specs.State.withLevel Rattle.tree.specs.State.made Rattle.tree.specs.Load.unbounded Rattle.tree.specs.Load.boundKey
+    Rattle.tree.specs.Load.tighterLower Rattle.tree.specs.Load.tighterUpper Rattle.tree.specs.Load.childBounds Rattle.tree.specs.Load.loadBlock
+    Rattle.tree.specs.Load.rootPlace Rattle.tree.specs.Load.childPlace Rattle.tree.specs.Load.storageClass Rattle.tree.specs.Load.rootHolds
+    Rattle.tree.specs.Load.diskNumber Rattle.tree.specs.Load.mapChild Rattle.tree.specs.Load.mapLast Rattle.tree.specs.Load.orElse
+    Rattle.tree.specs.Load.mapFloor Rattle.tree.specs.Load.mapping Rattle.tree.specs.Load.mapRootHolds Rattle.tree.specs.Load.mapAddress
+    Rattle.tree.specs.Load.addressOf Rattle.tree.specs.Load.adopted Rattle.tree.specs.Load.loadChild Rattle.tree.specs.Lookup.openedAt
+    Rattle.tree.specs.Lookup.opened Rattle.tree.specs.Lookup.above Rattle.tree.specs.Lookup.wayFrom Rattle.tree.specs.Lookup.way
+    Rattle.tree.specs.Lookup.leafOf Rattle.tree.specs.Lookup.held Rattle.tree.specs.Lookup.gotLength Rattle.tree.specs.Lookup.getIn
+    Rattle.tree.specs.Lookup.get Rattle.tree.specs.Lookup.lastFrom Rattle.tree.specs.Lookup.floorFrom Rattle.tree.specs.Lookup.floorIn
+    Rattle.tree.specs.Lookup.floor Rattle.tree.specs.Lookup.endsAbove Rattle.tree.specs.Lookup.between Rattle.tree.specs.Lookup.rangeEnters
+    Rattle.tree.specs.Lookup.rangeKids Rattle.tree.specs.Lookup.rangeFrom Rattle.tree.specs.Lookup.rangeIn Rattle.tree.specs.Lookup.range
+    Rattle.tree.specs.Upsert.putEntry Rattle.tree.specs.Upsert.grownLongest Rattle.tree.specs.Upsert.putInLeaf Rattle.tree.specs.Upsert.upsertOn
+    Rattle.tree.specs.Upsert.entryFits Rattle.tree.specs.Upsert.upserted Rattle.tree.specs.Upsert.upsertIn Rattle.tree.specs.Upsert.upsert
+    Rattle.tree.specs.Remove.dropNode Rattle.tree.specs.Remove.dropEmptied Rattle.tree.specs.Remove.leveledRoot Rattle.tree.specs.Remove.handedDown
     Rattle.tree.specs.Remove.hasOnlyChild Rattle.tree.specs.Remove.rootTaken Rattle.tree.specs.Remove.handDown Rattle.tree.specs.Remove.takeFromLeaf
     Rattle.tree.specs.Remove.shrunkOn Rattle.tree.specs.Remove.removeOn Rattle.tree.specs.Remove.removed Rattle.tree.specs.Remove.removeIn
     Rattle.tree.specs.Remove.remove Rattle.tree.specs.Omap.isOmap Rattle.tree.specs.Omap.versionsEnd Rattle.tree.specs.Omap.removeAll
