@@ -9,3 +9,6 @@ pub mod Open
 pub mod Holding
 pub mod Get
 pub mod Brought
+pub mod Writers
+pub mod Index
+pub mod Room

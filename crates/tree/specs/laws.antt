@@ -48,6 +48,7 @@ pub mod RangeLaws
 pub mod RootLaws
 pub mod RoomLaws
 pub mod RoomCalls
+pub mod RoomyLaws
 pub mod EditRoom
 pub mod EachLaws
 pub mod LargeLaws
@@ -55,3 +56,6 @@ pub mod TrustWay
 pub mod UpsertRoom
 pub mod GetLaws
 pub mod GetSteps
+pub mod WriterLaws
+pub mod IndexLaws
+pub mod IndexSteps

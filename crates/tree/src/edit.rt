@@ -2,17 +2,23 @@
 use crate::bank;
 use crate::editor::Tree;
 use crate::undo;
+use crate::writers;
 use node::bytes;
 use node::head::Head;
+use node::order;
 ghost use mathlib.Core.Path.{_≡_};
-ghost use Prim.Native.Nat.{_+_, _*_, _≤_, _<_};
+ghost use Prim.Native.Nat.{_+_, _*_, _^_, _≤_, _<_};
+ghost use lib.ListN.{length, take};
+ghost use Rattle.node.specs.Find.{keyAt};
 ghost use Rattle.node.specs.Records.{recordsLength};
 ghost use Rattle.node.specs.Slot.{headAt};
 ghost use Rattle.tree.specs.Workspace.{slotBytes, stateOf};
-ghost use Rattle.tree.specs.Edit.{parted};
+ghost use Rattle.tree.specs.State.{nodeAt};
+ghost use Rattle.tree.specs.Edit.{parted, setIndexKey, indexKeys};
 ghost use Rattle.tree.specs.internal.Bank.{live, Ready};
 ghost use Rattle.tree.specs.internal.Undo.{savedAt, Follows};
-ghost use Rattle.tree.specs.internal.Way.{WayIn, Dirtied, Touched};
+ghost use Rattle.tree.specs.internal.Way.{stepsOf, WayIn, Dirtied, Touched};
+ghost use Rattle.tree.specs.internal.Index.{keyDiffers, keyPut, Rewritten, KeyRoom, IndexRoom};
 
 impl Tree {
     // Every slot of a way dirty.
@@ -134,5 +140,127 @@ impl Tree {
     {
         undo::save(heads, bytes, size, slots, self.used, n);
         self.part_in(heads, bytes, size, slots, n, i, at)
+    }
+    // Whether the index key of child i of slot n is another than the first key of slot c.
+    fn key_differs(
+        self,
+        heads: &[u64],
+        bytes: &[u8],
+        size: usize,
+        slots: usize,
+        n: usize,
+        i: u64,
+        c: usize,
+    ) -> bool
+        requires { ⌜ Ready size slots (self .used) (now heads) (now bytes) ⌝ }
+        ensures { λ r. ⌜ r ≡ keyDiffers (stateOf size self (now (heads .entry)) (now (bytes .entry))) n i c ⌝ }
+    {
+        let kids = self.count_at(heads, bytes, size, slots, c);
+        if kids == 0 {
+            return false;
+        }
+        let count = self.count_at(heads, bytes, size, slots, n);
+        if count <= i {
+            return false;
+        }
+        let first = self.key_at(heads, bytes, size, slots, c, 0);
+        let key = self.key_at(heads, bytes, size, slots, n, i);
+        let same = order::same(key, first);
+        !same
+    }
+
+    // The first key of a slot, copied out. The answer is its length.
+    pub fn first_key(
+        self,
+        heads: &[u64],
+        bytes: &[u8],
+        size: usize,
+        slots: usize,
+        c: usize,
+        scratch: &mut [u8],
+    ) -> usize
+        requires { ⌜ Ready size slots (self .used) (now heads) (now bytes) ⌝ }
+        requires { ⌜ length (keyAt (nodeAt (stateOf size self (now heads) (now bytes)) c .entries) 0)
+            ≤ length (now scratch) ⌝ }
+        ensures long { λ r. ⌜ r ≤ length (now (scratch .exit)) ⌝ }
+        ensures key { λ r. ⌜ take r (now (scratch .exit))
+            ≡ keyAt (nodeAt (stateOf size self (now (heads .entry)) (now (bytes .entry))) c .entries) 0 ⌝ }
+    {
+        let key = self.key_at(heads, bytes, size, slots, c, 0);
+        bytes::copy_to(key, scratch, 0);
+        key.len()
+    }
+
+    // Entry i of slot n with another key; the slot is dirty.
+    pub fn rekey(
+        self,
+        heads: &mut [u64],
+        bytes: &mut [u8],
+        size: usize,
+        slots: usize,
+        n: usize,
+        i: u64,
+        key: &[u8],
+    )
+        requires ready { ⌜ Ready size slots (self .used) (now heads) (now bytes) ⌝ }
+        requires place { ⌜ (n < self .used) × (i < live (headAt (now heads) n) .count) ⌝ }
+        requires room { ⌜ (live (headAt (now heads) n) .used + length (now key) ≤ 4 * size) × (length (now key) < 2 ^ 16) ⌝ }
+        ensures { λ _. ⌜ Rewritten size slots self (now (heads .entry)) (now (bytes .entry)) (now (heads .exit)) (now (bytes .exit))
+            (keyPut (stateOf size self (now (heads .entry)) (now (bytes .entry))) n i (now (key .entry))) ⌝ }
+    {
+        let at = writers::offset_at(heads, bytes, size, slots, self.used, n, i);
+        writers::rekey_at(heads, bytes, size, slots, self.used, n, i, at, key, true);
+    }
+
+    // The index key of child i of slot n set to the first key of slot c; n is dirty if that changes it.
+    pub fn set_index_key(
+        self,
+        heads: &mut [u64],
+        bytes: &mut [u8],
+        size: usize,
+        slots: usize,
+        n: usize,
+        i: u64,
+        c: usize,
+        scratch: &mut [u8],
+    )
+        requires ready { ⌜ Ready size slots (self .used) (now heads) (now bytes) ⌝ }
+        requires room { ⌜ KeyRoom size self (now heads) (now bytes) n c (length (now scratch)) ⌝ }
+        ensures { λ _. ⌜ Rewritten size slots self (now (heads .entry)) (now (bytes .entry)) (now (heads .exit)) (now (bytes .exit))
+            (setIndexKey (stateOf size self (now (heads .entry)) (now (bytes .entry))) n i c) ⌝ }
+    {
+        let differs = self.key_differs(heads, bytes, size, slots, n, i, c);
+        if !differs {
+            return;
+        }
+        let len = self.first_key(heads, bytes, size, slots, c, scratch);
+        self.rekey(heads, bytes, size, slots, n, i, &scratch[..len]);
+    }
+    // On a way, bottom up: each index key is its child's first key.
+    pub fn index_keys(
+        self,
+        heads: &mut [u64],
+        bytes: &mut [u8],
+        size: usize,
+        slots: usize,
+        way: &[usize],
+        kids: &[u64],
+        steps: usize,
+        scratch: &mut [u8],
+    )
+        requires ready { ⌜ (Ready size slots (self .used) (now heads) (now bytes)) × (WayIn (self .used) (now way) steps) ⌝ }
+        requires steps { ⌜ (1 ≤ steps) × (steps ≤ length (now kids)) ⌝ }
+        requires room { ⌜ IndexRoom size self (now heads) (now bytes) (now way) (now kids) steps (length (now scratch)) ⌝ }
+        ensures { λ _. ⌜ Rewritten size slots self (now (heads .entry)) (now (bytes .entry)) (now (heads .exit)) (now (bytes .exit))
+            (indexKeys (stepsOf (now (way .entry)) (now (kids .entry)) steps) (stateOf size self (now (heads .entry)) (now (bytes .entry)))) ⌝ }
+    {
+        let mut j: usize = steps - 1;
+        while 0 < j {
+            let n = way[j - 1];
+            let i = kids[j - 1];
+            let c = way[j];
+            self.set_index_key(heads, bytes, size, slots, n, i, c, scratch);
+            j -= 1;
+        }
     }
 }

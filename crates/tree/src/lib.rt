@@ -9,3 +9,4 @@ pub mod lookup;
 pub mod map;
 pub mod undo;
 pub mod way;
+pub mod writers;

@@ -39,9 +39,10 @@ wordsHold h =
     leb (h .placed) 1 && leb (h .named) 1 && leb (h .dirty) 1 && leb (h .dead) 1 && numberHolds (h .placed) (h .block) && numberHolds (h .named)
     (h .id)
 
--- words that hold; records that lie within two blocks' worth of the slot, and take the bytes in use
+-- words that hold; records that lie within the slot, and take the bytes in use. Within a call a slot may take all of its four blocks' worth,
+-- between calls two (`slotHolds`)
 pub record Lies (size : ℕ) (h : Head) (l : List ℕ) : Type 0 where
-  pub room : recordsLength (h .count) l ≤ 2 * size
+  pub room : recordsLength (h .count) l ≤ 4 * size
   pub used : h .used ≡ recordsLength (h .count) l
   pub holds : wordsHold h ≡ true
 

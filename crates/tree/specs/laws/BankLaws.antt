@@ -87,6 +87,22 @@ dirty-words h count used e =
     dirtied (leb (h .placed) 1) (leb (h .named) 1) (leb (h .dirty) 1) (leb (h .dead) 1) (numberHolds (h .placed) (h .block))
     (numberHolds (h .named) (h .id)) e
 
+-- the words of a slot with other records
+pub same-words : (h : Head) (count used : ℕ) → wordsHold h ≡ true
+    → wordsHold (record {
+      level = h .level;
+      count = count;
+      used = used;
+      placed = h .placed;
+      block = h .block;
+      named = h .named;
+      id = h .id;
+      dirty = h .dirty;
+      dead = h .dead;
+    }) ≡ true
+unfolding wordsHold
+same-words h count used e = e
+
 -- other bytes under the same words: other entries
 pub live-node : (h : Head) (l d : List ℕ) → nodeOf h d ≡ withEntries (nodeOf h l) (entriesOf (live h .count) d)
 unfolding nodeOf withEntries

@@ -29,7 +29,7 @@ module _ (size from to : ℕ) (heads bytes heads′ bytes′ : List ℕ) (h v : 
   held : Lies size v (slotBytes size bytes from)
   held = rw (ev, eh) lies
 
-  pub copy-small : v .used ≤ 2 * size
+  pub copy-small : v .used ≤ 4 * size
   copy-small = omega (arith, held .room, held .used)
 
   pub copy-source : from * (4 * size) + v .used ≤ length bytes

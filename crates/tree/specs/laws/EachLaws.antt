@@ -24,7 +24,7 @@ use Rattle.tree.specs.laws.StepLaws.{put-each}
 use Rattle.tree.specs.laws.TrustLoad.{by-list}
 use Rattle.tree.specs.laws.EditStands.{pick}
 use Rattle.tree.specs.laws.WeightLaws.{weight, weight-remove, weight-key-at}
-use Rattle.tree.specs.laws.RoomLaws.{Roomy}
+use Rattle.tree.specs.internal.Room.{Roomy}
 use Rattle.tree.specs.laws.EditRoom.{KeysMost}
 
 pub record Each (P : List Entry → Type 0) (s : State) : Type 0 where

@@ -1,8 +1,8 @@
 -- Laws of get as a call: the way, then the leaf; refused, every slot is as it was. Assumes nothing.
-use mathlib.Core.Path.{_≡_, refl, sym, ap, ap₂, _∙_}
+use mathlib.Core.Path.{_≡_, refl, sym, ap, ap₂, subst, _∙_}
 use mathlib.Core.List.{List, [], _∷_, _++_}
 use mathlib.Core.Bool.{Bool, true, false, not, _&&_}
-use Prim.Native.Nat.{ℕ, zero, suc, _+_, _-_, _≤_}
+use Prim.Native.Nat.{ℕ, _*_, zero, suc, _+_, _-_, _≤_}
 use native.Mathlib.Omega.{arith}
 use lib.ListN.{length, getD, length-append}
 use lib.Dec.{eqb}
@@ -22,7 +22,9 @@ use Rattle.tree.specs.Load.{unbounded}
 use Rattle.tree.specs.Lookup as lookup
 use Rattle.tree.specs.Trust.{trusted}
 use Rattle.tree.specs.Answers.{gotMeans, gotIn, gotOutput, gotLeaves}
-use Rattle.tree.specs.laws.ReadyLaws.{ready-holds, holds-ready, holds-trusted}
+use Rattle.tree.specs.internal.Room.{Roomy}
+use Rattle.tree.specs.laws.ReadyLaws.{holds-ready, holds-trusted}
+use Rattle.tree.specs.laws.RoomyLaws.{holds-roomy, roomy-holds, roomy-get}
 use Rattle.tree.specs.declared.lent.Lent.{Lent}
 use Rattle.tree.specs.internal.Bank.{Ready}
 use Rattle.tree.specs.internal.Way.{stepsOf, wentOf, wayOf, WayReady}
@@ -215,13 +217,28 @@ value-ready size slots h b g u n e r = rw e at r
 
 -- ---- 1 first
 
-pub left-of : (size slots : ℕ) (t : Tree) (h b h′ b′ : List ℕ) (g : Got) → Ready size slots (t .used) h b → GotCalled size slots t h b h′ b′ g
-    → gotLeaves size slots t h b h′ b′ g
-left-of size slots t h b h′ b′ (getting.Refused x) r c =
-    (c .0, ready-holds size slots (t .used) h′ b′ (c .1) ∙ sym (ready-holds size slots (t .used) h b r))
-left-of size slots t h b h′ b′ (getting.None u) r c = ready-holds size slots (u .used) h′ b′ c
-left-of size slots t h b h′ b′ (getting.Ghost u) r c = ready-holds size slots (u .used) h′ b′ c
-left-of size slots t h b h′ b′ (getting.Value u n) r c = ready-holds size slots (u .used) h′ b′ c
+module _ (image : List ℕ) (l : Lent) (t : Tree) (h b h′ b′ out key : List ℕ) (room : ℕ) (ready : Ready (l .size) (l .slots) (t .used) h b)
+    (trust : trusted (lentOf image l) (stateOf (l .size) t h b) ≡ true) (space : workspaceHolds (l .size) (l .slots) (t .used) h b ≡ true) where
+  roomy : Roomy (2 * l .size) (stateOf (l .size) t h b)
+  roomy = holds-roomy (l .size) (l .slots) t h b ready space
+
+  left-roomy : (u : Tree) (v : List Val) → ok (record { state = stateOf (l .size) u h′ b′; answer = v }) ≡ lookup.getIn (lentOf image l)
+      (stateOf (l .size) t h b) room key → Roomy (2 * l .size) (stateOf (l .size) u h′ b′)
+  unfolding lentOf
+  left-roomy u v e = roomy-get (lentOf image l) (stateOf (l .size) t h b) room key trust roomy .at _ (sym e)
+
+  left-held : (u : Tree) (v : List Val) → ok (record { state = stateOf (l .size) u h′ b′; answer = v }) ≡ lookup.getIn (lentOf image l)
+      (stateOf (l .size) t h b) room key → Ready (l .size) (l .slots) (u .used) h′ b′ → workspaceHolds (l .size) (l .slots) (u .used) h′ b′ ≡ true
+  left-held u v e r = roomy-holds (l .size) (l .slots) u h′ b′ r (left-roomy u v e)
+
+  pub left-of : (g : Got) → gotMeans (l .size) h′ b′ out g ≡ lookup.getIn (lentOf image l) (stateOf (l .size) t h b) room key
+      → GotCalled (l .size) (l .slots) t h b h′ b′ g → gotLeaves (l .size) (l .slots) t h b h′ b′ g
+  unfolding gotMeans
+  left-of (getting.Refused x) e c =
+      (c .0, roomy-holds (l .size) (l .slots) t h′ b′ (c .1) (subst (λ (s : State). Roomy (2 * l .size) s) (sym (c .0)) roomy) ∙ sym space)
+  left-of (getting.None u) e c = left-held u _ e c
+  left-of (getting.Ghost u) e c = left-held u _ e c
+  left-of (getting.Value u n) e c = left-held u _ e c
 
 -- after a refused get every call answers as if there had been none
 pub refused-none : {A : Type 0} (size slots : ℕ) (t : Tree) (heads bytes heads′ bytes′ : List ℕ) (x : ℕ)
@@ -265,6 +282,9 @@ module _ (image : List ℕ) (l : Lent) (t : Tree) (h0 b0 : List ℕ) (a : Bool)
 
     pub lent-ready : Ready (l .size) (l .slots) (t .used) h0 b0
     lent-ready = holds-ready image l t h0 b0 (both .0) (both .1)
+
+    pub lent-space : workspaceHolds (l .size) (l .slots) (t .used) h0 b0 ≡ true
+    lent-space = both .0
 
     pub lent-trusts : trusted (lentOf image l) (stateOf (l .size) t h0 b0) ≡ true
     lent-trusts = holds-trusted image l t h0 b0 (both .1)

@@ -35,7 +35,7 @@ use Rattle.tree.specs.internal.Holding.{roomHolds}
 use Rattle.tree.specs.laws.BankLaws.{slots-below, add-ready}
 use Rattle.tree.specs.laws.UndoLaws.{put-of}
 use Rattle.tree.specs.laws.SizeLaws.{size-bounds}
-use Rattle.tree.specs.laws.ReadyLaws.{ready-holds}
+use Rattle.tree.specs.laws.RoomyLaws.{roomy-holds, roomy-open}
 use Rattle.tree.specs.laws.MapLaws.{block-long, block-at}
 use Rattle.tree.specs.laws.MapFloorLaws.{load-inside, load-accepts}
 use Rattle.tree.specs.declared.editor.Tree.{Tree}
@@ -247,7 +247,9 @@ module _ (image : List ℕ) (l : Lent) (r order xid : ℕ) (heads bytes : List �
     checked-open n y e = sym (rw (room-is, not-false t n) (sym e))
 
 -- a tree that is open leaves a workspace that the next call accepts
-pub opened-holds : (size slots : ℕ) (heads bytes : List ℕ) (x : Opened) → ReadyOpened size slots heads bytes x
-    → openedLeaves size slots heads bytes x
-opened-holds size slots heads bytes (opening.Refused k) r = tt
-opened-holds size slots heads bytes (opening.Open t) r = ready-holds size slots (t .used) heads bytes r
+pub opened-holds : (image : List ℕ) (l : Lent) (r order xid : ℕ) (heads bytes : List ℕ) (x : Opened) → ReadyOpened (l .size) (l .slots) heads bytes x
+    → openedOf (l .size) heads bytes x ≡ opened (lentOf image l) r order xid → l .size ≤ 65536 → openedLeaves (l .size) (l .slots) heads bytes x
+unfolding openedOf lentOf
+opened-holds image l r order xid heads bytes (opening.Refused k) y e small = tt
+opened-holds image l r order xid heads bytes (opening.Open t) y e small =
+    roomy-holds (l .size) (l .slots) t heads bytes y (roomy-open (lentOf image l) r order xid _ small (sym e))

@@ -73,7 +73,7 @@ module _ (size slots n i at : ℕ) (t : Tree) (h : Head) (heads bytes : List ℕ
   pub at-below : at ≤ h .used
   at-below = omega (arith, records-less i (h .count) (slotBytes size bytes n) part-index, lies .used)
 
-  pub used-small : h .used ≤ 2 * size
+  pub used-small : h .used ≤ 4 * size
   used-small = omega (arith, lies .room, lies .used)
 
   pub part-source : n * (4 * size) + at + (h .used - at) ≤ length bytes
@@ -115,7 +115,7 @@ module _ (size slots n i at rest : ℕ) (t t′ : Tree) (h : Head) (heads h1 h2 
   below : at ≤ h .used
   below = at-below size slots n i at t h heads bytes r hs hn eh hi ea
 
-  small : h .used ≤ 2 * size
+  small : h .used ≤ 4 * size
   small = used-small size slots n i at t h heads bytes r hs hn eh hi ea
 
   hi′ : i ≤ h .count

@@ -192,15 +192,15 @@ laid-ready size slots used heads bytes r h =
 
 -- ---- a workspace that is ready passes
 
-lies-slot : (size : ℕ) (h : Head) (l : List ℕ) → length l ≡ 4 * size → Lies size (live h) l → slotHolds size h l ≡ true
+lies-slot : (size : ℕ) (h : Head) (l : List ℕ) → length l ≡ 4 * size → Lies size (live h) l → live h .used ≤ 2 * size → slotHolds size h l ≡ true
 unfolding slotHolds live wordsHold numberHolds recordsHold
-lies-slot size h l e r =
+lies-slot size h l e r m =
     and-both (wordsHold h) (eqb (h .dead) 1 || leb (h .used) (2 * size) && recordsHold (h .count) (h .used) l) (sym (live-words h) ∙ r .holds)
     (by-test (eqb (h .dead) 1)
     (λ t. rw t)
-    (λ t. let a : recordsLength (h .count) l ≤ 2 * size = rw t at (r .room) in
+    (λ t. let a : h .used ≤ 2 * size = rw t at m in
     let b : h .used ≡ recordsLength (h .count) l = rw t at (r .used) in
-    rw (t, le-leb (h .used) (2 * size) (omega arith), le-leb (recordsLength (h .count) l) (length l) (omega arith))
+    rw (t, le-leb (h .used) (2 * size) a, le-leb (recordsLength (h .count) l) (length l) (omega arith))
     (eq-eqb (recordsLength (h .count) l) (h .used) (sym b))))
 
 lie-slots : (size : ℕ) (heads bytes : List ℕ) (m n : ℕ)
@@ -211,20 +211,50 @@ lie-slots size heads bytes (suc m) n f =
     and-both (slotHolds size (headAt heads n) (slotBytes size bytes n)) (slotsHold size heads bytes m (suc n)) (f n (omega arith) (omega arith))
     (lie-slots size heads bytes m (suc n) (λ k a b. f k (omega arith) (omega arith)))
 
--- what every call leaves is no workspace that refusal 1 refuses
-pub ready-holds : (size slots used : ℕ) (heads bytes : List ℕ) → Ready size slots used heads bytes → workspaceHolds size slots used heads bytes ≡ true
+-- what every call leaves is no workspace that refusal 1 refuses: it is ready, and has room
+pub ready-holds : (size slots used : ℕ) (heads bytes : List ℕ) → Ready size slots used heads bytes
+    → ((k : ℕ) → k < used → live (headAt heads k) .used ≤ 2 * size) → workspaceHolds size slots used heads bytes ≡ true
 unfolding workspaceHolds
-ready-holds size slots used heads bytes r =
+ready-holds size slots used heads bytes r m =
     let z : slotsHold size heads bytes used 0 ≡ true =
     lie-slots size heads bytes used 0 (λ k a b. let h : k < used = omega arith in
     lies-slot size (headAt heads k) (slotBytes size bytes k) (part-long size bytes k (ready-part size slots used heads bytes k r h))
-    (r .lies k h)) in
+    (r .lies k h) (m k h)) in
     rw (
       eq-eqb (length heads) (slots * 19) (r .words),
       eq-eqb (length bytes) ((slots + slots) * (4 * size)) (r .room),
       le-leb used slots
           (r .within),
     ) z
+
+-- and one that passes has that room
+slot-small : (size : ℕ) (h : Head) (l : List ℕ) → slotHolds size h l ≡ true → live h .used ≤ 2 * size
+unfolding slotHolds live recordsHold wordsHold numberHolds
+slot-small size h l e =
+    let (p, q) = and-split (wordsHold h) (eqb (h .dead) 1 || leb (h .used) (2 * size) && recordsHold (h .count) (h .used) l) e in
+    by-test (eqb (h .dead) 1)
+    (λ t. rw t (omega arith))
+    (λ t. let r : leb (h .used) (2 * size) && recordsHold (h .count) (h .used) l ≡ true = rw t at q in
+    rw t (leb-true (h .used) (2 * size) (and-split (leb (h .used) (2 * size)) (recordsHold (h .count) (h .used) l) r .0)))
+
+slots-small : (size : ℕ) (heads bytes : List ℕ) (m n k : ℕ) → slotsHold size heads bytes m n ≡ true → k < m → live (headAt heads (n + k)) .used ≤ 2 * size
+unfolding slotsHold
+slots-small size heads bytes zero n k h q = absurd (omega arith)
+slots-small size heads bytes (suc m) n zero h q =
+    let z : n + 0 ≡ n = omega arith in
+    rw z (slot-small size (headAt heads n) (slotBytes size bytes n)
+    (and-split (slotHolds size (headAt heads n) (slotBytes size bytes n)) (slotsHold size heads bytes m (suc n)) h .0))
+slots-small size heads bytes (suc m) n (suc k) h q =
+    let z : n + suc k ≡ suc n + k = omega arith in
+    rw z (slots-small size heads bytes m (suc n) k (and-split (slotHolds size (headAt heads n) (slotBytes size bytes n))
+    (slotsHold size heads bytes m (suc n)) h .1) (omega arith))
+
+pub holds-small : (size slots used : ℕ) (heads bytes : List ℕ) (k : ℕ) → workspaceHolds size slots used heads bytes ≡ true → k < used
+    → live (headAt heads k) .used ≤ 2 * size
+unfolding workspaceHolds roomHolds
+holds-small size slots used heads bytes k h q =
+    let z : 0 + k ≡ k = omega arith in
+    rw z at (slots-small size heads bytes used 0 k (and-split (roomHolds size slots used heads bytes) (slotsHold size heads bytes used 0) h .1) q)
 
 -- ---- refusal 1
 

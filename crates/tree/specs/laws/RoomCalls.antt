@@ -41,12 +41,13 @@ use Rattle.tree.specs.laws.EditStands.{leaf-on, down-leaf, onWay}
 use Rattle.tree.specs.laws.TrustUpsert.{sizes-most, trusted-upsert}
 use Rattle.tree.specs.laws.TrustRemove.{trusted-remove}
 use Rattle.tree.specs.laws.WeightLaws.{weight, weight-cons, weight-same}
-use Rattle.tree.specs.laws.RoomLaws.{Roomy, Light, roomy-light, light-roomy, light-put, light-add, light-info, light-touch, light-indexes}
+use Rattle.tree.specs.internal.Room.{Roomy}
+use Rattle.tree.specs.laws.RoomLaws.{Light, roomy-light, light-roomy, light-put, light-add, light-info, light-touch, light-indexes}
 use Rattle.tree.specs.laws.RoomLaws.{light-cuts, touch-leaf, light-leaf, light-take, light-drop, light-level, light-hand}
 
 -- ---- a node that was read
 
-weight-size : (es : List Entry) → weight es + 4 * length es ≡ size es
+pub weight-size : (es : List Entry) → weight es + 4 * length es ≡ size es
 unfolding size entrySize Rattle.node.specs.Records.recordsOf
 weight-size [] = refl
 weight-size (e ∷ es) = let k = weight-size es in omega (arith, weight-cons e es)

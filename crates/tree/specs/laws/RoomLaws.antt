@@ -23,6 +23,7 @@ use Rattle.tree.specs.Lookup.{Step, leafOf}
 use Rattle.tree.specs.Edit.{markWay, markDirty, touch, setIndexKey, indexKeys, moreNodes, parted, linkRight, growRoot, cutNode, cuts}
 use Rattle.tree.specs.Upsert.{putInLeaf}
 use Rattle.tree.specs.Remove.{Dropped, dropNode, dropEmptied, leveledRoot, handedDown, takeFromLeaf}
+use Rattle.tree.specs.internal.Room.{Roomy}
 use Rattle.tree.specs.laws.StateLaws.{at-put-same, put-count, at-put-other}
 use Rattle.tree.specs.laws.NamedLaws.{names-other}
 use Rattle.tree.specs.laws.StandLaws.{Stands, all}
@@ -31,10 +32,6 @@ use Rattle.tree.specs.laws.TrustLoad.{by-list}
 use Rattle.tree.specs.laws.EditStands.{onWay, pick}
 use Rattle.tree.specs.laws.CutStands.{by-cut, by-top}
 use Rattle.tree.specs.laws.WeightLaws.{weight, fits-weight}
-
--- every live slot's records take at most k bytes
-pub record Roomy (k : ℕ) (s : State) : Type 0 where
-  pub most : (n : ℕ) → nodeAt s n .dead ≡ false → weight (nodeAt s n .entries) ≤ k
 
 -- those of a clean one do
 pub record Light (k : ℕ) (s : State) : Type 0 where

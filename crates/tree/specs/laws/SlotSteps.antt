@@ -113,9 +113,6 @@ module _ (size slots used n : ℕ) (heads bytes : List ℕ) (r : Ready size slot
   pub slot-used : h .used ≡ recordsLength (h .count) l
   slot-used = lies .used
 
-  pub slot-more : h .used + 8 ≤ length l
-  slot-more = omega (arith, lies .room, lies .used, slot-long, r .least)
-
   pub slot-index : (i : ℕ) → i < live (headAt heads n) .count → i < h .count
   slot-index i q = rw eh q
 

@@ -26,7 +26,8 @@ use Rattle.tree.specs.laws.EditStands.{onWay, falls-used, down-falls, do
 use Rattle.tree.specs.laws.TrustUpsert.{sizes-most, down-once}
 use Rattle.tree.specs.laws.TrustOmap.{dropped-safe, omap-put-fits}
 use Rattle.tree.specs.laws.WeightLaws.{weight}
-use Rattle.tree.specs.laws.RoomLaws.{Roomy, roomy-light}
+use Rattle.tree.specs.internal.Room.{Roomy}
+use Rattle.tree.specs.laws.RoomLaws.{roomy-light}
 use Rattle.tree.specs.laws.RoomCalls.{block-weight, light-floor, trusted-small, trusted-roomy, roomy-upsert, roomy-drop}
 
 -- a child in a slot is in use, live and one level lower

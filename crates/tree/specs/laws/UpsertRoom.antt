@@ -22,7 +22,7 @@ use Rattle.tree.specs.laws.TrustLoad.{Down, end, on}
 use Rattle.tree.specs.laws.EditStands.{onWay}
 use Rattle.tree.specs.laws.TrustUpsert.{inner, down-inner, down-once}
 use Rattle.tree.specs.laws.WeightLaws.{weight}
-use Rattle.tree.specs.laws.RoomLaws.{Roomy}
+use Rattle.tree.specs.internal.Room.{Roomy}
 use Rattle.tree.specs.laws.EditRoom.{KeysMost, inner-most, Indexed, indexes-indexed}
 use Rattle.tree.specs.laws.EachLaws.{keysAtMost, each-keys, roomy-keys, each-touch, each-leaf, keys-put}
 

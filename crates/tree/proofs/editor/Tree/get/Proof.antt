@@ -1,5 +1,5 @@
 -- `tree::editor::Tree::get` meets its contract. Assumes nothing.
-use Rattle.tree.specs.laws.GetSteps.{left-of, get-lent, get-lent-same, lent-ready, lent-trusts, get-answer, get-output}
+use Rattle.tree.specs.laws.GetSteps.{left-of, get-lent, get-lent-same, lent-ready, lent-space, lent-trusts, get-answer, get-output}
 use borrow.Author.Needs.{needs}
 use Prim.Native.Nat.{_-_}
 use mathlib.Core.Path.{refl}
@@ -38,7 +38,7 @@ returns-2 c =
     let e = c .before .before .before .before .before .before .before .before .before .before .before .lent-holds .ensures in
     let n = c .before .before .before .before .before .before .before .before .before .before .if1 .left in
     let g = c .before .before .before .before .before .before .get-in in
-    (get-answer (a .image .now) (a .lent) (a .self) _ _ _ e n _ _ _ (g .ensures .0), (get-output (a .image .now) (a .lent) (a .self) _ _ _ e n _ _ _ _ (g .ensures .1 .0), left-of _ (a .lent .slots) (a .self) _ _ _ _ (g .result) (lent-ready (a .image .now) (a .lent) (a .self) _ _ _ e n) (g .ensures .1 .1)))
+    (get-answer (a .image .now) (a .lent) (a .self) _ _ _ e n _ _ _ (g .ensures .0), (get-output (a .image .now) (a .lent) (a .self) _ _ _ e n _ _ _ _ (g .ensures .1 .0), left-of (a .image .now) (a .lent) (a .self) _ _ _ _ _ _ _ (lent-ready (a .image .now) (a .lent) (a .self) _ _ _ e n) (lent-trusts (a .image .now) (a .lent) (a .self) _ _ _ e n) (lent-space (a .image .now) (a .lent) (a .self) _ _ _ e n) (g .result) (g .ensures .0) (g .ensures .1 .1)))
 
 pub get-spec : {M : Type 1} → statement M
 get-spec =
