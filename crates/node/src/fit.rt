@@ -3,10 +3,11 @@ use crate::info::BTreeInfo;
 use crate::record;
 use crate::room;
 ghost use mathlib.Core.Path.{_≡_};
+ghost use mathlib.Core.Bool.{true};
 ghost use Prim.Native.Nat.{_+_, _≤_, _<_, _^_};
 ghost use lib.ListN.{length, drop};
 ghost use Rattle.node.specs.Records.{recordLength, recordsLength, entriesOf};
-ghost use Rattle.node.specs.Fit.{Sized, fitsSums, fits};
+ghost use Rattle.node.specs.Fit.{Sized, padded, dataSpace, packedLength, fitsSums, fits};
 ghost use Rattle.node.specs.internal.SlotSteps.{lengthsOf, longerOf};
 
 // What the first records of a slot take.
@@ -73,4 +74,33 @@ pub fn fits(slot: &[u8], n: usize, info: BTreeInfo, root: bool, level: u64) -> b
 {
     let s = lengths_of(slot, n, info);
     fits_sums(info, root, level, n as u64, s.keys + s.values)
+}
+
+// Whether a root over two children fits whose keys have a and b bytes.
+pub fn fits_two(info: BTreeInfo, level: u64, a: u64, b: u64) -> bool
+    requires { ⌜ Sized info × (a < 2 ^ 20) × (b < 2 ^ 20) ⌝ }
+    ensures { λ r. ⌜ r ≡ fitsSums info true level 2 (padded info a + padded info b + (padded info 8 + padded info 8)) ⌝ }
+{
+    let left = room::padded(info, a);
+    let right = room::padded(info, b);
+    let child = room::padded(info, 8);
+    fits_sums(info, true, level, 2, left + right + (child + child))
+}
+
+// What the n entries of a slot take as packed: contents, keys and values.
+pub fn packed_length(slot: &[u8], n: usize, info: BTreeInfo, root: bool, level: u64) -> u64
+    requires { ⌜ Sized info × (recordsLength n (now slot) ≤ length (now slot)) × (length (now slot) ≤ 2 ^ 20) ⌝ }
+    ensures { λ r. ⌜ (r ≡ packedLength info root level (entriesOf n (now (slot .entry)))) × (r < 2 ^ 40) ⌝ }
+{
+    let s = lengths_of(slot, n, info);
+    let toc = room::toc_length(info, root, level, n as u64);
+    toc + (s.keys + s.values)
+}
+
+// The data space of a root.
+pub fn root_space(info: BTreeInfo) -> u64
+    requires { ⌜ Sized info ⌝ }
+    ensures { λ r. ⌜ (r ≡ dataSpace (info .«node_size») true) × (0 < r) ⌝ }
+{
+    room::data_space(info.node_size, true)
 }

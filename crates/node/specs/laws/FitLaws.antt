@@ -225,6 +225,24 @@ pub fits-is : (t : BTreeInfo) (root : Bool) (level n : ℕ) (l : List ℕ) (s : 
 unfolding fits roomOf lengthsOf
 fits-is t root level n l s r e g = rw length-entries (g ∙ rw e)
 
+-- ---- a root over two children, and what is packed
+
+pub two-small : (t : BTreeInfo) (a b x y z : ℕ) → a < 2 ^ 20 → b < 2 ^ 20 → x ≡ padded t a → y ≡ padded t b → z ≡ padded t 8 → x + y + (z + z) < 2 ^ 32
+two-small t a b x y z ha hb ex ey ez = omega (arith, padded-most t a, padded-most t b, padded-most t 8)
+
+pub two-is : (t : BTreeInfo) (level a b x y z : ℕ) (r : Bool) → x ≡ padded t a → y ≡ padded t b → z ≡ padded t 8
+    → r ≡ fitsSums t true level 2 (x + y + (z + z)) → r ≡ fitsSums t true level 2 (padded t a + padded t b + (padded t 8 + padded t 8))
+two-is t level a b x y z r ex ey ez e = e ∙ rw (ex, ey, ez)
+
+pub packed-is : (t : BTreeInfo) (root : Bool) (level n toc r : ℕ) (l : List ℕ) (s : Lengths) → s ≡ lengthsOf t n l → toc ≡ tocLength t root level n
+    → r ≡ toc + (s .keys + s .values) → r ≡ packedLength t root level (entriesOf n l)
+unfolding packedLength roomOf lengthsOf
+packed-is t root level n toc r l s e f g = rw length-entries (g ∙ rw (e, f))
+
+pub space-some : (n r : ℕ) → 512 ≤ n → r ≡ dataSpace n true → 0 < r
+unfolding dataSpace
+space-some n r h e = omega arith
+
 -- ---- what fits
 
 -- fitting as two orders, and back
