@@ -47,10 +47,6 @@ fn slots(s: &mut Session, n: u64) -> Option<String> {
 }
 
 fn map(s: &mut Session, addr: Option<u64>) -> Option<String> {
-    let blocks = s.disk.as_ref().map_or(0, |d| d.blocks());
-    if addr.is_some_and(|a| a >= blocks) {
-        return None;
-    }
     s.map = addr;
     Some(addr.map_or("(map -)".into(), |a| format!("(map {a})")))
 }
