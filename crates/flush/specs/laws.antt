@@ -2,3 +2,4 @@
 pub mod SpaceLaws
 pub mod SpaceSteps
 pub mod FlushLaws
+pub mod ReachLaws

@@ -25,17 +25,21 @@ use Rattle.node.specs.declared.fit.Lengths.{Lengths}
 use Rattle.node.specs.declared.read.Node.{Node}
 use Rattle.node.specs.declared.read.Place.{Place}
 use Rattle.node.specs.declared.read.Span.{Span}
+use Rattle.tree.specs.Lent as lend
 use Rattle.tree.specs.Lent.{isSize, sizesHold, lentOf}
-use Rattle.tree.specs.State.{State, nodeAt}
-use Rattle.tree.specs.Workspace.{stateOf, workspaceHolds}
+use Rattle.tree.specs.State.{State, nodeAt, withCounts}
+use Rattle.tree.specs.Workspace.{stateOf, workspaceHolds, edits}
 use Rattle.tree.specs.Hold.{infoHolds, lentHolds}
 use Rattle.tree.specs.Load.{addressOf}
 use Rattle.tree.specs.Lookup.{Got}
-use Rattle.tree.specs.Answers.{openedIn, gotIn, gotOutput}
+use Rattle.tree.specs.Upsert.{upsert}
+use Rattle.tree.specs.Remove.{remove}
+use Rattle.tree.specs.Omap.{omapValue, omapDrop, omapPut}
+use Rattle.tree.specs.Answers.{openedIn, gotIn, gotOutput, flooredIn, flooredOutput, rangedIn, rangedOutput}
 use Rattle.tree.specs.declared.lent.Lent.{Lent}
 use Rattle.tree.specs.declared.editor.Tree.{Tree}
 use Rattle.flush.specs.Space.{Space, Choice, firstZero, isUsed, markUsed, firstFree, zeros, choose, allocated, usable, chunksHold, spaceHolds}
-use Rattle.history.specs.Cases.{same, number, outcome, tree512, pairs, children, rootOf, versions}
+use Rattle.history.specs.Cases.{same, number, outcome, tree512, pairs, children, rootOf, onTree, versions}
 
 -- a row: the contract, what its definition gives, what that is, and two answers that are wrong
 pub record Row : Type 0 where
@@ -145,6 +149,44 @@ gotAs r = outcome (λ g. valueAs (g .answer)) r
 -- get of a key in the leaf, with so much room for its value
 unfoldable pub got : ℕ → List ℕ → Result (Got Val)
 got room k = gotIn (lentOf image lent) (tree byte) heads bytes room k
+
+-- the same tree with its two entries counted
+unfoldable pub counted : Tree
+counted = record { root = 0; used = 1; info = withCounts loose 2 1; «by_id» = false; subtype = 11; order = byte; xid = 2 }
+
+-- what floor and range find: a refusal; or 0, and the records of what was found
+unfoldable pub foundAs : Result (Got Entry) → List ℕ
+foundAs r = outcome (λ g. recordsOf (g .answer)) r
+
+-- floor of a key in the leaf, range from one to another, with so much room for records
+unfoldable pub floored : ℕ → List ℕ → Result (Got Entry)
+floored room k = flooredIn (lentOf image lent) (tree byte) heads bytes room k
+
+unfoldable pub ranged : ℕ → List ℕ → List ℕ → Result (Got Entry)
+ranged room lo hi = rangedIn (lentOf image lent) (tree byte) heads bytes room lo hi
+
+unfoldable pub entry : List ℕ → Val → Entry
+entry k v = record { key = k; value = v }
+
+-- an edit of the leaf, with so many bytes of scratch: its refusal; or 0, the key count, and the root's records
+unfoldable pub edited : ℕ → Tree → List ℕ → (State → Result State) → List ℕ
+edited n t hs f = editedAs (edits 512 1 t hs bytes (replicate n 0) f)
+  where
+    editedAs : Result State → List ℕ
+    editedAs r = outcome (λ s. s .info .«key_count» ∷ recordsOf (nodeAt s (s .root) .entries)) r
+
+unfoldable pub upserts : List ℕ → Val → State → Result State
+upserts k v s = upsert (lentOf image lent) s k v
+
+-- a remove of a key of the leaf: its refusal; or 0, whether it was there, the key count, and the root's records
+unfoldable pub removed : Tree → List ℕ → List ℕ
+removed t k =
+    outcome (λ r. number (r .present) ∷ r .state .info .«key_count» ∷ recordsOf (nodeAt (r .state) (r .state .root) .entries))
+    (edits 512 1 t heads bytes (replicate 2048 0) (λ s. remove (lentOf image lent) s k))
+
+-- an edit of an object map with two versions of id 5
+unfoldable pub mapEdited : ℕ → ℕ → (lend.Lent → State → Result State) → List ℕ
+mapEdited o k f = onTree (tree512 k k) o versions (λ l s. outcome (λ u. u .info .«key_count» ∷ recordsOf (nodeAt u (u .root) .entries)) (f l s))
 
 -- one chunk of 16 blocks, of which block 9 is free
 unfoldable pub space : Space
@@ -697,6 +739,95 @@ treeRows =
     }
     ∷ []
 
+-- ---- tree: the other calls
+
+unfoldable pub callRows : List Row
+callRows =
+    record {
+      contract = "Tree::floor: between two keys, at a ghost's key, below every key";
+      gives = foundAs (floored 7 (2 ∷ [])) ++ foundAs (floored 7 (3 ∷ [])) ++ foundAs (floored 7 (1 ∷ []));
+      right = 0 ∷ 2 ∷ 0 ∷ 1 ∷ 0 ∷ 1 ∷ 2 ∷ 9 ∷ 0 ∷ 1 ∷ 0 ∷ 255 ∷ 255 ∷ 3 ∷ 0 ∷ [];
+      wrong = 0 ∷ 1 ∷ 0 ∷ 255 ∷ 255 ∷ 3 ∷ 0 ∷ 1 ∷ 0 ∷ 255 ∷ 255 ∷ 3 ∷ 0 ∷ [];
+      wrong′ = 0 ∷ 2 ∷ 0 ∷ 1 ∷ 0 ∷ 1 ∷ 2 ∷ 9 ∷ 0 ∷ 2 ∷ 0 ∷ 1 ∷ 0 ∷ 1 ∷ 2 ∷ 9 ∷ 0 ∷ [];
+    }
+    ∷ record {
+      contract = "Tree::floor: no room; none needs none; a dirty mark of 2; a key that pair order cannot hold";
+      gives = foundAs (floored 6 (2 ∷ [])) ++ foundAs (floored 0 (1 ∷ []))
+          ++ foundAs (flooredIn (lentOf image lent) (tree byte) unmarked bytes 0 (2 ∷ []))
+          ++ foundAs (flooredIn (lentOf image lent) (tree pair) empty bytes 7 (2 ∷ []));
+      right = 20 ∷ 0 ∷ 1 ∷ 12 ∷ [];
+      wrong = 20 ∷ 20 ∷ 1 ∷ 12 ∷ [];
+      wrong′ = 20 ∷ 0 ∷ 20 ∷ 12 ∷ [];
+    }
+    ∷ record {
+      contract = "Tree::floor: the output of an entry and of a refusal";
+      gives = flooredOutput (replicate 8 5) (floored 8 (2 ∷ [])) ++ flooredOutput (5 ∷ 6 ∷ []) (floored 2 (2 ∷ []));
+      right = 2 ∷ 0 ∷ 1 ∷ 0 ∷ 1 ∷ 2 ∷ 9 ∷ 5 ∷ 5 ∷ 6 ∷ [];
+      wrong = 2 ∷ 0 ∷ 1 ∷ 0 ∷ 1 ∷ 2 ∷ 9 ∷ 0 ∷ 5 ∷ 6 ∷ [];
+      wrong′ = 2 ∷ 0 ∷ 1 ∷ 0 ∷ 1 ∷ 2 ∷ 9 ∷ 5 ∷ 2 ∷ 0 ∷ [];
+    }
+    ∷ record {
+      contract = "Tree::range: without its upper end; all; an upper end below; no room";
+      gives = foundAs (ranged 7 (1 ∷ 2 ∷ []) (3 ∷ []))
+          ++ foundAs (ranged 12 (0 ∷ []) (9 ∷ []))
+          ++ foundAs (ranged 12 (9 ∷ []) (0 ∷ []))
+          ++ foundAs (ranged 11 (0 ∷ []) (9 ∷ []));
+      right = (0 ∷ recordsOf (entry (1 ∷ 2 ∷ []) (leaf (9 ∷ [])) ∷ [])) ++ (0 ∷ recordsOf two) ++ (0 ∷ []) ++ 20 ∷ [];
+      wrong = (0 ∷ recordsOf two) ++ (0 ∷ recordsOf two) ++ (0 ∷ []) ++ 20 ∷ [];
+      wrong′ = (0 ∷ recordsOf (entry (1 ∷ 2 ∷ []) (leaf (9 ∷ [])) ∷ [])) ++ (0 ∷ recordsOf two) ++ (0 ∷ recordsOf two) ++ 20 ∷ [];
+    }
+    ∷ record {
+      contract = "Tree::range: the output of an entry and of a refusal";
+      gives = rangedOutput (replicate 8 5) (ranged 8 (1 ∷ 2 ∷ []) (3 ∷ [])) ++ rangedOutput (5 ∷ 6 ∷ []) (ranged 2 (1 ∷ 2 ∷ []) (3 ∷ []));
+      right = 2 ∷ 0 ∷ 1 ∷ 0 ∷ 1 ∷ 2 ∷ 9 ∷ 5 ∷ 5 ∷ 6 ∷ [];
+      wrong = 2 ∷ 0 ∷ 1 ∷ 0 ∷ 1 ∷ 2 ∷ 9 ∷ 0 ∷ 5 ∷ 6 ∷ [];
+      wrong′ = 2 ∷ 0 ∷ 1 ∷ 0 ∷ 1 ∷ 2 ∷ 9 ∷ 5 ∷ 2 ∷ 0 ∷ [];
+    }
+    ∷ record {
+      contract = "Tree::upsert: a new key in its place";
+      gives = edited 2048 counted heads (upserts (2 ∷ []) (leaf (8 ∷ [])));
+      right = 0 ∷ 3 ∷ recordsOf (entry (1 ∷ 2 ∷ []) (leaf (9 ∷ [])) ∷ entry (2 ∷ []) (leaf (8 ∷ [])) ∷ entry (3 ∷ []) ghost ∷ []);
+      wrong = 0 ∷ 3 ∷ recordsOf (entry (1 ∷ 2 ∷ []) (leaf (9 ∷ [])) ∷ entry (3 ∷ []) ghost ∷ entry (2 ∷ []) (leaf (8 ∷ [])) ∷ []);
+      wrong′ = 0 ∷ 2 ∷ recordsOf (entry (1 ∷ 2 ∷ []) (leaf (9 ∷ [])) ∷ entry (2 ∷ []) (leaf (8 ∷ [])) ∷ entry (3 ∷ []) ghost ∷ []);
+    }
+    ∷ record {
+      contract = "Tree::upsert: a key that is there";
+      gives = edited 2048 counted heads (upserts (1 ∷ 2 ∷ []) (leaf (8 ∷ 8 ∷ [])));
+      right = 0 ∷ 2 ∷ recordsOf (entry (1 ∷ 2 ∷ []) (leaf (8 ∷ 8 ∷ [])) ∷ entry (3 ∷ []) ghost ∷ []);
+      wrong = 0 ∷ 3 ∷ recordsOf (entry (1 ∷ 2 ∷ []) (leaf (8 ∷ 8 ∷ [])) ∷ entry (3 ∷ []) ghost ∷ []);
+      wrong′ = 0 ∷ 2 ∷ recordsOf two;
+    }
+    ∷ record {
+      contract = "Tree::upsert: a scratch too short; a dirty mark of 2; a key that pair order cannot hold; an entry too large beside others";
+      gives = edited 2047 counted heads (upserts (2 ∷ []) ghost) ++ edited 2048 counted unmarked (upserts (2 ∷ []) ghost)
+          ++ edited 2048 (tree pair) empty (upserts (2 ∷ []) ghost) ++ edited 2048 counted heads (upserts (2 ∷ []) (leaf (replicate 600 0)));
+      right = 1 ∷ 1 ∷ 12 ∷ 14 ∷ [];
+      wrong = 1 ∷ 1 ∷ 12 ∷ 13 ∷ [];
+      wrong′ = 1 ∷ 12 ∷ 12 ∷ 14 ∷ [];
+    }
+    ∷ record {
+      contract = "Tree::remove: a key that is there, one that is not; none is counted";
+      gives = removed counted (1 ∷ 2 ∷ []) ++ removed counted (2 ∷ []) ++ removed (tree byte) (1 ∷ 2 ∷ []);
+      right = (0 ∷ 1 ∷ 1 ∷ recordsOf (entry (3 ∷ []) ghost ∷ [])) ++ (0 ∷ 0 ∷ 2 ∷ recordsOf two) ++ 17 ∷ [];
+      wrong = (0 ∷ 1 ∷ 1 ∷ recordsOf (entry (1 ∷ 2 ∷ []) (leaf (9 ∷ [])) ∷ [])) ++ (0 ∷ 0 ∷ 2 ∷ recordsOf two) ++ 17 ∷ [];
+      wrong′ = (0 ∷ 1 ∷ 1 ∷ recordsOf (entry (3 ∷ []) ghost ∷ [])) ++ (0 ∷ 1 ∷ 2 ∷ recordsOf two) ++ 17 ∷ [];
+    }
+    ∷ record {
+      contract = "Tree::omap_drop: every version of an id; an id that has none; a tree that is no object map";
+      gives = mapEdited pair 16 (λ l s. omapDrop l s 5) ++ mapEdited pair 16 (λ l s. omapDrop l s 4) ++ mapEdited byte 16 (λ l s. omapDrop l s 5);
+      right = (0 ∷ 0 ∷ []) ++ (0 ∷ 2 ∷ recordsOf versions) ++ 12 ∷ [];
+      wrong = (0 ∷ 1 ∷ recordsOf (drop 1 versions)) ++ (0 ∷ 2 ∷ recordsOf versions) ++ 12 ∷ [];
+      wrong′ = (0 ∷ 0 ∷ []) ++ (0 ∷ 0 ∷ []) ++ 12 ∷ [];
+    }
+    ∷ record {
+      contract = "Tree::omap_put: its version, and no other";
+      gives = mapEdited pair 16 (λ l s. omapPut l s 5 10 7 512);
+      right = 0 ∷ 1 ∷ recordsOf (entry (pairKey 5 10) (leaf (omapValue 512 7)) ∷ []);
+      wrong = 0 ∷ 3 ∷ recordsOf (versions ++ entry (pairKey 5 10) (leaf (omapValue 512 7)) ∷ []);
+      wrong′ = 0 ∷ 1 ∷ recordsOf (entry (pairKey 5 10) (leaf (omapValue 7 512)) ∷ []);
+    }
+    ∷ []
+
 -- ---- flush: blocks
 
 unfoldable pub spaceRows : List Row
@@ -757,4 +888,4 @@ spaceRows =
     ∷ []
 
 unfoldable pub table : List Row
-table = sealRows ++ orderRows ++ recordRows ++ fitRows ++ blockRows ++ treeRows ++ spaceRows
+table = sealRows ++ orderRows ++ recordRows ++ fitRows ++ blockRows ++ treeRows ++ callRows ++ spaceRows

@@ -74,3 +74,13 @@ unfoldable pub called : {A : Type 0} → ℕ → ℕ → Tree → List ℕ → L
 called size slots t heads bytes f = do
   check refusal.lent (workspaceHolds size slots (t .used) heads bytes)
   f (stateOf size t heads bytes)
+
+-- 1: the scratch of an edit, two blocks' worth for a key on its way from slot to slot, and two a slot for what a drop removes
+unfoldable pub scratchHolds : ℕ → ℕ → List ℕ → Bool
+scratchHolds size slots scratch = eqb (length scratch) ((2 * slots + 2) * size)
+
+-- an edit on lent words, bytes and scratch: 1 of the scratch, then as every call
+unfoldable pub edits : {A : Type 0} → ℕ → ℕ → Tree → List ℕ → List ℕ → List ℕ → (State → Result A) → Result A
+edits size slots t heads bytes scratch f = do
+  check refusal.lent (scratchHolds size slots scratch)
+  called size slots t heads bytes f

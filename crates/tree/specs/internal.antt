@@ -12,3 +12,12 @@ pub mod Brought
 pub mod Writers
 pub mod Index
 pub mod Room
+pub mod Edits
+pub mod Dropping
+pub mod Found
+pub mod Reach
+pub mod Cutting
+pub mod Range
+pub mod Floor
+pub mod Upserting
+pub mod Removing

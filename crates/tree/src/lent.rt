@@ -10,7 +10,7 @@ ghost use Prim.Native.Nat.{ℕ, _≤_};
 ghost use lib.Dec.{eqb};
 ghost use Rattle.tree.specs.Lent.{isSize, sizesHold, lentOf};
 ghost use Rattle.tree.specs.Hold.{infoHolds, numbersHold, lentHolds};
-ghost use Rattle.tree.specs.Workspace.{stateOf, workspaceHolds};
+ghost use Rattle.tree.specs.Workspace.{stateOf, workspaceHolds, scratchHolds};
 ghost use Rattle.tree.specs.internal.Holding.{roomHolds};
 
 // Blocks of an image, and slots: at most.
@@ -167,4 +167,23 @@ pub fn lent_holds(t: Tree, image: &[u8], heads: &[u64], bytes: &[u8], lent: Lent
         return false;
     }
     hold::hold_together(t, heads, bytes, lent.size, lent.slots)
+}
+
+// 1, of an edit: also the scratch, for a key on its way from slot to slot and for what a drop removes.
+pub fn edit_holds(
+    t: Tree,
+    image: &[u8],
+    heads: &[u64],
+    bytes: &[u8],
+    scratch: &[u8],
+    lent: Lent,
+) -> bool
+    ensures { λ r. ⌜ r ≡ (workspaceHolds (lent .size) (lent .slots) (t .used) (now (heads .entry)) (now (bytes .entry))
+        && lentHolds (lentOf (now (image .entry)) lent) (stateOf (lent .size) t (now (heads .entry)) (now (bytes .entry))))
+        && scratchHolds (lent .size) (lent .slots) (now (scratch .entry)) ⌝ }
+{
+    if !lent_holds(t, image, heads, bytes, lent) {
+        return false;
+    }
+    scratch.len() == (2 * lent.slots + 2) * lent.size
 }

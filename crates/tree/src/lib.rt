@@ -1,12 +1,20 @@
 // Editing one tree: what is lent, loading, lookups, edits, the object map.
 pub mod bank;
+pub mod cuts;
 pub mod edit;
+pub mod edited;
 pub mod editor;
+pub mod floor;
+pub mod found;
 pub mod get;
 pub mod hold;
 pub mod lent;
 pub mod lookup;
 pub mod map;
+pub mod omap;
+pub mod range;
+pub mod remove;
 pub mod undo;
+pub mod upsert;
 pub mod way;
 pub mod writers;

@@ -36,7 +36,7 @@ pub struct Way {
 }
 
 impl Tree {
-    fn way_index(
+    pub fn way_index(
         self,
         heads: &[u64],
         bytes: &[u8],

@@ -4,7 +4,7 @@ use crate::undo;
 use node::head::Head;
 use node::slot;
 ghost use mathlib.Core.Path.{_≡_};
-ghost use mathlib.Core.Bool.{true, false, cond};
+ghost use mathlib.Core.Bool.{false, cond};
 ghost use Prim.Native.Nat.{_+_, _*_, _≤_, _<_, _^_};
 ghost use lib.ListN.{length};
 ghost use Rattle.node.specs.Bytes.{splice};
@@ -88,14 +88,24 @@ pub fn insert_at(
     requires stored { ⌜ (length (now key) < 2 ^ 16) × (mark < 2 ^ 16) × (markLength mark ≡ length (now value)) ⌝ }
     ensures put { λ _. ⌜ Put size slots (now (heads .entry)) (now (bytes .entry)) (now (heads .exit)) (now (bytes .exit)) n
         (edited dirty (nodeIn size (now (heads .entry)) (now (bytes .entry)) n)
-        (insertAt i (record { key = now (key .entry); value = valueOf mark (now (value .entry)) }) (nodeIn size (now (heads .entry)) (now (bytes .entry)) n .entries))) ⌝ }
+        (insertAt i (record { key = now (key .entry); value = valueOf mark (now (value .entry)) })
+        (nodeIn size (now (heads .entry)) (now (bytes .entry)) n .entries))) ⌝ }
     ensures follows { λ _. ⌜ Follows size slots used (now (heads .entry)) (now (bytes .entry)) (now (heads .exit)) (now (bytes .exit)) ⌝ }
 {
     undo::save(heads, bytes, size, slots, used, n);
     let h = bank::live_at(heads, n);
     let a = n * (bank::SLOT_BLOCKS * size);
     let e = a + bank::SLOT_BLOCKS * size;
-    let more = slot::insert(&mut bytes[a..e], h.count, i, h.used as usize, at, key, mark, value);
+    let more = slot::insert(
+        &mut bytes[a..e],
+        h.count,
+        i,
+        h.used as usize,
+        at,
+        key,
+        mark,
+        value,
+    );
     recount(heads, n, h.count + 1, more as u64, dirty);
 }
 
@@ -185,6 +195,14 @@ pub fn revalue_at(
     let h = bank::live_at(heads, n);
     let a = n * (bank::SLOT_BLOCKS * size);
     let e = a + bank::SLOT_BLOCKS * size;
-    let more = slot::set_value(&mut bytes[a..e], h.count, i, h.used as usize, at, mark, value);
+    let more = slot::set_value(
+        &mut bytes[a..e],
+        h.count,
+        i,
+        h.used as usize,
+        at,
+        mark,
+        value,
+    );
     recount(heads, n, h.count, more as u64, dirty);
 }

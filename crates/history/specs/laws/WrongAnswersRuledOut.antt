@@ -14,19 +14,22 @@ unfolding Rattle.history.specs.WrongAnswers.eight Rattle.history.specs
     Rattle.history.specs.WrongAnswers.bytes Rattle.history.specs.WrongAnswers.unmarked Rattle.history.specs.WrongAnswers.empty
     Rattle.history.specs.WrongAnswers.openedAs Rattle.history.specs.WrongAnswers.addressAs Rattle.history.specs.WrongAnswers.heldAs
     Rattle.history.specs.WrongAnswers.valueAs Rattle.history.specs.WrongAnswers.gotAs Rattle.history.specs.WrongAnswers.got
+    Rattle.history.specs.WrongAnswers.counted Rattle.history.specs.WrongAnswers.foundAs Rattle.history.specs.WrongAnswers.floored
+    Rattle.history.specs.WrongAnswers.ranged Rattle.history.specs.WrongAnswers.entry Rattle.history.specs.WrongAnswers.edited
+    Rattle.history.specs.WrongAnswers.upserts Rattle.history.specs.WrongAnswers.removed Rattle.history.specs.WrongAnswers.mapEdited
     Rattle.history.specs.WrongAnswers.space Rattle.history.specs.WrongAnswers.chosen Rattle.history.specs.WrongAnswers.sealRows
     Rattle.history.specs.WrongAnswers.orderRows Rattle.history.specs.WrongAnswers.recordRows
     Rattle.history.specs.WrongAnswers.fitRows Rattle.history.specs.WrongAnswers.blockRows Rattle.history.specs.WrongAnswers.treeRows
-    Rattle.history.specs.WrongAnswers.spaceRows Rattle.history.specs.WrongAnswers.table Rattle.seal.specs.Bytes.window
-    Rattle.seal.specs.Bytes.splice Rattle.seal.specs.Bytes.moved Rattle.seal.specs.Bytes.le Rattle.seal.specs.Bytes.bytesOf
-    Rattle.seal.specs.Bytes.fieldAt Rattle.seal.specs.Checksum.words Rattle.seal.specs.Checksum.s1 Rattle.seal.specs.Checksum.s2
-    Rattle.seal.specs.Checksum.storedFor Rattle.seal.specs.Checksum.fletcher Rattle.seal.specs.Checksum.verified Rattle.seal.specs.Checksum.sealed
-    Rattle.seal.specs.Obj.headerBytes Rattle.node.specs.Order.known Rattle.node.specs.Order.keyedLength Rattle.node.specs.Order.keyed
-    Rattle.node.specs.Order.pairKey Rattle.node.specs.Order.pairLess Rattle.node.specs.Order.byteLess Rattle.node.specs.Order.less
-    Rattle.node.specs.Order.sameKey Rattle.node.specs.Entry.valueLength Rattle.node.specs.Entry.riseAfter Rattle.node.specs.Entry.rising
-    Rattle.node.specs.Entry.every Rattle.node.specs.Entry.valueBytes Rattle.node.specs.Records.markOf Rattle.node.specs.Records.recordBytes
-    Rattle.node.specs.Records.recordOf Rattle.node.specs.Records.recordsOf Rattle.node.specs.Records.markLength Rattle.node.specs.Records.valueOf
-    Rattle.node.specs.Records.recordLength Rattle.node.specs.Records.entryOf Rattle.node.specs.Records.recordsLength
+    Rattle.history.specs.WrongAnswers.callRows Rattle.history.specs.WrongAnswers.spaceRows Rattle.history.specs.WrongAnswers.table
+    Rattle.seal.specs.Bytes.window Rattle.seal.specs.Bytes.splice Rattle.seal.specs.Bytes.moved Rattle.seal.specs.Bytes.le
+    Rattle.seal.specs.Bytes.bytesOf Rattle.seal.specs.Bytes.fieldAt Rattle.seal.specs.Checksum.words Rattle.seal.specs.Checksum.s1
+    Rattle.seal.specs.Checksum.s2 Rattle.seal.specs.Checksum.storedFor Rattle.seal.specs.Checksum.fletcher Rattle.seal.specs.Checksum.verified
+    Rattle.seal.specs.Checksum.sealed Rattle.seal.specs.Obj.headerBytes Rattle.node.specs.Order.known Rattle.node.specs.Order.keyedLength
+    Rattle.node.specs.Order.keyed Rattle.node.specs.Order.pairKey Rattle.node.specs.Order.pairLess Rattle.node.specs.Order.byteLess
+    Rattle.node.specs.Order.less Rattle.node.specs.Order.sameKey Rattle.node.specs.Entry.valueLength Rattle.node.specs.Entry.riseAfter
+    Rattle.node.specs.Entry.rising Rattle.node.specs.Entry.every Rattle.node.specs.Entry.valueBytes Rattle.node.specs.Records.markOf
+    Rattle.node.specs.Records.recordBytes Rattle.node.specs.Records.recordOf Rattle.node.specs.Records.recordsOf Rattle.node.specs.Records.markLength
+    Rattle.node.specs.Records.valueOf Rattle.node.specs.Records.recordLength Rattle.node.specs.Records.entryOf Rattle.node.specs.Records.recordsLength
     Rattle.node.specs.Records.entriesOf Rattle.node.specs.Find.placeOf Rattle.node.specs.Find.isThere Rattle.node.specs.Find.notAbove
     Rattle.node.specs.Find.wayIndex Rattle.node.specs.Find.lastNotAbove Rattle.node.specs.Find.lastOf Rattle.node.specs.Find.keyAt
     Rattle.node.specs.Find.valAt Rattle.node.specs.Fit.flag Rattle.node.specs.Fit.align8 Rattle.node.specs.Fit.greater Rattle.node.specs.Fit.padded
@@ -61,39 +64,46 @@ unfolding Rattle.history.specs.WrongAnswers.eight Rattle.history.specs
     Rattle.tree.specs.State.withPlace Rattle.tree.specs.State.withLevel Rattle.tree.specs.State.made Rattle.tree.specs.Workspace.slotBytes
     Rattle.tree.specs.Workspace.nodesFrom Rattle.tree.specs.Workspace.nodesOf Rattle.tree.specs.Workspace.stateOf
     Rattle.tree.specs.Workspace.slotHolds Rattle.tree.specs.Workspace.slotsHold Rattle.tree.specs.Workspace.workspaceHolds
-    Rattle.tree.specs.Workspace.called Rattle.tree.specs.Hold.keyFits Rattle.tree.specs.Hold.valueFits Rattle.tree.specs.Hold.childHolds
-    Rattle.tree.specs.Hold.standsOnDisk Rattle.tree.specs.Hold.nodeStands Rattle.tree.specs.Hold.nodeHolds Rattle.tree.specs.Hold.everyLive
-    Rattle.tree.specs.Hold.naming Rattle.tree.specs.Hold.named Rattle.tree.specs.Hold.namedOnce Rattle.tree.specs.Hold.holdTogether
-    Rattle.tree.specs.Hold.infoHolds Rattle.tree.specs.Hold.numbersHold Rattle.tree.specs.Hold.lentHolds Rattle.tree.specs.Load.unbounded
-    Rattle.tree.specs.Load.boundKey Rattle.tree.specs.Load.tighterLower Rattle.tree.specs.Load.tighterUpper Rattle.tree.specs.Load.childBounds
-    Rattle.tree.specs.Load.loadBlock Rattle.tree.specs.Load.rootPlace Rattle.tree.specs.Load.childPlace Rattle.tree.specs.Load.storageClass
-    Rattle.tree.specs.Load.rootHolds Rattle.tree.specs.Load.diskNumber Rattle.tree.specs.Load.mapChild Rattle.tree.specs.Load.mapLast
-    Rattle.tree.specs.Load.orElse Rattle.tree.specs.Load.mapFloor Rattle.tree.specs.Load.mapping Rattle.tree.specs.Load.mapRootHolds
-    Rattle.tree.specs.Load.mapAddress Rattle.tree.specs.Load.addressOf Rattle.tree.specs.Load.adopted Rattle.tree.specs.Load.loadChild
-    Rattle.tree.specs.Lookup.openedAt Rattle.tree.specs.Lookup.opened Rattle.tree.specs.Lookup.above Rattle.tree.specs.Lookup.wayFrom
-    Rattle.tree.specs.Lookup.way Rattle.tree.specs.Lookup.leafOf Rattle.tree.specs.Lookup.held Rattle.tree.specs.Lookup.gotLength
-    Rattle.tree.specs.Lookup.getIn Rattle.tree.specs.Lookup.get Rattle.tree.specs.Lookup.lastFrom Rattle.tree.specs.Lookup.floorFrom
-    Rattle.tree.specs.Lookup.floorIn Rattle.tree.specs.Lookup.floor Rattle.tree.specs.Lookup.endsAbove Rattle.tree.specs.Lookup.between
-    Rattle.tree.specs.Lookup.rangeEnters Rattle.tree.specs.Lookup.rangeKids Rattle.tree.specs.Lookup.rangeFrom Rattle.tree.specs.Lookup.rangeIn
-    Rattle.tree.specs.Lookup.range Rattle.tree.specs.Answers.openedOf Rattle.tree.specs.Answers.openedIn Rattle.tree.specs.Answers.gotMeans
-    Rattle.tree.specs.Answers.gotIn Rattle.tree.specs.Answers.gotBytes Rattle.tree.specs.Answers.gotOutput Rattle.flush.specs.Space.chunkBlocks
-    Rattle.flush.specs.Space.isUsed Rattle.flush.specs.Space.markUsed Rattle.flush.specs.Space.onesBelow Rattle.flush.specs.Space.firstZero
-    Rattle.flush.specs.Space.firstFree Rattle.flush.specs.Space.zerosBelow Rattle.flush.specs.Space.zeros Rattle.flush.specs.Space.chooseFrom
-    Rattle.flush.specs.Space.choose Rattle.flush.specs.Space.taken Rattle.flush.specs.Space.allocated Rattle.flush.specs.Space.lesser
-    Rattle.flush.specs.Space.usableFrom Rattle.flush.specs.Space.usable Rattle.flush.specs.Space.chunksHold Rattle.flush.specs.Space.spaceHolds
-    Rattle.history.specs.Cases.number Rattle.history.specs.Cases.outcome Rattle.history.specs.Cases.tree512
-    Rattle.history.specs.Cases.pairs Rattle.history.specs.Cases.children Rattle.history.specs.Cases.rootOf
-    Rattle.history.specs.Cases.lent512 Rattle.history.specs.Cases.onTree Rattle.history.specs.Cases.counts
-    Rattle.history.specs.Cases.sizes Rattle.history.specs.Cases.twoLeaves Rattle.history.specs.Cases.key8
-    Rattle.history.specs.Cases.variable8 Rattle.history.specs.Cases.versions Rattle.history.specs.Cases.listing
-    Rattle.history.specs.Cases.table Rattle.tree.specs.Upsert.putEntry Rattle.tree.specs.Upsert.grownLongest Rattle.tree.specs.Upsert.putInLeaf
-    Rattle.tree.specs.Upsert.upsertOn Rattle.tree.specs.Upsert.entryFits Rattle.tree.specs.Upsert.upserted Rattle.tree.specs.Upsert.upsertIn
-    Rattle.tree.specs.Upsert.upsert Rattle.tree.specs.Remove.dropNode Rattle.tree.specs.Remove.dropEmptied Rattle.tree.specs.Remove.leveledRoot
-    Rattle.tree.specs.Remove.handedDown Rattle.tree.specs.Remove.hasOnlyChild Rattle.tree.specs.Remove.rootTaken Rattle.tree.specs.Remove.handDown
-    Rattle.tree.specs.Remove.takeFromLeaf Rattle.tree.specs.Remove.shrunkOn Rattle.tree.specs.Remove.removeOn Rattle.tree.specs.Remove.removed
-    Rattle.tree.specs.Remove.removeIn Rattle.tree.specs.Remove.remove Rattle.tree.specs.Omap.isOmap Rattle.tree.specs.Omap.versionsEnd
-    Rattle.tree.specs.Omap.removeAll Rattle.tree.specs.Omap.dropped Rattle.tree.specs.Omap.omapValue Rattle.tree.specs.Omap.omapDropIn
-    Rattle.tree.specs.Omap.omapDrop Rattle.tree.specs.Omap.omapPutIn Rattle.tree.specs.Omap.omapPut Rattle.flush.specs.Flush.slotNumber
+    Rattle.tree.specs.Workspace.called Rattle.tree.specs.Workspace.scratchHolds Rattle.tree.specs.Workspace.edits Rattle.tree.specs.Hold.keyFits
+    Rattle.tree.specs.Hold.valueFits Rattle.tree.specs.Hold.childHolds Rattle.tree.specs.Hold.standsOnDisk Rattle.tree.specs.Hold.nodeStands
+    Rattle.tree.specs.Hold.nodeHolds Rattle.tree.specs.Hold.everyLive Rattle.tree.specs.Hold.naming Rattle.tree.specs.Hold.named
+    Rattle.tree.specs.Hold.namedOnce Rattle.tree.specs.Hold.holdTogether Rattle.tree.specs.Hold.infoHolds Rattle.tree.specs.Hold.numbersHold
+    Rattle.tree.specs.Hold.lentHolds Rattle.tree.specs.Load.unbounded Rattle.tree.specs.Load.boundKey Rattle.tree.specs.Load.tighterLower
+    Rattle.tree.specs.Load.tighterUpper Rattle.tree.specs.Load.childBounds Rattle.tree.specs.Load.loadBlock Rattle.tree.specs.Load.rootPlace
+    Rattle.tree.specs.Load.childPlace Rattle.tree.specs.Load.storageClass Rattle.tree.specs.Load.rootHolds Rattle.tree.specs.Load.diskNumber
+    Rattle.tree.specs.Load.mapChild Rattle.tree.specs.Load.mapLast Rattle.tree.specs.Load.orElse Rattle.tree.specs.Load.mapFloor
+    Rattle.tree.specs.Load.mapping Rattle.tree.specs.Load.mapRootHolds Rattle.tree.specs.Load.mapAddress Rattle.tree.specs.Load.addressOf
+    Rattle.tree.specs.Load.adopted Rattle.tree.specs.Load.loadChild Rattle.tree.specs.Lookup.openedAt Rattle.tree.specs.Lookup.opened
+    Rattle.tree.specs.Lookup.above Rattle.tree.specs.Lookup.wayFrom Rattle.tree.specs.Lookup.way Rattle.tree.specs.Lookup.leafOf
+    Rattle.tree.specs.Lookup.held Rattle.tree.specs.Lookup.gotLength Rattle.tree.specs.Lookup.getIn Rattle.tree.specs.Lookup.get
+    Rattle.tree.specs.Lookup.lastFrom Rattle.tree.specs.Lookup.floorFrom Rattle.tree.specs.Lookup.floorIn Rattle.tree.specs.Lookup.floor
+    Rattle.tree.specs.Lookup.endsAbove Rattle.tree.specs.Lookup.between Rattle.tree.specs.Lookup.rangeEnters Rattle.tree.specs.Lookup.rangeKids
+    Rattle.tree.specs.Lookup.rangeFrom Rattle.tree.specs.Lookup.rangeIn Rattle.tree.specs.Lookup.range Rattle.tree.specs.Upsert.putEntry
+    Rattle.tree.specs.Upsert.grownLongest Rattle.tree.specs.Upsert.putInLeaf Rattle.tree.specs.Upsert.upsertOn Rattle.tree.specs.Upsert.entryFits
+    Rattle.tree.specs.Upsert.upserted Rattle.tree.specs.Upsert.upsertIn Rattle.tree.specs.Upsert.upsert Rattle.tree.specs.Remove.dropNode
+    Rattle.tree.specs.Remove.dropEmptied Rattle.tree.specs.Remove.leveledRoot Rattle.tree.specs.Remove.handedDown
+    Rattle.tree.specs.Remove.hasOnlyChild Rattle.tree.specs.Remove.rootTaken Rattle.tree.specs.Remove.handDown Rattle.tree.specs.Remove.takeFromLeaf
+    Rattle.tree.specs.Remove.shrunkOn Rattle.tree.specs.Remove.removeOn Rattle.tree.specs.Remove.removed Rattle.tree.specs.Remove.removeIn
+    Rattle.tree.specs.Remove.remove Rattle.tree.specs.Omap.isOmap Rattle.tree.specs.Omap.versionsEnd Rattle.tree.specs.Omap.removeAll
+    Rattle.tree.specs.Omap.dropped Rattle.tree.specs.Omap.omapValue Rattle.tree.specs.Omap.omapDropIn Rattle.tree.specs.Omap.omapDrop
+    Rattle.tree.specs.Omap.omapPutIn Rattle.tree.specs.Omap.omapPut Rattle.tree.specs.Answers.openedOf Rattle.tree.specs.Answers.openedIn
+    Rattle.tree.specs.Answers.gotMeans Rattle.tree.specs.Answers.gotIn Rattle.tree.specs.Answers.gotBytes Rattle.tree.specs.Answers.gotOutput
+    Rattle.tree.specs.Answers.floorMeans Rattle.tree.specs.Answers.flooredIn Rattle.tree.specs.Answers.flooredOutput
+    Rattle.tree.specs.Answers.rangeMeans Rattle.tree.specs.Answers.rangedIn Rattle.tree.specs.Answers.rangedOutput Rattle.tree.specs.Answers.putValue
+    Rattle.tree.specs.Answers.editedOf Rattle.tree.specs.Answers.removedOf Rattle.flush.specs.Space.chunkBlocks Rattle.flush.specs.Space.isUsed
+    Rattle.flush.specs.Space.markUsed Rattle.flush.specs.Space.onesBelow Rattle.flush.specs.Space.firstZero Rattle.flush.specs.Space.firstFree
+    Rattle.flush.specs.Space.zerosBelow Rattle.flush.specs.Space.zeros Rattle.flush.specs.Space.chooseFrom Rattle.flush.specs.Space.choose
+    Rattle.flush.specs.Space.taken Rattle.flush.specs.Space.allocated Rattle.flush.specs.Space.lesser Rattle.flush.specs.Space.usableFrom
+    Rattle.flush.specs.Space.usable Rattle.flush.specs.Space.chunksHold Rattle.flush.specs.Space.spaceHolds Rattle.history.specs.Cases.number
+    Rattle.history.specs.Cases.outcome Rattle.history.specs.Cases.tree512 Rattle.history.specs.Cases.pairs
+    Rattle.history.specs.Cases.children Rattle.history.specs.Cases.rootOf Rattle.history.specs.Cases.lent512
+    Rattle.history.specs.Cases.onTree Rattle.history.specs.Cases.counts Rattle.history.specs.Cases.sizes
+    Rattle.history.specs.Cases.twoLeaves Rattle.history.specs.Cases.key8 Rattle.history.specs.Cases.variable8
+    Rattle.history.specs.Cases.versions Rattle.history.specs.Cases.listing Rattle.history.specs.Cases.table
+    Rattle.tree.specs.Edit.markWay Rattle.tree.specs.Edit.markDirty Rattle.tree.specs.Edit.touch Rattle.tree.specs.Edit.setIndexKey
+    Rattle.tree.specs.Edit.indexKeys Rattle.tree.specs.Edit.moreNodes Rattle.tree.specs.Edit.roomFor Rattle.tree.specs.Edit.parted
+    Rattle.tree.specs.Edit.linkRight Rattle.tree.specs.Edit.rootEntries Rattle.tree.specs.Edit.growRoot Rattle.tree.specs.Edit.newRootHolds
+    Rattle.tree.specs.Edit.cutAt Rattle.tree.specs.Edit.cutNode Rattle.tree.specs.Edit.cuts Rattle.flush.specs.Flush.slotNumber
     Rattle.flush.specs.Flush.typeOf Rattle.flush.specs.Flush.buildOf Rattle.flush.specs.Flush.rewritten Rattle.flush.specs.Flush.writeAt
     Rattle.flush.specs.Flush.writeNode Rattle.flush.specs.Flush.writeKids Rattle.flush.specs.Flush.writeFrom Rattle.flush.specs.Flush.deadBlocks
     Rattle.flush.specs.Flush.deadIds Rattle.flush.specs.Flush.sumKids Rattle.flush.specs.Flush.sumFrom Rattle.flush.specs.Flush.dirtyReached
@@ -103,9 +113,5 @@ unfolding Rattle.history.specs.WrongAnswers.eight Rattle.history.specs
     Rattle.history.specs.Walk.walkFrom Rattle.history.specs.Walk.countsHold Rattle.history.specs.Walk.mapDisk
     Rattle.history.specs.Walk.lengthsAre16 Rattle.history.specs.Walk.mapFormed Rattle.history.specs.Walk.wellFormed
     Rattle.history.specs.Walk.blocksOf Rattle.history.specs.Walk.idsOf Rattle.history.specs.Walk.visitsOf
-    Rattle.history.specs.Walk.listOf Rattle.history.specs.Walk.mapBlocks Rattle.tree.specs.Edit.markWay Rattle.tree.specs.Edit.markDirty
-    Rattle.tree.specs.Edit.touch Rattle.tree.specs.Edit.setIndexKey Rattle.tree.specs.Edit.indexKeys Rattle.tree.specs.Edit.moreNodes
-    Rattle.tree.specs.Edit.roomFor Rattle.tree.specs.Edit.parted Rattle.tree.specs.Edit.linkRight Rattle.tree.specs.Edit.rootEntries
-    Rattle.tree.specs.Edit.growRoot Rattle.tree.specs.Edit.newRootHolds Rattle.tree.specs.Edit.cutAt Rattle.tree.specs.Edit.cutNode
-    Rattle.tree.specs.Edit.cuts
+    Rattle.history.specs.Walk.listOf Rattle.history.specs.Walk.mapBlocks
 ruled-out = refl

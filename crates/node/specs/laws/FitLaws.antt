@@ -4,7 +4,20 @@ use mathlib.Core.Path.{_≡_, refl, sym, ap, _∙_}
 use mathlib.Core.List.{List, [], _∷_, _++_}
 use mathlib.Core.Bool.{Bool, true, false, cond, false≢true}
 use Prim.Native.Nat.{ℕ, zero, suc, _+_, _-_, _*_, _/_, _%_, _^_, _≤_, _<_}
-use native.Mathlib.Nat.{add-zero, zero-add, add-assoc, le-refl, le-trans, mul-le-mul-right, mul-le-mul-left, sub-zero, le-div-iff-mul-le, div-mul-le-self, add-mul-div-right, div-le-self}
+use native.Mathlib.Nat.{
+  add-zero,
+  zero-add,
+  add-assoc,
+  le-refl,
+  le-trans,
+  mul-le-mul-right,
+  mul-le-mul-left,
+  sub-zero,
+  le-div-iff-mul-le,
+  div-mul-le-self,
+  add-mul-div-right,
+  div-le-self,
+}
 use native.Mathlib.Omega.{arith}
 use lib.ListN.{length, take, drop, length-append, length-drop, take-append-drop}
 use lib.Seq.{drop-drop, take-take}
@@ -14,8 +27,36 @@ use Rattle.seal.specs.Bytes.{u16At}
 use Rattle.node.specs.laws.TestLaws.{and-split}
 use Rattle.node.specs.Entry.{Entry, valueLength}
 use Rattle.node.specs.Records.{markLength, recordLength, recordsLength, entryOf, entriesOf}
-use Rattle.node.specs.laws.RecordsLaws.{length-entries, entries-next, records-next, records-less, record-sum, records-least, record-in, entry-key-length, entry-value-length}
-use Rattle.node.specs.Fit.{flag, align8, greater, padded, dataSpace, fixed, slotWidth, fixedValue, tocSlots, tocLength, keysLength, valuesLength, roomOf, packedLength, fitsSums, fits, Sized}
+use Rattle.node.specs.laws.RecordsLaws.{
+  length-entries,
+  entries-next,
+  records-next,
+  records-less,
+  record-sum,
+  records-least,
+  record-in,
+  entry-key-length,
+  entry-value-length,
+}
+use Rattle.node.specs.Fit.{
+  flag,
+  align8,
+  greater,
+  padded,
+  dataSpace,
+  fixed,
+  slotWidth,
+  fixedValue,
+  tocSlots,
+  tocLength,
+  keysLength,
+  valuesLength,
+  roomOf,
+  packedLength,
+  fitsSums,
+  fits,
+  Sized,
+}
 use Rattle.node.specs.internal.SlotSteps.{recordAt, lengthsOf, longerOf}
 use Rattle.node.specs.declared.info.BTreeInfo.{BTreeInfo}
 use Rattle.node.specs.declared.record.Record.{Record}
@@ -227,7 +268,8 @@ fits-is t root level n l s r e g = rw length-entries (g ∙ rw e)
 
 -- ---- a root over two children, and what is packed
 
-pub two-small : (t : BTreeInfo) (a b x y z : ℕ) → a < 2 ^ 20 → b < 2 ^ 20 → x ≡ padded t a → y ≡ padded t b → z ≡ padded t 8 → x + y + (z + z) < 2 ^ 32
+pub two-small : (t : BTreeInfo) (a b x y z : ℕ) → a < 2 ^ 20 → b < 2 ^ 20 → x ≡ padded t a → y ≡ padded t b → z ≡ padded t 8
+    → x + y + (z + z) < 2 ^ 32
 two-small t a b x y z ha hb ex ey ez = omega (arith, padded-most t a, padded-most t b, padded-most t 8)
 
 pub two-is : (t : BTreeInfo) (level a b x y z : ℕ) (r : Bool) → x ≡ padded t a → y ≡ padded t b → z ≡ padded t 8

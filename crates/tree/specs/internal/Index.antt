@@ -52,7 +52,8 @@ stepsFrom way kids j (suc m) = record { slot = getD way j 0; child = getD kids j
 
 -- each index key on a way fits where it is set
 pub record IndexRoom (size : ℕ) (t : Tree) (heads bytes way kids : List ℕ) (steps scratch : ℕ) : Type 0 where
-  pub turn : (j : ℕ) → 0 < j → j < steps → KeyFits size (indexKeys (stepsFrom way kids j (steps - j)) (stateOf size t heads bytes)) (getD way (j - 1) 0) (getD way j 0) scratch
+  pub turn : (j : ℕ) → 0 < j → j < steps → KeyFits size (indexKeys (stepsFrom way kids j (steps - j)) (stateOf size t heads bytes))
+      (getD way (j - 1) 0) (getD way j 0) scratch
 
 -- the index keys are set from step j on
 pub record Indexed (size slots : ℕ) (t : Tree) (way kids : List ℕ) (steps j : ℕ) (heads bytes heads′ bytes′ : List ℕ) : Type 0 where

@@ -163,7 +163,7 @@ indexed-same k s t ps h (more x y xs q f) =
     more x y xs (rw (h (x .slot) (omega (arith, names-same (x .slot))), h (y .slot) (omega (arith, names-same (y .slot)))) q)
     (indexed-same k s t (y ∷ xs) (λ c z. h c (omega arith)) f)
 
-later : (c : ℕ) (x : Step) (ps : List Step) → onWay c ps ≤ onWay c (x ∷ ps)
+pub later : (c : ℕ) (x : Step) (ps : List Step) → onWay c ps ≤ onWay c (x ∷ ps)
 later c x ps = omega arith
 
 one-count : (s : State) (n i c : ℕ) → length (setIndexKey s n i c .nodes) ≡ length (s .nodes)
@@ -239,24 +239,24 @@ pub part-room : (t : BTreeInfo) (level c : ℕ) (es : List Entry) → Parted t l
     → (weight (take c es) ≤ t .«node_size» - 56) × (weight (drop c es) ≤ t .«node_size» - 56)
 part-room t level c es ps = (fits-weight t false level (take c es) (ps .left-fits), fits-weight t false level (drop c es) (ps .right-fits))
 
-more-nodes : (u : State) (n c : ℕ) → nodeAt (moreNodes u n) c ≡ nodeAt u c
+pub more-nodes : (u : State) (n c : ℕ) → nodeAt (moreNodes u n) c ≡ nodeAt u c
 unfolding moreNodes withInfo nodeAt
 more-nodes u n c = refl
 
-more-count : (u : State) (n : ℕ) → length (moreNodes u n .nodes) ≡ length (u .nodes)
+pub more-count : (u : State) (n : ℕ) → length (moreNodes u n .nodes) ≡ length (u .nodes)
 unfolding moreNodes withInfo
 more-count u n = refl
 
-link-other : (s : State) (p i r c : ℕ) → (c ≡ p → ⊥) → nodeAt (linkRight s p i r) c ≡ nodeAt s c
+pub link-other : (s : State) (p i r c : ℕ) → (c ≡ p → ⊥) → nodeAt (linkRight s p i r) c ≡ nodeAt s c
 unfolding linkRight
 link-other s p i r c d = at-put-other s p _ c d
 
-link-first : (s : State) (p i r : ℕ) → p < length (s .nodes) → 0 < length (nodeAt s p .entries)
+pub link-first : (s : State) (p i r : ℕ) → p < length (s .nodes) → 0 < length (nodeAt s p .entries)
     → keyAt (nodeAt (linkRight s p i r) p .entries) 0 ≡ keyAt (nodeAt s p .entries) 0
 unfolding linkRight changed
 link-first s p i r used some = ap (λ (m : MemNode). keyAt (m .entries) 0) (at-put-same s p _ used) ∙ first-insert i _ (nodeAt s p .entries) some
 
-link-count : (s : State) (p i r : ℕ) → length (linkRight s p i r .nodes) ≡ length (s .nodes)
+pub link-count : (s : State) (p i r : ℕ) → length (linkRight s p i r .nodes) ≡ length (s .nodes)
 unfolding linkRight
 link-count s p i r = put-count s p _
 

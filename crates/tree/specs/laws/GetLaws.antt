@@ -124,11 +124,11 @@ module _ (o n : ℕ) (k l : List ℕ) (f : Found) (ef : f ≡ foundIn o k n l) w
 pub held-room : (l : List ℕ) (v : Held) (at len : ℕ) → v ≡ held.Value at len → HeldIn l v → at + len ≤ length l
 held-room l v at len e i = rw e at i
 
-splice-none : (out : List ℕ) → splice out 0 [] ≡ out
+pub splice-none : (out : List ℕ) → splice out 0 [] ≡ out
 unfolding splice
 splice-none out = refl
 
-take-front : (out vs : List ℕ) → take (length vs) (splice out 0 vs) ≡ vs
+pub take-front : (out vs : List ℕ) → take (length vs) (splice out 0 vs) ≡ vs
 unfolding splice
 take-front out vs = take-append-seam vs (drop (0 + length vs) out)
 

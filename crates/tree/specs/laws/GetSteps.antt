@@ -49,14 +49,14 @@ rows-suit o t (e ∷ es) h =
     let (c, d) = and-split (keyLengthHolds o t (length (e .key)) && valueHolds t (e .value)) (suit true e) a in
     and-both (suit true e) (every (suit true) es) d (rows-suit o t es b)
 
-steps-long : (slots kids : List ℕ) (k : ℕ) → length (stepsOf slots kids k) ≡ k
+pub steps-long : (slots kids : List ℕ) (k : ℕ) → length (stepsOf slots kids k) ≡ k
 unfolding stepsOf
 steps-long slots kids zero = refl
 steps-long slots kids (suc k) =
     length-append (stepsOf slots kids k) (record { slot = getD slots k 0; child = getD kids k 0 } ∷ [])
     ∙ (let z = steps-long slots kids k in omega arith)
 
-leaf-last : (xs : List lookup.Step) (x : lookup.Step) → lookup.leafOf (xs ++ x ∷ []) ≡ x .slot
+pub leaf-last : (xs : List lookup.Step) (x : lookup.Step) → lookup.leafOf (xs ++ x ∷ []) ≡ x .slot
 unfolding lookup.leafOf
 leaf-last [] x = refl
 leaf-last (y ∷ []) x = refl
@@ -83,7 +83,7 @@ module _ (l : lent.Lent) (size : ℕ) (t : Tree) (h0 b0 : List ℕ) (tr : truste
   way-low = rw ev (stands .deep (t .root) live-root)
 
   module _ (key out h b : List ℕ) (w : Way) (ew : wayOf size h b w ≡ lookup.wayFrom level l (stateOf size t h0 b0) unbounded (t .root) key) where
-    way-is : lookup.way l s key ≡ wayOf size h b w
+    pub way-is : lookup.way l s key ≡ wayOf size h b w
     unfolding lookup.way
     way-is =
         ap₂ (λ (n d : ℕ). lookup.wayFrom d l s unbounded n key) (root-is size t h0 b0)
@@ -105,7 +105,7 @@ module _ (l : lent.Lent) (size : ℕ) (t : Tree) (h0 b0 : List ℕ) (tr : truste
       abbrev ps : List lookup.Step
       ps = stepsOf (w .slots) (w .kids) (w .steps)
 
-      arrives : wayOf size h b w ≡ ok (record { state = s′; steps = ps })
+      pub arrives : wayOf size h b w ≡ ok (record { state = s′; steps = ps })
       unfolding wayOf wentOf
       arrives = rw e
 

@@ -50,7 +50,8 @@ module _ (s : State) (c : ℕ) (l l′ k : List ℕ) (ek : k ≡ keyAt (nodeAt s
   copied-fits h = let z : length k ≡ length (keyAt (nodeAt s c .entries) 0) = ap length ek in omega arith
 
   pub copied-long : length (keyAt (nodeAt s c .entries) 0) ≤ length l → l′ ≡ splice l 0 k → length k ≤ length l′
-  copied-long h e = let z : length k ≡ length (keyAt (nodeAt s c .entries) 0) = ap length ek in let y : length l′ ≡ length l = ap length e ∙ length-splice l 0 k (omega arith) in omega arith
+  copied-long h e = let z : length k ≡ length (keyAt (nodeAt s c .entries) 0) = ap length ek in let y : length l′ ≡ length l = ap length e
+      ∙ length-splice l 0 k (omega arith) in omega arith
 
   pub copied-key : l′ ≡ splice l 0 k → take (length k) l′ ≡ keyAt (nodeAt s c .entries) 0
   unfolding window
@@ -74,9 +75,11 @@ le-is a i t = lt-ltb i a (leb-false a i t)
 
 module _ (s : State) (n i c : ℕ) where
   -- where slot c has a first entry, and slot n an entry i
-  differs-at : (e : Entry) (es : List Entry) → nodeAt s c .entries ≡ e ∷ es → leb (length (nodeAt s n .entries)) i ≡ false → keyDiffers s n i c ≡ not (sameKey (keyAt (nodeAt s n .entries) i) (e .key))
+  differs-at : (e : Entry) (es : List Entry) → nodeAt s c .entries ≡ e ∷ es → leb (length (nodeAt s n .entries)) i ≡ false
+      → keyDiffers s n i c ≡ not (sameKey (keyAt (nodeAt s n .entries) i) (e .key))
   unfolding keyDiffers keyAt
-  differs-at e es q t = let u : eqb (length (e ∷ es)) 0 ≡ false = ne-eqb (length (e ∷ es)) 0 (λ (z : suc (length es) ≡ 0). omega arith) in rw (q, u, t)
+  differs-at e es q t = let u : eqb (length (e ∷ es)) 0 ≡ false = ne-eqb (length (e ∷ es)) 0 (λ (z : suc (length es) ≡ 0). omega arith) in rw
+      (q, u, t)
 
   pub index-same : keyDiffers s n i c ≡ false → s ≡ setIndexKey s n i c
   unfolding setIndexKey
@@ -85,7 +88,8 @@ module _ (s : State) (n i c : ℕ) where
       (λ q. rw q)
       (λ e es q. by-test (leb (length (nodeAt s n .entries)) i)
       (λ t. rw (q, le-not (length (nodeAt s n .entries)) i t, or-true (nodeAt s c .dead)))
-      (λ t. let z : sameKey (keyAt (nodeAt s n .entries) i) (e .key) ≡ true = not-false (sameKey (keyAt (nodeAt s n .entries) i) (e .key)) (sym (differs-at e es q t) ∙ h) in
+      (λ t. let z : sameKey (keyAt (nodeAt s n .entries) i) (e .key) ≡ true = not-false (sameKey (keyAt (nodeAt s n .entries) i) (e .key))
+      (sym (differs-at e es q t) ∙ h) in
       rw (q, z, or-true (nodeAt s c .dead || not (ltb i (length (nodeAt s n .entries)))))))
 
   module _ (h : keyDiffers s n i c ≡ true) where
@@ -109,24 +113,34 @@ module _ (s : State) (n i c : ℕ) where
         by-entries (nodeAt s c .entries)
         (λ q. absurd (differs-some q))
         (λ e es q.
-        let z : sameKey (keyAt (nodeAt s n .entries) i) (e .key) ≡ false = not-true (sameKey (keyAt (nodeAt s n .entries) i) (e .key)) (sym (differs-at e es q differs-within) ∙ h) in
+        let z : sameKey (keyAt (nodeAt s n .entries) i) (e .key) ≡ false = not-true (sameKey (keyAt (nodeAt s n .entries) i) (e .key))
+        (sym (differs-at e es q differs-within) ∙ h) in
         rw (q, d, le-is (length (nodeAt s n .entries)) i differs-within, z))
 
 -- ---- the slots
 
 module _ (size slots n i : ℕ) (t : Tree) (h0 b0 : List ℕ) (r : Ready size slots (t .used) h0 b0) where
   pub rekey-done : (key h1 b1 : List ℕ) → n < t .used → length h1 ≡ length h0 → length b1 ≡ length b0
-      → Put size slots h0 b0 h1 b1 n (edited true (nodeIn size h0 b0 n) (withKey i key (nodeIn size h0 b0 n .entries))) → Follows size slots (t .used) h0 b0 h1 b1
+      → Put size slots h0 b0 h1 b1 n (edited true (nodeIn size h0 b0 n) (withKey i key (nodeIn size h0 b0 n .entries)))
+      → Follows size slots (t .used) h0 b0 h1 b1
       → Rewritten size slots t h0 b0 h1 b1 (keyPut (stateOf size t h0 b0) n i key)
   unfolding stateOf putNode withNodes
   rekey-done key h1 b1 u e f p g =
       let m : MemNode = changed (nodeIn size h0 b0 n) (withKey i key (nodeIn size h0 b0 n .entries)) in
-      let x : nodesOf size h1 b1 (t .used) ≡ set (nodesOf size h0 b0 (t .used)) n (changed (nodeIn size h0 b0 n) (withKey i key (nodeIn size h0 b0 n .entries))) = put-set size slots h0 b0 h1 b1 n m p (t .used) (r .within) u in
+      let x : nodesOf size h1 b1 (t .used) ≡ set (nodesOf size h0 b0 (t .used)) n
+      (changed (nodeIn size h0 b0 n) (withKey i key (nodeIn size h0 b0 n .entries))) = put-set size slots h0 b0 h1 b1 n m p (t .used)
+      (r .within) u in
       let y : nodeAt (stateOf size t h0 b0) n ≡ nodeIn size h0 b0 n = node-in size t h0 b0 n u in
       record { state = rw (x, y); ready = put-ready size slots h0 b0 h1 b1 n m p (t .used) r e f; follows = g }
 
-  pub index-kept : (c : ℕ) (b : Bool) → b ≡ keyDiffers (stateOf size t h0 b0) n i c → not b ≡ true → Rewritten size slots t h0 b0 h0 b0 (setIndexKey (stateOf size t h0 b0) n i c)
-  index-kept c b e q = record { state = index-same (stateOf size t h0 b0) n i c (sym e ∙ not-true b q); ready = r; follows = follows-same size slots (t .used) h0 b0 }
+  pub index-kept : (c : ℕ) (b : Bool) → b ≡ keyDiffers (stateOf size t h0 b0) n i c → not b ≡ true
+      → Rewritten size slots t h0 b0 h0 b0 (setIndexKey (stateOf size t h0 b0) n i c)
+  index-kept c b e q = record {
+    state = index-same (stateOf size t h0 b0) n i c (sym e ∙ not-true b q);
+    ready = r;
+    follows = follows-same size slots
+        (t .used) h0 b0;
+  }
 
   module _ (c : ℕ) (b : Bool) (eb : b ≡ keyDiffers (stateOf size t h0 b0) n i c) (nb : not b ≡ false) where
     q : keyDiffers (stateOf size t h0 b0) n i c ≡ true
@@ -153,7 +167,8 @@ module _ (size slots n i : ℕ) (t : Tree) (h0 b0 : List ℕ) (r : Ready size sl
         (λ u. let z : nodeAt (stateOf size t h0 b0) c ≡ noNode = node-out size t h0 b0 c (ltb-false c (t .used) u) in
         absurd (differs-some (stateOf size t h0 b0) n i c q (rw z)))
 
-    pub index-set : (key h1 b1 : List ℕ) → key ≡ keyAt (nodeAt (stateOf size t h0 b0) c .entries) 0 → Rewritten size slots t h0 b0 h1 b1 (keyPut (stateOf size t h0 b0) n i key)
+    pub index-set : (key h1 b1 : List ℕ) → key ≡ keyAt (nodeAt (stateOf size t h0 b0) c .entries) 0
+        → Rewritten size slots t h0 b0 h1 b1 (keyPut (stateOf size t h0 b0) n i key)
         → Rewritten size slots t h0 b0 h1 b1 (setIndexKey (stateOf size t h0 b0) n i c)
     index-set key h1 b1 e w =
         record {
@@ -162,7 +177,8 @@ module _ (size slots n i : ℕ) (t : Tree) (h0 b0 : List ℕ) (r : Ready size sl
           follows = w .follows;
         }
 
-module _ (size n c room : ℕ) (t : Tree) (heads bytes key : List ℕ) (k : KeyRoom size t heads bytes n c room) (e : key ≡ keyAt (nodeAt (stateOf size t heads bytes) c .entries) 0) where
+module _ (size n c room : ℕ) (t : Tree) (heads bytes key : List ℕ) (k : KeyRoom size t heads bytes n c room)
+    (e : key ≡ keyAt (nodeAt (stateOf size t heads bytes) c .entries) 0) where
   pub index-room : live (headAt heads n) .used + length key ≤ 4 * size
   index-room = rw e (k .slot)
 

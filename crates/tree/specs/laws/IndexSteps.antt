@@ -36,14 +36,16 @@ module _ (way kids : List ℕ) where
   from-snoc : (m j : ℕ) → stepsFrom way kids j m ++ step (j + m) ∷ [] ≡ stepsFrom way kids j (suc m)
   unfolding stepsFrom
   from-snoc zero j = let z : j + 0 ≡ j = omega arith in ap (λ (x : ℕ). step x ∷ []) z
-  from-snoc (suc m) j = let z : j + suc m ≡ suc j + m = omega arith in ap (λ (l : List Step). step j ∷ l) (ap (λ (x : ℕ). stepsFrom way kids (suc j) m ++ step x ∷ []) z ∙ from-snoc m (suc j))
+  from-snoc (suc m) j = let z : j + suc m ≡ suc j + m = omega arith in ap (λ (l : List Step). step j ∷ l)
+      (ap (λ (x : ℕ). stepsFrom way kids (suc j) m ++ step x ∷ []) z ∙ from-snoc m (suc j))
 
-  from-start : (k : ℕ) → stepsOf way kids k ≡ stepsFrom way kids 0 k
+  pub from-start : (k : ℕ) → stepsOf way kids k ≡ stepsFrom way kids 0 k
   unfolding stepsOf stepsFrom
   from-start zero = refl
   from-start (suc k) = let z : k ≡ 0 + k = omega arith in ap₂ (λ (l : List Step) (x : ℕ). l ++ step x ∷ []) (from-start k) z ∙ from-snoc k 0
 
-index-cons : (x y : Step) (l ys : List Step) (s : State) → l ≡ y ∷ ys → indexKeys (x ∷ l) s ≡ setIndexKey (indexKeys l s) (x .slot) (x .child) (y .slot)
+index-cons : (x y : Step) (l ys : List Step) (s : State) → l ≡ y ∷ ys
+    → indexKeys (x ∷ l) s ≡ setIndexKey (indexKeys l s) (x .slot) (x .child) (y .slot)
 unfolding indexKeys
 index-cons x y l ys s e = rw e
 
@@ -65,8 +67,10 @@ module _ (size slots n c room : ℕ) (t : Tree) (h b : List ℕ) (r : Ready size
   key-room f =
       let l : Lies size w (slotBytes size b n) = r .lies n hn in
       let g : length (slotBytes size b n) ≡ 4 * size = part-long size b n (ready-part size slots (t .used) h b n r hn) in
-      let z : recordsLength (w .count) (slotBytes size b n) + 4 * w .count ≡ cutting.size (entriesOf (w .count) (slotBytes size b n)) = records-size (w .count) (slotBytes size b n) (omega (arith, l .room)) in
-      let y : cutting.size (nodeAt (stateOf size t h b) n .entries) ≡ cutting.size (entriesOf (w .count) (slotBytes size b n)) = ap cutting.size entries-are in
+      let z : recordsLength (w .count) (slotBytes size b n) + 4 * w .count ≡ cutting.size (entriesOf (w .count) (slotBytes size b n)) = records-size
+      (w .count) (slotBytes size b n) (omega (arith, l .room)) in
+      let y : cutting.size (nodeAt (stateOf size t h b) n .entries) ≡ cutting.size (entriesOf (w .count) (slotBytes size b n)) = ap cutting.size
+      entries-are in
       let x : w .count ≡ length (nodeAt (stateOf size t h b) n .entries) = count-is size t h b n hn w refl in
       record { slot = omega (arith, f .slot, l .used, z, y, x); short = f .short; copied = f .copied }
 
@@ -94,18 +98,23 @@ module _ (size slots steps : ℕ) (t : Tree) (way kids h0 b0 : List ℕ) where
         let z : j ≡ 0 = omega arith in
         let y : steps - 0 ≡ steps = omega arith in
         record {
-          state = d .rest .state ∙ ap (λ (x : ℕ). indexKeys (stepsFrom way kids x (steps - x)) (stateOf size t h0 b0)) z ∙ ap (λ (x : ℕ). indexKeys (stepsFrom way kids 0 x) (stateOf size t h0 b0)) y
+          state = d .rest .state ∙ ap (λ (x : ℕ). indexKeys (stepsFrom way kids x (steps - x)) (stateOf size t h0 b0)) z
+              ∙ ap (λ (x : ℕ). indexKeys (stepsFrom way kids 0 x) (stateOf size t h0 b0)) y
               ∙ ap (λ (l : List Step). indexKeys l (stateOf size t h0 b0)) (sym (from-start way kids steps));
           ready = d .rest .ready;
           follows = d .rest .follows;
         }
 
     module _ (u : 0 < j) (v : j < steps) where
-      pub index-turn : (room more : ℕ) → WayIn (t .used) way steps → IndexRoom size t h0 b0 way kids steps room → more ≡ room → KeyRoom size t h b (getD way (j - 1) 0) (getD way j 0) more
+      pub index-turn : (room more : ℕ) → WayIn (t .used) way steps → IndexRoom size t h0 b0 way kids steps room → more ≡ room
+          → KeyRoom size t h b (getD way (j - 1) 0) (getD way j 0) more
       index-turn room more w i e =
-          rw e (key-room size slots (getD way (j - 1) 0) (getD way j 0) room t h b (d .rest .ready) (w .slot (j - 1) (omega arith)) (rw (d .rest .state) (i .turn j u v)))
+          rw e (key-room size slots (getD way (j - 1) 0) (getD way j 0) room t h b (d .rest .ready) (w .slot (j - 1) (omega arith))
+          (rw (d .rest .state) (i .turn j u v)))
 
-      pub indexed-next : (h′ b′ : List ℕ) → Rewritten size slots t h b h′ b′ (setIndexKey (stateOf size t h b) (getD way (j - 1) 0) (getD kids (j - 1) 0) (getD way j 0)) → Indexed size slots t way kids steps (j - 1) h0 b0 h′ b′
+      pub indexed-next : (h′ b′ : List ℕ) → Rewritten size slots t h b h′ b′
+          (setIndexKey (stateOf size t h b) (getD way (j - 1) 0) (getD kids (j - 1) 0) (getD way j 0))
+          → Indexed size slots t way kids steps (j - 1) h0 b0 h′ b′
       indexed-next h′ b′ w =
           let s : State = stateOf size t h0 b0 in
           let z : suc (j - 1) ≡ j = omega arith in
@@ -114,8 +123,10 @@ module _ (size slots steps : ℕ) (t : Tree) (way kids h0 b0 : List ℕ) where
             rest = record {
               state = w .state
                   ∙ ap (λ (x : State). setIndexKey x (getD way (j - 1) 0) (getD kids (j - 1) 0) (getD way j 0)) (d .rest .state)
-                  ∙ sym (index-cons (step way kids (j - 1)) (step way kids j) (stepsFrom way kids j (steps - j)) (stepsFrom way kids (suc j) (steps - suc j)) s (from-cons way kids steps j v))
-                  ∙ sym (ap (λ (l : List Step). indexKeys l s) (from-cons way kids steps (j - 1) k ∙ ap (λ (x : ℕ). step way kids (j - 1) ∷ stepsFrom way kids x (steps - x)) z));
+                  ∙ sym (index-cons (step way kids (j - 1)) (step way kids j) (stepsFrom way kids j (steps - j))
+                  (stepsFrom way kids (suc j) (steps - suc j)) s (from-cons way kids steps j v))
+                  ∙ sym (ap (λ (l : List Step). indexKeys l s)
+                  (from-cons way kids steps (j - 1) k ∙ ap (λ (x : ℕ). step way kids (j - 1) ∷ stepsFrom way kids x (steps - x)) z));
               ready = w .ready;
               follows = follows-on size slots (t .used) (t .used) h0 b0 h b h′ b′ (d .rest .follows) (w .follows) (omega arith);
             };

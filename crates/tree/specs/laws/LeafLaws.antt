@@ -89,7 +89,7 @@ way-count [] s = refl
 way-count (x ∷ xs) s = way-count xs (putNode s (x .slot) (markedDirty (nodeAt s (x .slot))))
     ∙ put-count s (x .slot) (markedDirty (nodeAt s (x .slot)))
 
-touch-order : (p : List Step) (s : State) → touch p s .order ≡ s .order
+pub touch-order : (p : List Step) (s : State) → touch p s .order ≡ s .order
 unfolding touch markDirty putNode withNodes
 touch-order p s = pick (λ (t : State). t .order ≡ s .order) (s .virtual) (markDirty (markDirty s (s .root)) (leafOf p)) (markWay p s) refl
     (way-order p s)

@@ -110,7 +110,7 @@ spot-index image size x d i q r = subst (SpottedIn image size) q r .1
 
 -- ---- one entry of a node
 
-one-of : (es : List Entry) (i : ℕ) (d : Entry) → i < length es → length es ≤ suc i → drop i es ≡ getD es i d ∷ []
+pub one-of : (es : List Entry) (i : ℕ) (d : Entry) → i < length es → length es ≤ suc i → drop i es ≡ getD es i d ∷ []
 one-of es i d h g = drop-cons es i d h ∙ ap (λ (x : List Entry). getD es i d ∷ x) (drop-of-length-le es g)
 
 module _ (image : List ℕ) (size : ℕ) (d : MapNode) where

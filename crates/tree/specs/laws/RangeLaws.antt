@@ -43,7 +43,7 @@ keys-length (e ∷ es) = ap suc (keys-length es)
 keys-same : (es fs : List Entry) → keysOf es ≡ keysOf fs → length es ≡ length fs
 keys-same es fs q = sym (keys-length es) ∙ ap length q ∙ keys-length fs
 
-key-same : (es fs : List Entry) (i : ℕ) → keysOf es ≡ keysOf fs → keyAt es i ≡ keyAt fs i
+pub key-same : (es fs : List Entry) (i : ℕ) → keysOf es ≡ keysOf fs → keyAt es i ≡ keyAt fs i
 key-same es fs i q = key-at es i ∙ ap (λ (x : List (List ℕ)). getD x i []) q ∙ sym (key-at fs i)
 
 -- the same keys and the same values: the same entries

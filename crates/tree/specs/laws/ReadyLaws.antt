@@ -237,7 +237,8 @@ slot-small size h l e =
     (λ t. let r : leb (h .used) (2 * size) && recordsHold (h .count) (h .used) l ≡ true = rw t at q in
     rw t (leb-true (h .used) (2 * size) (and-split (leb (h .used) (2 * size)) (recordsHold (h .count) (h .used) l) r .0)))
 
-slots-small : (size : ℕ) (heads bytes : List ℕ) (m n k : ℕ) → slotsHold size heads bytes m n ≡ true → k < m → live (headAt heads (n + k)) .used ≤ 2 * size
+slots-small : (size : ℕ) (heads bytes : List ℕ) (m n k : ℕ) → slotsHold size heads bytes m n ≡ true → k < m
+    → live (headAt heads (n + k)) .used ≤ 2 * size
 unfolding slotsHold
 slots-small size heads bytes zero n k h q = absurd (omega arith)
 slots-small size heads bytes (suc m) n zero h q =

@@ -1,17 +1,17 @@
 -- Room of the workspace's words and room of the state are one: what every call leaves is no workspace that refusal 1 refuses. Assumes nothing.
-use mathlib.Core.Path.{_≡_, refl, sym, ap, subst, _∙_}
+use mathlib.Core.Path.{_≡_, sym, ap, _∙_}
 use mathlib.Core.List.{List, [], _∷_}
 use mathlib.Core.Bool.{true, false}
-use Prim.Native.Nat.{ℕ, zero, suc, _+_, _*_, _≤_, _<_}
+use Prim.Native.Nat.{ℕ, zero, suc, _*_, _≤_, _<_}
 use native.Mathlib.Omega.{arith}
 use lib.ListN.{length}
 use lib.Dec.{leb, eqb, ltb}
 use borrow.Author.Tests.{ltb-true, ltb-false}
-use Rattle.node.specs.Entry.{Entry, Val}
+use Rattle.node.specs.Entry.{Val}
 use Rattle.node.specs.Order.{keyed}
 use Rattle.node.specs.Refusals as refusal
 use Rattle.node.specs.Records.{recordsLength, entriesOf}
-use Rattle.node.specs.Result.{Result, ok}
+use Rattle.node.specs.Result.{ok}
 use Rattle.node.specs.Slot.{MemNode, headAt, nodeOf}
 use Rattle.node.specs.laws.TestLaws.{by-test, never}
 use Rattle.node.specs.laws.ResultLaws.{Holds, holds-ok, holds-bind, holds-check}
@@ -27,8 +27,8 @@ use Rattle.tree.specs.internal.Room.{Roomy}
 use Rattle.tree.specs.laws.BankLaws.{live-entries}
 use Rattle.tree.specs.laws.SlotSteps.{ready-part, part-long}
 use Rattle.tree.specs.laws.TreeLaws.{node-in, node-out}
-use Rattle.tree.specs.laws.OpenLaws.{Opens, open-opens}
-use Rattle.tree.specs.laws.ReadyLaws.{ready-holds, holds-small, sizes-most}
+use Rattle.tree.specs.laws.OpenLaws.{open-opens}
+use Rattle.tree.specs.laws.ReadyLaws.{ready-holds, holds-small}
 use Rattle.tree.specs.laws.WeightLaws.{weight}
 use Rattle.tree.specs.laws.RoomCalls.{weight-size, block-weight, roomy-way}
 use Rattle.tree.specs.declared.editor.Tree.{Tree}
@@ -50,7 +50,8 @@ module _ (size slots : ℕ) (t : Tree) (heads bytes : List ℕ) (r : Ready size 
 
   dead-used : (n : ℕ) → n < t .used → nodeAt (stateOf size t heads bytes) n .dead ≡ true → live (headAt heads n) .used ≤ 2 * size
   unfolding nodeIn nodeOf live
-  dead-used n h d = let e : eqb (headAt heads n .dead) 1 ≡ true = sym (ap (λ (m : MemNode). m .dead) (node-in size t heads bytes n h)) ∙ d in rw e (omega arith)
+  dead-used n h d = let e : eqb (headAt heads n .dead) 1 ≡ true = sym (ap (λ (m : MemNode). m .dead) (node-in size t heads bytes n h))
+      ∙ d in rw e (omega arith)
 
   pub roomy-holds : Roomy (2 * size) (stateOf size t heads bytes) → workspaceHolds size slots (t .used) heads bytes ≡ true
   roomy-holds k =

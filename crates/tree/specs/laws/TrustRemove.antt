@@ -73,13 +73,13 @@ like-sym t t′ h = record { flags = sym (h .flags); node = sym (h .node); key =
 
 module _ (l : Lent) (k : List ℕ) (s : State) (x : Step) (ps : List Step) (st : Stands all all s) (top : x .slot ≡ s .root) (down : Down s (x ∷ ps))
   where
-    abbrev w : ℕ → ℕ
+    abbrev pub w : ℕ → ℕ
     w c = onWay c (x ∷ ps)
 
-    abbrev n : ℕ
+    abbrev pub n : ℕ
     n = leafOf (x ∷ ps)
 
-    abbrev s₁ : State
+    abbrev pub s₁ : State
     s₁ = touch (x ∷ ps) s
 
     way-falls : Falls s (x ∷ ps)
@@ -88,7 +88,7 @@ module _ (l : Lent) (k : List ℕ) (s : State) (x : Step) (ps : List Step) (st :
     root-on : 1 ≤ onWay (s .root) (x ∷ ps)
     root-on = let z : names (s .root) (mem (x .slot)) ≡ 1 = ap (λ (y : ℕ). names (s .root) (mem y)) top ∙ names-same (s .root) in omega arith
 
-    first : Edited l w all s s₁
+    pub first : Edited l w all s s₁
     first = touch-edited l w all (x ∷ ps) s (λ c y. y) (falls-used s (x ∷ ps) way-falls) root-on (leaf-on x ps)
         (stands-wider all all w all s (λ c y. refl) (λ c y. y) st)
 
@@ -101,29 +101,29 @@ module _ (l : Lent) (k : List ℕ) (s : State) (x : Step) (ps : List Step) (st :
     leaf-level : nodeAt s₁ n .level ≡ 0
     leaf-level = first .steady .level n (live-used s n (leaf-s .0)) ∙ leaf-s .1
 
-    abbrev es : List Entry
+    abbrev pub es : List Entry
     es = nodeAt s₁ n .entries
 
-    abbrev m : MemNode
+    abbrev pub m : MemNode
     m = withEntries (nodeAt s₁ n) (removeAt (placeOf (s₁ .order) k es) es)
 
-    abbrev s₂ : State
+    abbrev pub s₂ : State
     s₂ = putNode s₁ n m
 
     is₂ : takeFromLeaf s₁ n k ≡ s₂
     unfolding takeFromLeaf
     is₂ = refl
 
-    second : Edited l w all s₁ s₂
+    pub second : Edited l w all s₁ s₂
     second =
         entries-edited w all s₁ n (removeAt (placeOf (s₁ .order) k es) es) (first .stands) (leaf-on x ps)
         (λ d. every-remove (entryHolds (s₁ .order) (s₁ .info) (eqb (nodeAt s₁ n .level) 0)) (placeOf (s₁ .order) k es) es (first .stands .rows n d))
         (λ c. naming-remove-most c (placeOf (s₁ .order) k es) es) (λ d z y. absurd (y leaf-level)) l (live-used s₁ n leaf-live)
 
-    steady₂ : Steady l s s₂
+    pub steady₂ : Steady l s s₂
     steady₂ = steady-then l s s₁ s₂ (first .steady) (second .steady)
 
-    down₂ : Down s₂ (x ∷ ps)
+    pub down₂ : Down s₂ (x ∷ ps)
     down₂ =
         down-keep s s₂ (x ∷ ps) (λ c d. steady₂ .dead c (live-used s c d) ∙ d) (λ c d. steady₂ .level c (live-used s c d))
         (λ c h. ap (λ (y : MemNode). y .entries) (at-put-other s₁ n m c
@@ -132,32 +132,32 @@ module _ (l : Lent) (k : List ℕ) (s : State) (x : Step) (ps : List Step) (st :
         ∙ touch-marks (x ∷ ps) s .entries c)
         down
 
-    abbrev d : Dropped
+    abbrev pub d : Dropped
     d = dropEmptied (x ∷ ps) s₂
 
-    drops : Dropping w x ps s₂ (d .state)
+    pub drops : Dropping w x ps s₂ (d .state)
     drops = dropping l w x ps s₂ (λ c y. y) (second .stands) down₂
 
     -- the numbers after
     module _ (keys nodes : ℕ) where
-      abbrev t₃ : BTreeInfo
+      abbrev pub t₃ : BTreeInfo
       t₃ = withCounts (s .info) keys nodes
 
-      abbrev s₃ : State
+      abbrev pub s₃ : State
       s₃ = withInfo (d .state) t₃
 
       like₃ : Like (d .state .info) t₃
       like₃ = like-then (d .state .info) (s .info) t₃ (rw (drops .info) (like-sym (s .info) (s₂ .info) (steady₂ .like)))
           (like-counts (s .info) keys nodes)
 
-      stands₃ : Stands w (λ c. names c (mem (x .slot))) s₃
+      pub stands₃ : Stands w (λ c. names c (mem (x .slot))) s₃
       stands₃ = info-stands w (λ c. names c (mem (x .slot))) (d .state) t₃ like₃ (drops .stands)
 
-      top₃ : x .slot ≡ s₃ .root
+      pub top₃ : x .slot ≡ s₃ .root
       unfolding withInfo
       top₃ = top ∙ sym (steady₂ .root) ∙ sym (drops .root)
 
-      falls₃ : Falls s₃ (x ∷ ps)
+      pub falls₃ : Falls s₃ (x ∷ ps)
       falls₃ = falls-info (d .state) t₃ (x ∷ ps) (falls-levels s₂ (d .state) (x ∷ ps) (drops .root) (drops .same) (drops .level)
           (down-levels w all s₂ (x ∷ ps) (second .stands) down₂))
 
@@ -168,16 +168,16 @@ module _ (l : Lent) (k : List ℕ) (s : State) (x : Step) (ps : List Step) (st :
       unfolding withInfo nodeAt
       next₃ = drops .next
 
-      abbrev s₄ : State
+      abbrev pub s₄ : State
       s₄ = leveledRoot s₃
 
-      four : Leveled w x ps s₃ s₄
+      pub four : Leveled w x ps s₃ s₄
       four = leveled w x ps s₃ top₃ (omega (arith, names-same (x .slot))) off₃ falls₃ stands₃ next₃
 
-      abbrev s₅ : State
+      abbrev pub s₅ : State
       s₅ = indexKeys (x ∷ ps) s₄
 
-      five : Edited l w all s₄ s₅
+      pub five : Edited l w all s₄ s₅
       five = indexes-edited l w all (x ∷ ps) s₄ (λ c y. y) (falls-used s₄ (x ∷ ps) (four .falls)) (four .stands)
 
       cut₅ : Holds (Ended l s₅) (cuts l [] (x ∷ ps) s₅)

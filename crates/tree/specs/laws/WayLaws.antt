@@ -62,7 +62,7 @@ key-of-keys [] (suc i) = refl
 key-of-keys (e ∷ es) zero = refl
 key-of-keys (e ∷ es) (suc i) = key-of-keys es i
 
-same-keys : (xs ys : List Entry) (i : ℕ) → keysOf xs ≡ keysOf ys → keyAt xs i ≡ keyAt ys i
+pub same-keys : (xs ys : List Entry) (i : ℕ) → keysOf xs ≡ keysOf ys → keyAt xs i ≡ keyAt ys i
 same-keys xs ys i e = key-of-keys xs i ∙ ap (λ (z : List (List ℕ)). getD z i []) e ∙ sym (key-of-keys ys i)
 
 bound-kept : (l : Lent) (s : State) (bs : load.Bounds) (n i : ℕ) (a : load.At) → load.loadChild l s bs n i ≡ ok a → (b : Bound)
@@ -80,7 +80,7 @@ unfolding boundsOf
 bounds-kept l s bs n i a e b h = rw (bound-kept l s bs n i a e (b .lower) (h .lower), bound-kept l s bs n i a e (b .upper) (h .upper))
 
 -- a node whose child was loaded is in use
-loaded-used : (l : Lent) (s : State) (bs : load.Bounds) (n i : ℕ) (a : load.At) → load.loadChild l s bs n i ≡ ok a → n < length (s .nodes)
+pub loaded-used : (l : Lent) (s : State) (bs : load.Bounds) (n i : ℕ) (a : load.At) → load.loadChild l s bs n i ≡ ok a → n < length (s .nodes)
 loaded-used l s bs n i a e =
     by-load l s bs n i a e
     (λ c q p. at-used s n i (mem c) (λ z. let y : _≡_ {A = ℕ} 0 1 = cc in omega arith) q)

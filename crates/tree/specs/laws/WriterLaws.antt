@@ -27,14 +27,26 @@ use Rattle.tree.specs.laws.UndoLaws.{saved-ready, saved-put-of, saved-fo
 -- ---- words
 
 pub recount-words : (heads heads′ : List ℕ) (n count used d : ℕ) (dirty : Bool) (h : Head) → h ≡ headAt heads n → d ≡ cond dirty 1 (h .dirty)
-    → heads′ ≡ splice heads (n * 9) (headWords (record { level = h .level; count = count; used = used; placed = h .placed; block = h .block; named = h .named; id = h .id; dirty = d; dead = h .dead }))
+    → heads′ ≡ splice heads (n * 9) (headWords (record {
+      level = h .level;
+      count = count;
+      used = used;
+      placed = h .placed;
+      block = h .block;
+      named =
+          h .named;
+      id = h .id;
+      dirty = d;
+      dead = h .dead;
+    }))
     → heads′ ≡ splice heads (n * 9) (headWords (recounted dirty count used (headAt heads n)))
 unfolding recounted
 recount-words heads heads′ n count used d dirty h eh ed e = e ∙ rw (← eh, ed)
 
 -- ---- where an entry starts
 
-pub offset-slot : (size n i at : ℕ) (bytes l : List ℕ) → l ≡ slotBytes size bytes n → at ≡ recordsLength i l → at ≡ recordsLength i (slotBytes size bytes n)
+pub offset-slot : (size n i at : ℕ) (bytes l : List ℕ) → l ≡ slotBytes size bytes n → at ≡ recordsLength i l
+    → at ≡ recordsLength i (slotBytes size bytes n)
 offset-slot size n i at bytes l e f = f ∙ ap (recordsLength i) e
 
 pub offset-upto : (heads : List ℕ) (n i : ℕ) (h : Head) → h ≡ live (headAt heads n) → i ≤ live (headAt heads n) .count → i ≤ h .count
@@ -47,7 +59,8 @@ pub index-alive : (size : ℕ) (heads bytes : List ℕ) (n i : ℕ) → i < live
 unfolding nodeIn nodeOf live
 index-alive size heads bytes n i q = by-test (eqb (headAt heads n .dead) 1) (λ t. absurd (let z : i < 0 = rw t at q in omega arith)) (λ t. t)
 
-edited-node : (dirty : Bool) (count used : ℕ) (h : Head) (l d : List ℕ) → eqb (h .dead) 1 ≡ false → nodeOf (recounted dirty count used h) d ≡ edited dirty (nodeOf h l) (entriesOf count d)
+edited-node : (dirty : Bool) (count used : ℕ) (h : Head) (l d : List ℕ) → eqb (h .dead) 1 ≡ false
+    → nodeOf (recounted dirty count used h) d ≡ edited dirty (nodeOf h l) (entriesOf count d)
 unfolding nodeOf recounted changed withEntries
 edited-node true count used h l d a = rw a
 edited-node false count used h l d a = rw a
@@ -164,10 +177,18 @@ module _ (size slots used n : ℕ) (h0 b0 h1 b1 : List ℕ) (r : Ready size slot
             node = is-edited;
             lies =
                 rw (there, words)
-                (record { room = rw (edited-count dirty count more (headAt h1 n) lives) (omega (arith, em)); used = rw (edited-count dirty count more (headAt h1 n) lives, edited-used dirty count more (headAt h1 n) lives) (sym em); holds = edited-words dirty count more (headAt h1 n) (again .lies n hn .holds) });
-            words = λ j e. ap (λ (x : List ℕ). headAt x j) eh2 ∙ head-other h1 n j (recounted dirty count more (headAt h1 n)) writer-words (λ z. e (sym z));
+                (record {
+                  room = rw (edited-count dirty count more (headAt h1 n) lives) (omega (arith, em));
+                  used = rw
+                      (edited-count dirty count more (headAt h1 n) lives, edited-used dirty count more (headAt h1 n) lives) (sym em);
+                  holds =
+                      edited-words dirty count more (headAt h1 n) (again .lies n hn .holds);
+                });
+            words = λ j e. ap (λ (x : List ℕ). headAt x j) eh2
+                ∙ head-other h1 n j (recounted dirty count more (headAt h1 n)) writer-words (λ z. e (sym z));
             parts = λ j e. ap (λ (x : List ℕ). slotBytes size x j) whole ∙ part-other size b1 d n wide writer-part j e;
-            after = λ j e. ap (λ (x : List ℕ). getD x j 0) eh2 ∙ word-after h1 n (recounted dirty count more (headAt h1 n)) j e (omega (arith, writer-words));
+            after = λ j e. ap (λ (x : List ℕ). getD x j 0) eh2
+                ∙ word-after h1 n (recounted dirty count more (headAt h1 n)) j e (omega (arith, writer-words));
           }
 
       pub edit-put : Put size slots h0 b0 h2 b2 n (edited dirty (nodeIn size h0 b0 n) (f (nodeIn size h0 b0 n .entries)))
@@ -176,4 +197,5 @@ module _ (size slots used n : ℕ) (h0 b0 h1 b1 : List ℕ) (r : Ready size slot
           (λ (m : MemNode). edited dirty m (f (m .entries))) below refl
 
       pub edit-follows : Follows size slots used h0 b0 h2 b2
-      edit-follows = saved-follows size slots used n h0 b0 h1 b1 s h2 b2 (edited dirty (nodeIn size h1 b1 n) (f (nodeIn size h1 b1 n .entries))) wrote hn (r .within)
+      edit-follows = saved-follows size slots used n h0 b0 h1 b1 s h2 b2 (edited dirty (nodeIn size h1 b1 n) (f (nodeIn size h1 b1 n .entries)))
+          wrote hn (r .within)

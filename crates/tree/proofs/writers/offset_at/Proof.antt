@@ -2,15 +2,9 @@
 use Rattle.tree.specs.laws.WriterLaws.{offset-slot, offset-upto}
 use Rattle.tree.specs.laws.SlotSteps.{ready-part, ready-most, ready-few, slot-room}
 use borrow.Author.Needs.{needs}
-use Prim.Native.Nat.{_+_, _-_, _*_, _≤_, _<_}
-use mathlib.Core.Path.{_≡_}
+use Prim.Native.Nat.{_-_}
 use Rattle.tree.proofs.writers.offset_at.Statement.{statement}
 use Rattle.tree.proofs.writers.offset_at.Tie as tie
-use Rattle.tree.proofs.writers.offset_at.Reads as reads
-use Rattle.tree.proofs.writers.offset_at.Lts as lts
-use Rattle.node.proofs.slot.offset_of.Reads as offset-of-reads
-use Rattle.tree.proofs.bank.live_at.Reads as live-at-reads
-use Rattle.tree.proofs.bank.slot_of.Reads as slot-of-reads
 
 ruleset laws = (needs, offset-slot, offset-upto, ready-part, ready-most, ready-few, slot-room)
 

@@ -1,15 +1,9 @@
 -- `tree::writers::recount` meets its contract. Assumes nothing.
 use Rattle.tree.specs.laws.WriterLaws.{recount-words}
 use borrow.Author.Needs.{needs}
-use Prim.Native.Nat.{_+_, _-_, _*_, _≤_, _<_}
-use mathlib.Core.Path.{_≡_}
+use Prim.Native.Nat.{_-_}
 use Rattle.tree.proofs.writers.recount.Statement.{statement}
 use Rattle.tree.proofs.writers.recount.Tie as tie
-use Rattle.tree.proofs.writers.recount.Reads as reads
-use Rattle.tree.proofs.writers.recount.Lts as lts
-use Rattle.node.proofs.head.Head.load.Reads as load-reads
-use Rattle.node.proofs.head.Head.store.Reads as store-reads
-use Rattle.tree.proofs.writers.mark_of.Reads as mark-of-reads
 
 ruleset laws = (needs, recount-words)
 

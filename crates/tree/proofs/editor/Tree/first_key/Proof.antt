@@ -1,14 +1,9 @@
 -- `tree::editor::Tree::first_key` meets its contract. Assumes nothing.
 use Rattle.tree.specs.laws.IndexLaws.{copied-fits, copied-long, copied-key}
 use borrow.Author.Needs.{needs}
-use Prim.Native.Nat.{_+_, _-_, _*_, _≤_, _<_}
-use mathlib.Core.Path.{_≡_}
+use Prim.Native.Nat.{_-_}
 use Rattle.tree.proofs.editor.Tree.first_key.Statement.{statement}
 use Rattle.tree.proofs.editor.Tree.first_key.Tie as tie
-use Rattle.tree.proofs.editor.Tree.first_key.Reads as reads
-use Rattle.tree.proofs.editor.Tree.first_key.Lts as lts
-use Rattle.node.proofs.bytes.copy_to.Reads as copy-to-reads
-use Rattle.tree.proofs.editor.Tree.key_at.Reads as key-at-reads
 
 ruleset laws = (needs, copied-fits, copied-long, copied-key)
 

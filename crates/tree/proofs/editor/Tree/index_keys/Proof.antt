@@ -3,13 +3,10 @@ use lib.ListN.{length}
 use Rattle.tree.specs.internal.Index.{Indexed}
 use Rattle.tree.specs.laws.IndexSteps.{indexed-none, indexed-ready, indexed-all, index-turn, indexed-next}
 use borrow.Author.Needs.{needs}
-use Prim.Native.Nat.{_+_, _-_, _*_, _≤_, _<_}
+use Prim.Native.Nat.{_-_, _<_}
 use mathlib.Core.Path.{_≡_}
 use Rattle.tree.proofs.editor.Tree.index_keys.Statement.{statement}
 use Rattle.tree.proofs.editor.Tree.index_keys.Tie as tie
-use Rattle.tree.proofs.editor.Tree.index_keys.Reads as reads
-use Rattle.tree.proofs.editor.Tree.index_keys.Lts as lts
-use Rattle.tree.proofs.editor.Tree.set_index_key.Reads as set-index-key-reads
 
 ruleset laws = (needs, indexed-none, indexed-ready, indexed-all, index-turn, indexed-next)
 

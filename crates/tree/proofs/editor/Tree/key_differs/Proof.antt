@@ -1,15 +1,9 @@
 -- `tree::editor::Tree::key_differs` meets its contract. Assumes nothing.
 use Rattle.tree.specs.laws.IndexLaws.{differs-none, differs-past, differs-keys}
 use borrow.Author.Needs.{needs}
-use Prim.Native.Nat.{_+_, _-_, _*_, _≤_, _<_}
-use mathlib.Core.Path.{_≡_}
+use Prim.Native.Nat.{_-_}
 use Rattle.tree.proofs.editor.Tree.key_differs.Statement.{statement}
 use Rattle.tree.proofs.editor.Tree.key_differs.Tie as tie
-use Rattle.tree.proofs.editor.Tree.key_differs.Reads as reads
-use Rattle.tree.proofs.editor.Tree.key_differs.Lts as lts
-use Rattle.node.proofs.order.same.Reads as same-reads
-use Rattle.tree.proofs.editor.Tree.count_at.Reads as count-at-reads
-use Rattle.tree.proofs.editor.Tree.key_at.Reads as key-at-reads
 
 ruleset laws = (needs, differs-none, differs-past, differs-keys)
 

@@ -1,14 +1,9 @@
 -- `tree::editor::Tree::rekey` meets its contract. Assumes nothing.
 use Rattle.tree.specs.laws.IndexLaws.{rekey-done}
 use borrow.Author.Needs.{needs}
-use Prim.Native.Nat.{_+_, _-_, _*_, _≤_, _<_}
-use mathlib.Core.Path.{_≡_}
+use Prim.Native.Nat.{_-_}
 use Rattle.tree.proofs.editor.Tree.rekey.Statement.{statement}
 use Rattle.tree.proofs.editor.Tree.rekey.Tie as tie
-use Rattle.tree.proofs.editor.Tree.rekey.Reads as reads
-use Rattle.tree.proofs.editor.Tree.rekey.Lts as lts
-use Rattle.tree.proofs.writers.offset_at.Reads as offset-at-reads
-use Rattle.tree.proofs.writers.rekey_at.Reads as rekey-at-reads
 
 ruleset laws = (needs, rekey-done)
 

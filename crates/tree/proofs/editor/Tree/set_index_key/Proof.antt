@@ -1,16 +1,11 @@
 -- `tree::editor::Tree::set_index_key` meets its contract. Assumes nothing.
 use Rattle.tree.specs.laws.IndexLaws.{index-kept, index-set, differs-slot, differs-index, index-room, index-short}
 use borrow.Author.Needs.{needs}
-use Prim.Native.Nat.{_+_, _-_, _*_, _≤_, _<_}
-use mathlib.Core.Path.{_≡_, sym}
+use Prim.Native.Nat.{_-_}
+use mathlib.Core.Path.{sym}
 use lib.Seq.{length-take-le}
 use Rattle.tree.proofs.editor.Tree.set_index_key.Statement.{statement}
 use Rattle.tree.proofs.editor.Tree.set_index_key.Tie as tie
-use Rattle.tree.proofs.editor.Tree.set_index_key.Reads as reads
-use Rattle.tree.proofs.editor.Tree.set_index_key.Lts as lts
-use Rattle.tree.proofs.editor.Tree.first_key.Reads as first-key-reads
-use Rattle.tree.proofs.editor.Tree.key_differs.Reads as key-differs-reads
-use Rattle.tree.proofs.editor.Tree.rekey.Reads as rekey-reads
 
 ruleset laws = (needs, index-kept, index-set, differs-slot, differs-index, index-room, index-short)
 
