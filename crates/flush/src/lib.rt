@@ -1,2 +1,3 @@
 // Block choice and flush.
+pub mod flush;
 pub mod space;

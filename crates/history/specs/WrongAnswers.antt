@@ -38,6 +38,8 @@ use Rattle.tree.specs.Omap.{omapValue, omapDrop, omapPut}
 use Rattle.tree.specs.Answers.{openedIn, gotIn, gotOutput, flooredIn, flooredOutput, rangedIn, rangedOutput}
 use Rattle.tree.specs.declared.lent.Lent.{Lent}
 use Rattle.tree.specs.declared.editor.Tree.{Tree}
+use Rattle.flush.specs.Flush.{Lists}
+use Rattle.flush.specs.Answers.{flushedIn}
 use Rattle.flush.specs.Space.{Space, Choice, firstZero, isUsed, markUsed, firstFree, zeros, choose, allocated, usable, chunksHold, spaceHolds}
 use Rattle.history.specs.Cases.{same, number, outcome, tree512, pairs, children, rootOf, onTree, versions}
 
@@ -195,6 +197,25 @@ space = record { bitmap = 0xFF ∷ 0xFD ∷ replicate 510 0; counts = 16 ∷ [];
 unfoldable pub chosen : List Choice → List ℕ
 chosen [] = []
 chosen (x ∷ xs) = x .block ∷ x .chunk ∷ chosen xs
+
+-- the leaf changed; eight blocks of which those at 0 and 7 are used, or all; report lists of so many items each
+unfoldable pub dirtied : List ℕ
+dirtied = splice heads 7 (1 ∷ [])
+
+unfoldable pub roomy : Space
+roomy = record { bitmap = 0x81 ∷ replicate 511 0; counts = 8 ∷ []; free = 6 ∷ [] }
+
+unfoldable pub full : Space
+full = record { bitmap = 0xFF ∷ replicate 511 0; counts = 8 ∷ []; free = 0 ∷ [] }
+
+unfoldable pub lists : ℕ → Lists
+lists n = record { freed = n; removed = n; moved = n }
+
+-- a flush of the leaf: its refusal; or 0, the root, allocated, freed and keys, and the blocks freed
+unfoldable pub flushed : Space → ℕ → List ℕ → List ℕ
+flushed p n hs =
+    outcome (λ f. f .root ∷ f .allocated ∷ f .freedCount ∷ f .keys ∷ f .after .freed)
+    (flushedIn (lentOf image lent) p (lists n) (tree byte) hs bytes 3 0)
 
 -- ---- the table: seal
 
@@ -887,5 +908,25 @@ spaceRows =
     }
     ∷ []
 
+-- ---- flush: the call
+
+unfoldable pub flushRows : List Row
+flushRows =
+    record {
+      contract = "flush::flush: a dirty root takes the first free block, and its old one is freed";
+      gives = flushed roomy 1 dirtied;
+      right = 0 ∷ 1 ∷ 1 ∷ 1 ∷ 0 ∷ 7 ∷ [];
+      wrong = 0 ∷ 7 ∷ 1 ∷ 1 ∷ 0 ∷ 7 ∷ [];
+      wrong′ = 0 ∷ 1 ∷ 1 ∷ 0 ∷ 0 ∷ [];
+    }
+    ∷ record {
+      contract = "flush::flush: nothing to write; no free block; a list too short; a dirty mark of 2";
+      gives = flushed full 1 heads ++ flushed full 1 dirtied ++ flushed roomy 0 dirtied ++ flushed roomy 1 unmarked;
+      right = (0 ∷ 7 ∷ 0 ∷ 0 ∷ 0 ∷ []) ++ 16 ∷ 1 ∷ 1 ∷ [];
+      wrong = (0 ∷ 7 ∷ 0 ∷ 0 ∷ 0 ∷ []) ++ 16 ∷ 16 ∷ 1 ∷ [];
+      wrong′ = 16 ∷ 16 ∷ 1 ∷ 1 ∷ [];
+    }
+    ∷ []
+
 unfoldable pub table : List Row
-table = sealRows ++ orderRows ++ recordRows ++ fitRows ++ blockRows ++ treeRows ++ callRows ++ spaceRows
+table = sealRows ++ orderRows ++ recordRows ++ fitRows ++ blockRows ++ treeRows ++ callRows ++ spaceRows ++ flushRows

@@ -21,3 +21,5 @@ pub mod Range
 pub mod Floor
 pub mod Upserting
 pub mod Removing
+pub mod Kids
+pub mod Block

@@ -107,3 +107,6 @@ pub mod GrowingLaws
 pub mod RemoveAllLaws
 pub mod ListedLaws
 pub mod DroppedLaws
+pub mod KidLaws
+pub mod NodeSlots
+pub mod BlockLaws

@@ -1,5 +1,9 @@
-// Editing one tree: what is lent, loading, lookups, edits, the object map.
+// Editing one tree: what is lent, loading, lookups, edits, the object map. Of one node it hands on what flush calls.
+pub use node::pack;
+pub use node::refusal;
+
 pub mod bank;
+pub mod block;
 pub mod cuts;
 pub mod edit;
 pub mod edited;
@@ -8,6 +12,7 @@ pub mod floor;
 pub mod found;
 pub mod get;
 pub mod hold;
+pub mod kids;
 pub mod lent;
 pub mod lookup;
 pub mod map;

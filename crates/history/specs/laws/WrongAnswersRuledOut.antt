@@ -17,19 +17,22 @@ unfolding Rattle.history.specs.WrongAnswers.eight Rattle.history.specs
     Rattle.history.specs.WrongAnswers.counted Rattle.history.specs.WrongAnswers.foundAs Rattle.history.specs.WrongAnswers.floored
     Rattle.history.specs.WrongAnswers.ranged Rattle.history.specs.WrongAnswers.entry Rattle.history.specs.WrongAnswers.edited
     Rattle.history.specs.WrongAnswers.upserts Rattle.history.specs.WrongAnswers.removed Rattle.history.specs.WrongAnswers.mapEdited
-    Rattle.history.specs.WrongAnswers.space Rattle.history.specs.WrongAnswers.chosen Rattle.history.specs.WrongAnswers.sealRows
-    Rattle.history.specs.WrongAnswers.orderRows Rattle.history.specs.WrongAnswers.recordRows
-    Rattle.history.specs.WrongAnswers.fitRows Rattle.history.specs.WrongAnswers.blockRows Rattle.history.specs.WrongAnswers.treeRows
-    Rattle.history.specs.WrongAnswers.callRows Rattle.history.specs.WrongAnswers.spaceRows Rattle.history.specs.WrongAnswers.table
-    Rattle.seal.specs.Bytes.window Rattle.seal.specs.Bytes.splice Rattle.seal.specs.Bytes.moved Rattle.seal.specs.Bytes.le
-    Rattle.seal.specs.Bytes.bytesOf Rattle.seal.specs.Bytes.fieldAt Rattle.seal.specs.Checksum.words Rattle.seal.specs.Checksum.s1
-    Rattle.seal.specs.Checksum.s2 Rattle.seal.specs.Checksum.storedFor Rattle.seal.specs.Checksum.fletcher Rattle.seal.specs.Checksum.verified
-    Rattle.seal.specs.Checksum.sealed Rattle.seal.specs.Obj.headerBytes Rattle.node.specs.Order.known Rattle.node.specs.Order.keyedLength
-    Rattle.node.specs.Order.keyed Rattle.node.specs.Order.pairKey Rattle.node.specs.Order.pairLess Rattle.node.specs.Order.byteLess
-    Rattle.node.specs.Order.less Rattle.node.specs.Order.sameKey Rattle.node.specs.Entry.valueLength Rattle.node.specs.Entry.riseAfter
-    Rattle.node.specs.Entry.rising Rattle.node.specs.Entry.every Rattle.node.specs.Entry.valueBytes Rattle.node.specs.Records.markOf
-    Rattle.node.specs.Records.recordBytes Rattle.node.specs.Records.recordOf Rattle.node.specs.Records.recordsOf Rattle.node.specs.Records.markLength
-    Rattle.node.specs.Records.valueOf Rattle.node.specs.Records.recordLength Rattle.node.specs.Records.entryOf Rattle.node.specs.Records.recordsLength
+    Rattle.history.specs.WrongAnswers.space Rattle.history.specs.WrongAnswers.chosen Rattle.history.specs.WrongAnswers.dirtied
+    Rattle.history.specs.WrongAnswers.roomy Rattle.history.specs.WrongAnswers.full Rattle.history.specs.WrongAnswers.lists
+    Rattle.history.specs.WrongAnswers.flushed Rattle.history.specs.WrongAnswers.sealRows Rattle.history.specs.WrongAnswers.orderRows
+    Rattle.history.specs.WrongAnswers.recordRows Rattle.history.specs.WrongAnswers.fitRows
+    Rattle.history.specs.WrongAnswers.blockRows Rattle.history.specs.WrongAnswers.treeRows
+    Rattle.history.specs.WrongAnswers.callRows Rattle.history.specs.WrongAnswers.spaceRows
+    Rattle.history.specs.WrongAnswers.flushRows Rattle.history.specs.WrongAnswers.table Rattle.seal.specs.Bytes.window
+    Rattle.seal.specs.Bytes.splice Rattle.seal.specs.Bytes.moved Rattle.seal.specs.Bytes.le Rattle.seal.specs.Bytes.bytesOf
+    Rattle.seal.specs.Bytes.fieldAt Rattle.seal.specs.Checksum.words Rattle.seal.specs.Checksum.s1 Rattle.seal.specs.Checksum.s2
+    Rattle.seal.specs.Checksum.storedFor Rattle.seal.specs.Checksum.fletcher Rattle.seal.specs.Checksum.verified Rattle.seal.specs.Checksum.sealed
+    Rattle.seal.specs.Obj.headerBytes Rattle.node.specs.Order.known Rattle.node.specs.Order.keyedLength Rattle.node.specs.Order.keyed
+    Rattle.node.specs.Order.pairKey Rattle.node.specs.Order.pairLess Rattle.node.specs.Order.byteLess Rattle.node.specs.Order.less
+    Rattle.node.specs.Order.sameKey Rattle.node.specs.Entry.valueLength Rattle.node.specs.Entry.riseAfter Rattle.node.specs.Entry.rising
+    Rattle.node.specs.Entry.every Rattle.node.specs.Entry.valueBytes Rattle.node.specs.Records.markOf Rattle.node.specs.Records.recordBytes
+    Rattle.node.specs.Records.recordOf Rattle.node.specs.Records.recordsOf Rattle.node.specs.Records.markLength Rattle.node.specs.Records.valueOf
+    Rattle.node.specs.Records.recordLength Rattle.node.specs.Records.entryOf Rattle.node.specs.Records.recordsLength
     Rattle.node.specs.Records.entriesOf Rattle.node.specs.Find.placeOf Rattle.node.specs.Find.isThere Rattle.node.specs.Find.notAbove
     Rattle.node.specs.Find.wayIndex Rattle.node.specs.Find.lastNotAbove Rattle.node.specs.Find.lastOf Rattle.node.specs.Find.keyAt
     Rattle.node.specs.Find.valAt Rattle.node.specs.Fit.flag Rattle.node.specs.Fit.align8 Rattle.node.specs.Fit.greater Rattle.node.specs.Fit.padded
@@ -90,7 +93,13 @@ unfolding Rattle.history.specs.WrongAnswers.eight Rattle.history.specs
     Rattle.tree.specs.Answers.gotMeans Rattle.tree.specs.Answers.gotIn Rattle.tree.specs.Answers.gotBytes Rattle.tree.specs.Answers.gotOutput
     Rattle.tree.specs.Answers.floorMeans Rattle.tree.specs.Answers.flooredIn Rattle.tree.specs.Answers.flooredOutput
     Rattle.tree.specs.Answers.rangeMeans Rattle.tree.specs.Answers.rangedIn Rattle.tree.specs.Answers.rangedOutput Rattle.tree.specs.Answers.putValue
-    Rattle.tree.specs.Answers.editedOf Rattle.tree.specs.Answers.removedOf Rattle.flush.specs.Space.chunkBlocks Rattle.flush.specs.Space.isUsed
+    Rattle.tree.specs.Answers.editedOf Rattle.tree.specs.Answers.removedOf Rattle.flush.specs.Flush.slotNumber Rattle.flush.specs.Flush.typeOf
+    Rattle.flush.specs.Flush.buildOf Rattle.flush.specs.Flush.rewritten Rattle.flush.specs.Flush.writeAt Rattle.flush.specs.Flush.writeNode
+    Rattle.flush.specs.Flush.writeKids Rattle.flush.specs.Flush.writeFrom Rattle.flush.specs.Flush.deadBlocks Rattle.flush.specs.Flush.deadIds
+    Rattle.flush.specs.Flush.sumKids Rattle.flush.specs.Flush.sumFrom Rattle.flush.specs.Flush.dirtyReached Rattle.flush.specs.Flush.idsWanted
+    Rattle.flush.specs.Flush.fill Rattle.flush.specs.Flush.flushed Rattle.flush.specs.Flush.listsHold Rattle.flush.specs.Flush.flushIn
+    Rattle.flush.specs.Flush.flush Rattle.flush.specs.Answers.pairsOf Rattle.flush.specs.Answers.listsOf Rattle.flush.specs.Answers.flushedOf
+    Rattle.flush.specs.Answers.flushedMeans Rattle.flush.specs.Answers.flushedIn Rattle.flush.specs.Space.chunkBlocks Rattle.flush.specs.Space.isUsed
     Rattle.flush.specs.Space.markUsed Rattle.flush.specs.Space.onesBelow Rattle.flush.specs.Space.firstZero Rattle.flush.specs.Space.firstFree
     Rattle.flush.specs.Space.zerosBelow Rattle.flush.specs.Space.zeros Rattle.flush.specs.Space.chooseFrom Rattle.flush.specs.Space.choose
     Rattle.flush.specs.Space.taken Rattle.flush.specs.Space.allocated Rattle.flush.specs.Space.lesser Rattle.flush.specs.Space.usableFrom
@@ -103,15 +112,10 @@ unfolding Rattle.history.specs.WrongAnswers.eight Rattle.history.specs
     Rattle.tree.specs.Edit.markWay Rattle.tree.specs.Edit.markDirty Rattle.tree.specs.Edit.touch Rattle.tree.specs.Edit.setIndexKey
     Rattle.tree.specs.Edit.indexKeys Rattle.tree.specs.Edit.moreNodes Rattle.tree.specs.Edit.roomFor Rattle.tree.specs.Edit.parted
     Rattle.tree.specs.Edit.linkRight Rattle.tree.specs.Edit.rootEntries Rattle.tree.specs.Edit.growRoot Rattle.tree.specs.Edit.newRootHolds
-    Rattle.tree.specs.Edit.cutAt Rattle.tree.specs.Edit.cutNode Rattle.tree.specs.Edit.cuts Rattle.flush.specs.Flush.slotNumber
-    Rattle.flush.specs.Flush.typeOf Rattle.flush.specs.Flush.buildOf Rattle.flush.specs.Flush.rewritten Rattle.flush.specs.Flush.writeAt
-    Rattle.flush.specs.Flush.writeNode Rattle.flush.specs.Flush.writeKids Rattle.flush.specs.Flush.writeFrom Rattle.flush.specs.Flush.deadBlocks
-    Rattle.flush.specs.Flush.deadIds Rattle.flush.specs.Flush.sumKids Rattle.flush.specs.Flush.sumFrom Rattle.flush.specs.Flush.dirtyReached
-    Rattle.flush.specs.Flush.idsWanted Rattle.flush.specs.Flush.fill Rattle.flush.specs.Flush.flushed Rattle.flush.specs.Flush.listsHold
-    Rattle.flush.specs.Flush.flushIn Rattle.flush.specs.Flush.flush Rattle.history.specs.Walk.movedTo Rattle.history.specs.Walk.resolve
-    Rattle.history.specs.Walk.joined Rattle.history.specs.Walk.walkKids Rattle.history.specs.Walk.walkBelow
-    Rattle.history.specs.Walk.walkFrom Rattle.history.specs.Walk.countsHold Rattle.history.specs.Walk.mapDisk
-    Rattle.history.specs.Walk.lengthsAre16 Rattle.history.specs.Walk.mapFormed Rattle.history.specs.Walk.wellFormed
-    Rattle.history.specs.Walk.blocksOf Rattle.history.specs.Walk.idsOf Rattle.history.specs.Walk.visitsOf
-    Rattle.history.specs.Walk.listOf Rattle.history.specs.Walk.mapBlocks
+    Rattle.tree.specs.Edit.cutAt Rattle.tree.specs.Edit.cutNode Rattle.tree.specs.Edit.cuts Rattle.history.specs.Walk.movedTo
+    Rattle.history.specs.Walk.resolve Rattle.history.specs.Walk.joined Rattle.history.specs.Walk.walkKids
+    Rattle.history.specs.Walk.walkBelow Rattle.history.specs.Walk.walkFrom Rattle.history.specs.Walk.countsHold
+    Rattle.history.specs.Walk.mapDisk Rattle.history.specs.Walk.lengthsAre16 Rattle.history.specs.Walk.mapFormed
+    Rattle.history.specs.Walk.wellFormed Rattle.history.specs.Walk.blocksOf Rattle.history.specs.Walk.idsOf
+    Rattle.history.specs.Walk.visitsOf Rattle.history.specs.Walk.listOf Rattle.history.specs.Walk.mapBlocks
 ruled-out = refl
