@@ -6,5 +6,6 @@ pub mod WrongAnswers
 pub mod Calls
 pub mod Passes
 pub mod Statement
+pub mod Code
 -- Laws: checked by the machine, nothing to believe.
 pub mod laws

@@ -98,4 +98,5 @@ pub mod Roots
 pub mod Rewalks
 pub mod Flushing
 pub mod Whole
+pub mod Joined
 pub mod Quoted
