@@ -187,7 +187,7 @@ pub fn of_call(disk: &Container, trees: (&Tree, &Tree), order: Order, line: &Lin
     if after.counts() == before.counts() && matches!(line, Line::Remove(_) | Line::Drop(_)) {
         return None;
     }
-    if !after.fits_in_place(after.root_slot()) {
+    if !after.fits_in_place(after.root_slot()) || after.unfit_root_went_down(before) {
         return Some(ROOT_FITS);
     }
     let way_fits = way.map(|w| w.iter().all(|&n| after.is_dead(n) || after.fits_in_place(n)));
