@@ -46,6 +46,8 @@ pub struct Plan {
     pub map_entries: Option<u64>,
     /// Nodes of the map are damaged.
     pub map_damage: bool,
+    /// Damage is mostly one clause of a refusal alone.
+    pub clauses: bool,
 }
 
 fn size(r: &mut Random) -> usize {
@@ -120,6 +122,7 @@ impl Plan {
             chains: number("chains", 0)? != 0,
             map_entries: option("map-entries").map(|_| number("map-entries", 0)).transpose()?,
             map_damage: number("map-damage", 0)? != 0,
+            clauses: number("clauses", 0)? != 0,
         })
     }
 }
