@@ -104,8 +104,10 @@ impl Runner {
 
     fn lookup(&mut self, line: &Line) -> Option<String> {
         let (disk, w) = (self.disk.as_mut()?, self.open.as_mut()?);
-        // Room for all that the slots can hold.
-        self.out.resize(4 * w.slots * w.size, 0);
+        // Room for all that the slots can hold; pages that nobody writes take no memory.
+        if self.out.is_empty() {
+            self.out = vec![0; 4 * w.slots * w.size];
+        }
         let (out, mut answer) = (&mut self.out, [0; ANSWER_WORDS]);
         let map = w.place.as_ref()?.map;
         let mut lent = w.lent(disk, map, self.trusted);
