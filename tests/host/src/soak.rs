@@ -1,6 +1,7 @@
 //! Hostile calls on the library `moachest` through its C interface:
 //!   soak CALLS SEED             lives from SEED on until so many calls are made
 //!   soak life SEED              one life, each call printed
+//! With a file named in SOAK_LIFE the number of the life stands there while it runs.
 //! Every call is held against the oracle's reading of document 01 on the same slots.
 
 #[allow(dead_code)]
@@ -72,13 +73,12 @@ fn one(seed: u64, guards: &mut Guards, totals: &mut Totals, told: bool) -> bool 
 
 fn soak(calls: u64, first: u64) -> bool {
     let (mut guards, mut totals, mut wrong) = (Guards::new(), Totals::default(), 0);
-    let mut seed = first;
+    let (mut seed, at) = (first, std::env::var_os("SOAK_LIFE"));
     while totals.calls < calls && wrong < ENOUGH {
-        // Where the library faults, the last line says in which life.
-        if seed % 1000 == 0 {
-            eprintln!("life {seed}, {} calls", totals.calls);
+        // Where the library faults, this says in which life.
+        if let Some(file) = &at {
+            std::fs::write(file, seed.to_string()).expect("the file for the life can be written");
         }
-        std::fs::write(std::env::temp_dir().join("moachest-soak-life"), seed.to_string()).ok();
         wrong += !one(seed, &mut guards, &mut totals, false) as u64;
         seed += 1;
     }

@@ -5,6 +5,7 @@ use crate::disk::Disk;
 use crate::guard::Side;
 use crate::judge::judge;
 use crate::lends::{Call, Guards, Lends};
+use crate::model::is_nested;
 use crate::plan::Plan;
 use crate::predict::{demand, Demand};
 use crate::random::Random;
@@ -85,10 +86,14 @@ impl<'a> Life<'a> {
 
     /// One call on what is lent, judged. What it leaves is lent to the next.
     fn call(&mut self, l: &mut Lends, call: &Call, bent: bool) -> Step<u64> {
-        let demanded = demand(l, call);
+        let mut demanded = demand(l, call);
         let held = !matches!(demanded, Demand::Refused(1) | Demand::Untold) && !matches!(call, Call::Open(..));
         let trusted = held && self.r.chance(30);
         let left = self.guards.call(l, call, trusted);
+        // The reading takes a child's bounds from its parent alone, which is the same only where keys are nested.
+        if left.number == 9 && !matches!(demanded, Demand::Refused(9)) && !is_nested(l) {
+            demanded = Demand::Untold;
+        }
         if self.told {
             println!("{}{} {} tree {:?}: {}", if bent { "bent " } else { "" }, call.name(), if trusted { "trusted" } else { "" }, l.tree, left.number);
         }

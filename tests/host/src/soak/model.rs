@@ -116,9 +116,11 @@ fn entry_holds(t: &Tree, level: u16, key: &[u8], item: &Item) -> bool {
 
 fn node_holds(t: &Tree, n: usize) -> bool {
     let m = &t.nodes[n];
-    let rising = m.keys.windows(2).all(|k| compare(t.place.order)(&k[0], &k[1]) == Ordering::Less);
-    let on_disk = if m.dirty { t.fits(n) } else { m.block.is_some() && (!t.is_virtual() || m.id.is_some()) };
-    m.level <= 32 && (m.level == 0 || !m.keys.is_empty()) && m.keys.iter().zip(&m.items).all(|(k, i)| entry_holds(t, m.level, k, i)) && rising && on_disk
+    // Pair order is only asked of keys that have its length.
+    let rising = || m.keys.windows(2).all(|k| compare(t.place.order)(&k[0], &k[1]) == Ordering::Less);
+    let on_disk = || if m.dirty { t.fits(n) } else { m.block.is_some() && (!t.is_virtual() || m.id.is_some()) };
+    let entries = || m.keys.iter().zip(&m.items).all(|(k, i)| entry_holds(t, m.level, k, i));
+    m.level <= 32 && (m.level == 0 || !m.keys.is_empty()) && entries() && rising() && on_disk()
 }
 
 /// Slots that, dead ones aside, hold together.
@@ -133,4 +135,20 @@ pub fn holds_together(t: &Tree) -> bool {
         t.nodes[n].items.iter().for_each(|i| if let Item::Slot(c) = i { named[*c] += 1 });
     }
     named.iter().all(|n| *n <= 1)
+}
+
+/// Whether the keys of every slot below a slot lie within the bounds that all index keys above set. Slots that calls made are so.
+fn lies_within(t: &Tree, slot: usize, lower: Option<&[u8]>, upper: Option<&[u8]>) -> bool {
+    let m = &t.nodes[slot];
+    let less = |a: &[u8], b: &[u8]| compare(t.place.order)(a, b) == Ordering::Less;
+    let within = |k: &Vec<u8>| lower.is_none_or(|l| !less(k, l)) && upper.is_none_or(|u| less(k, u));
+    m.keys.iter().all(within) && m.items.iter().enumerate().all(|(i, item)| match item {
+        Item::Slot(c) => lies_within(t, *c, Some(&m.keys[i]), m.keys.get(i + 1).map(Vec::as_slice).or(upper)),
+        _ => true,
+    })
+}
+
+/// Whether the keys of slots that hold together also lie within their bounds, which refusal 1 does not ask.
+pub fn is_nested(l: &Lends) -> bool {
+    tree_of(l).is_none_or(|t| !holds_together(&t) || lies_within(&t, t.root, None, None))
 }
