@@ -19,14 +19,14 @@ calls! {
         size: usize, slots: usize, mapped: u64, map: u64, k: Slice, kn: usize, o: Mutable, on: usize, a: Mutable, an: usize);
     moachest_range, moachest_range_trusted: (t: Mutable, tn: usize, i: Slice, n: usize, h: Mutable, hn: usize, b: Mutable, bn: usize,
         size: usize, slots: usize, mapped: u64, map: u64, lo: Slice, ln: usize, hi: Slice, hin: usize, o: Mutable, on: usize, a: Mutable, an: usize);
-    moachest_upsert, moachest_upsert_trusted: (t: Mutable, tn: usize, i: Slice, n: usize, h: Mutable, hn: usize, b: Mutable, bn: usize, s: Mutable,
-        sn: usize, size: usize, slots: usize, mapped: u64, map: u64, k: Slice, kn: usize, ghost: u64, v: Slice, vn: usize);
-    moachest_remove, moachest_remove_trusted: (t: Mutable, tn: usize, i: Slice, n: usize, h: Mutable, hn: usize, b: Mutable, bn: usize, s: Mutable,
-        sn: usize, size: usize, slots: usize, mapped: u64, map: u64, k: Slice, kn: usize, a: Mutable, an: usize);
-    moachest_omap_put, moachest_omap_put_trusted: (t: Mutable, tn: usize, i: Slice, n: usize, h: Mutable, hn: usize, b: Mutable, bn: usize, s: Mutable,
-        sn: usize, size: usize, slots: usize, mapped: u64, map: u64, id: u64, xid: u64, address: u64, length: u64);
-    moachest_omap_drop, moachest_omap_drop_trusted: (t: Mutable, tn: usize, i: Slice, n: usize, h: Mutable, hn: usize, b: Mutable, bn: usize, s: Mutable,
-        sn: usize, size: usize, slots: usize, mapped: u64, map: u64, id: u64);
+    moachest_upsert, moachest_upsert_trusted: (t: Mutable, tn: usize, i: Slice, n: usize, h: Mutable, hn: usize, b: Mutable, bn: usize,
+        s: Mutable, sn: usize, size: usize, slots: usize, mapped: u64, map: u64, k: Slice, kn: usize, ghost: u64, v: Slice, vn: usize);
+    moachest_remove, moachest_remove_trusted: (t: Mutable, tn: usize, i: Slice, n: usize, h: Mutable, hn: usize, b: Mutable, bn: usize,
+        s: Mutable, sn: usize, size: usize, slots: usize, mapped: u64, map: u64, k: Slice, kn: usize, a: Mutable, an: usize);
+    moachest_omap_put, moachest_omap_put_trusted: (t: Mutable, tn: usize, i: Slice, n: usize, h: Mutable, hn: usize, b: Mutable, bn: usize,
+        s: Mutable, sn: usize, size: usize, slots: usize, mapped: u64, map: u64, id: u64, xid: u64, address: u64, length: u64);
+    moachest_omap_drop, moachest_omap_drop_trusted: (t: Mutable, tn: usize, i: Slice, n: usize, h: Mutable, hn: usize, b: Mutable, bn: usize,
+        s: Mutable, sn: usize, size: usize, slots: usize, mapped: u64, map: u64, id: u64);
     moachest_flush, moachest_flush_trusted: (t: Slice, tn: usize, i: Mutable, n: usize, m: Mutable, mn: usize, c: Slice, cn: usize, f: Mutable, fnn: usize,
         h: Mutable, hn: usize, b: Slice, bn: usize, freed: Mutable, dn: usize, removed: Mutable, rn: usize, ids: Mutable, idn: usize, places: Mutable,
         pn: usize, size: usize, slots: usize, mapped: u64, map: u64, xid: u64, next: u64, a: Mutable, an: usize);
@@ -140,7 +140,10 @@ impl Lent<'_> {
         let ((d, dn), (r, rn)) = (room(chunks.freed), room(chunks.removed));
         let ((p, pn), (q, qn), (a, an)) = (room(chunks.ids), room(chunks.places), room(answer));
         let (mapped, map) = (self.mapped, self.map);
-        unsafe { call(t, tn, i, n, m, mn, c, cn, f, fnn, h, hn, b, bn, d, dn, r, rn, p, pn, q, qn, self.size, self.slots, mapped, map, xid, next, a, an) }
+        let (size, slots) = (self.size, self.slots);
+        unsafe {
+            call(t, tn, i, n, m, mn, c, cn, f, fnn, h, hn, b, bn, d, dn, r, rn, p, pn, q, qn, size, slots, mapped, map, xid, next, a, an)
+        }
     }
 }
 

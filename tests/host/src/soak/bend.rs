@@ -9,7 +9,13 @@ pub fn number(r: &mut Random) -> u64 {
     let small = r.below(20);
     let any = r.next();
     let shift = r.below(64);
-    *r.pick(&[0, 0, 1, 1, 2, 3, 4, 8, small, small, 31, 32, 33, 512, 1 << 16, u32::MAX as u64, 1 << 32, 1 << 63, u64::MAX - 1, u64::MAX, any, any >> shift])
+    let known = [0, 0, 1, 1, 2, 3, 4, 8, 31, 32, 33, 512, 1 << 16, u32::MAX as u64, 1 << 32, 1 << 63, u64::MAX - 1, u64::MAX];
+    match r.below(22) {
+        i @ 0..18 => known[i as usize],
+        18 | 19 => small,
+        20 => any,
+        _ => any >> shift,
+    }
 }
 
 fn slot_in_use(r: &mut Random, l: &Lends) -> usize {

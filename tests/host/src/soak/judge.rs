@@ -1,7 +1,7 @@
 //! Holds what a call left against what it was lent and what document 01 demands.
 
 use crate::lends::{Call, Guards, Left, Lends};
-use crate::model::{sizes_hold, tree_of, DEAD, HEAD, USED};
+use crate::model::{self, lent, sizes_hold, tree_of, DEAD, HEAD, USED};
 use crate::predict::{After, Demand, Flushed};
 use crate::reading::node::{Item, Node};
 use crate::reading::tree::Tree;
@@ -14,7 +14,7 @@ fn check(holds: bool, why: &str) -> Verdict {
 
 /// The words and bytes of slots in use that belong to a node; the rest is unused (docs/FORMAT.md).
 fn slots_are_kept(l: &Lends, left: &Left) -> bool {
-    if !sizes_hold(l) || l.tree.len() < 14 {
+    if !sizes_hold(&lent(l)) || l.tree.len() < 14 {
         return l.heads == *left.heads && l.bytes == *left.bytes;
     }
     let used = usize::try_from(l.tree[1]).unwrap_or(usize::MAX).min(l.slots);
@@ -50,7 +50,7 @@ fn refused(l: &Lends, left: &Left, call: &Call) -> Verdict {
     check(l.out == *left.out && l.answer == *left.answer, "a refused call answers")?;
     // To open, all slots are unused.
     let is_open = matches!(call, Call::Open(..));
-    check(is_open && sizes_hold(l) || slots_are_kept(l, left), "a refused call changes slots in use")
+    check(is_open && sizes_hold(&lent(l)) || slots_are_kept(l, left), "a refused call changes slots in use")
 }
 
 fn same_item(a: &Item, b: &Item) -> bool {
@@ -101,9 +101,7 @@ fn accepted(l: &Lends, left: &Left, after: &After) -> Verdict {
         return flushed(l, left, f);
     }
     check(l.tree[14..] == left.tree[14..], "words past the tree are changed")?;
-    // The slots as they are now, read with what was lent.
-    let now = Lends { tree: left.tree.to_vec(), heads: left.heads.to_vec(), bytes: left.bytes.to_vec(), ..l.clone() };
-    let found = tree_of(&now).ok_or("it leaves slots that are none")?;
+    let found = tree_of(&model::after(l, left.tree, left.heads, left.bytes)).ok_or("it leaves slots that are none")?;
     after.tree.as_ref().map_or(Ok(()), |wanted| same_tree(wanted, &found))
 }
 

@@ -5,6 +5,7 @@ use crate::disk::Disk;
 use crate::guard::Side;
 use crate::judge::judge;
 use crate::lends::{Call, Guards, Lends};
+use crate::library::lengths;
 use crate::model::is_nested;
 use crate::plan::Plan;
 use crate::predict::{demand, Demand};
@@ -95,7 +96,8 @@ impl<'a> Life<'a> {
             demanded = Demand::Untold;
         }
         if self.told {
-            println!("{}{} {} tree {:?}: {}", if bent { "bent " } else { "" }, call.name(), if trusted { "trusted" } else { "" }, l.tree, left.number);
+            let (bent, trusted) = (if bent { "bent " } else { "" }, if trusted { " trusted" } else { "" });
+            println!("{bent}{}{trusted} tree {:?}: {}", call.name(), l.tree, left.number);
         }
         self.totals.note(call.name(), left.number, bent, trusted, matches!(demanded, Demand::Untold));
         if let Err(why) = judge(l, &left, call, &demanded, self.guards) {
@@ -187,13 +189,28 @@ impl<'a> Life<'a> {
         Ok(())
     }
 
-    /// The whole life. True if it came to its own end.
+    /// The lengths that the library asks for: 0 where open accepts no such slots or size.
+    fn lengths(&mut self) -> Step<()> {
+        let slots = *self.r.pick(&[0, 1, 7, 4095, 4096, 4097, 1 << 61, usize::MAX]);
+        let size = if self.r.chance(50) { 512 << self.r.below(8) } else { bend::number(&mut self.r) as usize };
+        let (n, s) = (slots as u64, size as u64);
+        let (some, sized) = ((1..=4096).contains(&slots), (512..=65_536).contains(&size) && size.is_power_of_two());
+        let words = if some { 19 * n } else { 0 };
+        let (bytes, scratch) = if some && sized { (8 * n * s, (2 * n + 2) * s) } else { (0, 0) };
+        if lengths(slots, size) == (words, bytes, scratch) {
+            return Ok(());
+        }
+        Err(End::Fault(format!("lengths of {slots} slots of {size}: {:?}", lengths(slots, size))))
+    }
+
+    /// The whole life.
     pub fn live(&mut self) -> Step<()> {
+        self.lengths()?;
         if self.plan.is_virtual {
             self.map_moves(&[], &[(TREE_ID, TREE_AT)])?;
         }
         self.open()?;
-        for _ in 0..20 + self.r.below(150) {
+        for _ in 0..self.plan.steps {
             match self.r.below(100) {
                 0..=2 => self.turn()?,
                 3..=44 => {

@@ -17,12 +17,35 @@ const GHOST: u16 = 0xffff;
 const ON_DISK: u16 = 0xfffe;
 const IN_SLOT: u16 = 0xfffd;
 
+/// Slots with the numbers that they are read by.
+pub struct Slots<'a> {
+    pub size: usize,
+    pub slots: usize,
+    pub mapped: u64,
+    pub map: u64,
+    /// The image's length.
+    pub image: usize,
+    pub tree: &'a [u64],
+    pub heads: &'a [u64],
+    pub bytes: &'a [u8],
+}
+
+/// The slots as they are lent.
+pub fn lent(l: &Lends) -> Slots<'_> {
+    after(l, &l.tree, &l.heads, &l.bytes)
+}
+
+/// The slots as a call left them.
+pub fn after<'a>(l: &Lends, tree: &'a [u64], heads: &'a [u64], bytes: &'a [u8]) -> Slots<'a> {
+    Slots { size: l.size, slots: l.slots, mapped: l.mapped, map: l.map, image: l.image.len(), tree, heads, bytes }
+}
+
 /// The lent sizes that every call looks at, open too.
-pub fn sizes_hold(l: &Lends) -> bool {
-    let blocks = l.image.len() / l.size.max(1);
+pub fn sizes_hold(l: &Slots) -> bool {
+    let blocks = l.image / l.size.max(1);
     (512..=65_536).contains(&l.size)
         && l.size.is_power_of_two()
-        && l.image.len() % l.size == 0
+        && l.image % l.size == 0
         && (1..=1 << 20).contains(&blocks)
         && (1..=4096).contains(&l.slots)
         && l.heads.len() == WORDS_EACH * l.slots
@@ -54,7 +77,7 @@ fn record(bytes: &[u8]) -> Option<(Vec<u8>, Item, &[u8])> {
 }
 
 /// The node of a slot; none where its words or records are none.
-fn node(l: &Lends, n: usize) -> Option<Node> {
+fn node(l: &Slots, n: usize) -> Option<Node> {
     let &[level, count, used, placed, block, named, id, dirty, dead] = &l.heads[HEAD * n..][..HEAD] else { return None };
     let marks = placed <= 1 && named <= 1 && dirty <= 1 && dead <= 1;
     if !marks || (placed == 0 && block != 0) || (named == 0 && id != 0) {
@@ -79,7 +102,7 @@ fn node(l: &Lends, n: usize) -> Option<Node> {
 }
 
 /// The tree that words and bytes are; none where a number, a word or a record is none.
-pub fn tree_of(l: &Lends) -> Option<Tree> {
+pub fn tree_of(l: &Slots) -> Option<Tree> {
     let t: &[u64] = l.tree.get(..14)?;
     let small = |i: usize| u32::try_from(t[i]).ok();
     let used = usize::try_from(t[1]).ok()?;
@@ -150,5 +173,5 @@ fn lies_within(t: &Tree, slot: usize, lower: Option<&[u8]>, upper: Option<&[u8]>
 
 /// Whether the keys of slots that hold together also lie within their bounds, which refusal 1 does not ask.
 pub fn is_nested(l: &Lends) -> bool {
-    tree_of(l).is_none_or(|t| !holds_together(&t) || lies_within(&t, t.root, None, None))
+    tree_of(&lent(l)).is_none_or(|t| !holds_together(&t) || lies_within(&t, t.root, None, None))
 }

@@ -13,6 +13,8 @@ pub struct Plan {
     pub fixed: Option<(usize, usize)>,
     pub flags: u32,
     pub is_virtual: bool,
+    /// How many steps its life has; fewer where a call copies much.
+    pub steps: u64,
     /// Bytes of the output.
     pub out: usize,
     longest: usize,
@@ -39,7 +41,8 @@ fn lengths(r: &mut Random, order: Order) -> Option<(usize, usize)> {
 impl Plan {
     pub fn new(r: &mut Random) -> Self {
         let size = size(r);
-        let slots = if size > 4096 { 3 } else { *r.pick(&[1, 2, 3, 4, 5, 6, 8, 12, 20]) };
+        let drawn = *r.pick(&[1, 2, 3, 4, 5, 6, 8, 12, 20]);
+        let slots = if size > 4096 { 3 } else if size > 1024 { drawn.min(5) } else { drawn };
         let order = *r.pick(&[Order::Pair, Order::Pair, Order::Byte]);
         Self {
             size,
@@ -49,6 +52,7 @@ impl Plan {
             fixed: lengths(r, order),
             flags: *r.pick(&[0, 0, 0x40]),
             is_virtual: r.chance(40),
+            steps: if size > 4096 { 15 } else { 20 + r.below(150) },
             out: *r.pick(&[0, 16, 300, 2048, 2048, 4 * size * slots]),
             longest: *r.pick(&[2, 6, 12, size / 8, size / 3]),
         }

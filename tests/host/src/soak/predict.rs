@@ -5,7 +5,7 @@ use std::panic::{catch_unwind, AssertUnwindSafe};
 use apfs::nx::{Chunk, Container};
 
 use crate::lends::{Call, Lends};
-use crate::model::{holds_together, order, sizes_hold, tree_of};
+use crate::model::{holds_together, lent, order, sizes_hold, tree_of};
 use crate::reading::lookups::Entry;
 use crate::reading::tree::{self, check, Answer, Tree};
 use crate::session::Place;
@@ -41,7 +41,7 @@ pub fn held(l: &Lends, call: &Call) -> Answer<Tree> {
     check(!edit || Some(l.scratch.len()) == l.slots.checked_mul(2 * l.size).map(|n| n + 2 * l.size), 1)?;
     let answers = !edit || matches!(call, Call::Remove(_));
     check(!answers || l.answer.len() >= 8, 1)?;
-    let t = tree_of(l).ok_or(1)?;
+    let t = tree_of(&lent(l)).ok_or(1)?;
     check(holds_together(&t), 1)?;
     if matches!(call, Call::Flush(..)) {
         check(chunks_hold(l), 1)?;
@@ -119,7 +119,7 @@ fn flush(mut t: Tree, mut disk: Container, xid: u64, next: u64) -> Answer<After>
 }
 
 fn open(l: &Lends, disk: &Container, root: u64, code: u64, xid: u64) -> Answer<After> {
-    check(l.tree.len() >= 14 && sizes_hold(l), 1)?;
+    check(l.tree.len() >= 14 && sizes_hold(&lent(l)), 1)?;
     let place = Place { root, order: order(code).ok_or(1)?, map: (l.mapped != 0).then_some(l.map), xid, moved: Vec::new() };
     Ok(After { tree: Some(tree::open(disk, place)?), ..After::default() })
 }
