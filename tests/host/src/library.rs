@@ -29,7 +29,8 @@ calls! {
         s: Mutable, sn: usize, size: usize, slots: usize, mapped: u64, map: u64, id: u64);
     moachest_flush, moachest_flush_trusted: (t: Slice, tn: usize, i: Mutable, n: usize, m: Mutable, mn: usize, c: Slice, cn: usize,
         f: Mutable, fnn: usize, h: Mutable, hn: usize, b: Slice, bn: usize, freed: Mutable, dn: usize, removed: Mutable, rn: usize,
-        ids: Mutable, idn: usize, places: Mutable, pn: usize, size: usize, slots: usize, mapped: u64, map: u64, xid: u64, next: u64, a: Mutable, an: usize);
+        ids: Mutable, idn: usize, places: Mutable, pn: usize, size: usize, slots: usize, mapped: u64, map: u64, xid: u64, next: u64,
+        a: Mutable, an: usize);
 }
 
 extern "C" {
