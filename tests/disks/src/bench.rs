@@ -2,8 +2,9 @@
 //! model's records, and be accepted by `apfsck`.
 
 use std::path::Path;
+use std::time::Instant;
 
-use crate::cases::Case;
+use crate::cases::Done;
 use crate::disk::Disk;
 use crate::editor::Editor;
 use crate::judge::Sheet;
@@ -36,6 +37,7 @@ struct Figures {
     volume_map: (usize, u16),
     tree: (usize, u16),
     nodes: usize,
+    extents: (usize, u16),
 }
 
 /// The library is judged where there is one: its session is the first.
@@ -51,14 +53,25 @@ fn editors(size: usize) -> Vec<Box<dyn Editor>> {
     out
 }
 
-pub fn run(case: &Case, path: &Path) -> Result<String, String> {
-    let (sheet, disk) = Sheet::make(path, case.mebibytes, case.options)?;
+/// Prints what came of a case; gives whether it went well.
+pub fn report(name: &str, outcome: Result<String, String>) -> bool {
+    match &outcome {
+        Ok(said) => println!("{name}: {said}"),
+        Err(why) => println!("{name}: WRONG: {why}"),
+    }
+    outcome.is_ok()
+}
+
+/// Makes a container in a file, has it judged untouched, and plays a case on it. The file stays if the case goes wrong.
+pub fn run(mebibytes: u64, options: &[&str], path: &Path, play: &dyn Fn(&mut Bench) -> Done) -> Result<String, String> {
+    let start = Instant::now();
+    let (sheet, disk) = Sheet::make(path, mebibytes, options)?;
     sheet.judge().map_err(|e| format!("untouched: {e}"))?;
     let sessions = editors(disk.size).into_iter().map(|editor| Session { editor, disk: disk.clone() }).collect();
     let mut bench = Bench { sessions, sheet, figures: Figures::default() };
-    (case.play)(&mut bench)?;
+    play(&mut bench)?;
     let _ = std::fs::remove_file(path);
-    Ok(bench.figures.said(bench.sessions.len()))
+    Ok(format!("{}; {:.1} s", bench.figures.said(bench.sessions.len()), start.elapsed().as_secs_f64()))
 }
 
 impl Bench {
@@ -91,6 +104,56 @@ impl Bench {
     }
 }
 
+/// Cases in which something must go wrong. The container is then put back as it was.
+impl Bench {
+    /// `apfsck` must say these words of what a plan leaves.
+    pub fn disliked(&mut self, plan: &Plan, words: &str) -> Result<(), String> {
+        let before: Vec<Disk> = self.sessions.iter().map(|s| s.disk.clone()).collect();
+        for s in &mut self.sessions {
+            transaction::commit(&mut s.disk, s.editor.as_mut(), plan).map_err(|e| format!("{}: {e}", s.editor.name()))?;
+        }
+        let (first, others) = self.sessions.split_first().expect("an editor");
+        others.iter().try_for_each(|other| compare(first, other))?;
+        self.sheet.write(&first.disk.image)?;
+        let verdict = self.sheet.judge();
+        self.put_back(before)?;
+        match verdict {
+            Err(said) if said.ends_with(words) => Ok(()),
+            other => Err(format!("{words:?} was to be said, not {other:?}")),
+        }
+    }
+
+    /// Each editor must refuse a plan with one of these answers.
+    pub fn refused(&mut self, plan: &Plan, answers: &[&str]) -> Result<(), String> {
+        for s in &mut self.sessions {
+            let before = s.disk.clone();
+            let answer = transaction::commit(&mut s.disk, s.editor.as_mut(), plan);
+            s.disk = before;
+            if !answer.as_ref().is_err_and(|e| answers.iter().any(|a| e.ends_with(a))) {
+                return Err(format!("{} answered {answer:?}", s.editor.name()));
+            }
+        }
+        Ok(())
+    }
+
+    /// The library must refuse to open the file-system tree in byte order, its keys as they are stored. The original does not look.
+    pub fn refused_in_byte_order(&mut self, answer: &str) -> Result<(), String> {
+        for s in self.sessions.iter_mut().filter(|s| s.editor.checks_order()) {
+            let place = Volume::read(&s.disk).tree();
+            let given = s.editor.open(&mut s.disk, place);
+            if given != Err(answer.into()) {
+                return Err(format!("{} answered {given:?}", s.editor.name()));
+            }
+        }
+        Ok(())
+    }
+
+    fn put_back(&mut self, before: Vec<Disk>) -> Result<(), String> {
+        self.sessions.iter_mut().zip(before).for_each(|(s, disk)| s.disk = disk);
+        self.sheet.write(&self.sessions[0].disk.image).map(|_| ())
+    }
+}
+
 fn compare(a: &Session, b: &Session) -> Result<(), String> {
     if a.disk.image == b.disk.image && a.disk.bitmap == b.disk.bitmap && a.disk.free == b.disk.free {
         return Ok(());
@@ -111,21 +174,21 @@ impl Figures {
         let nodes = volume.nodes(disk);
         most(&mut self.tree, node::records(disk, &nodes).len(), node::level(disk.block(nodes[0])) + 1);
         self.nodes = self.nodes.max(nodes.len());
+        let nodes = volume.extent_nodes(disk);
+        most(&mut self.extents, node::records(disk, &nodes).len(), node::level(disk.block(nodes[0])) + 1);
         self.transactions += 1;
-        self.edits += plan.records.len() + plan.volume_map.len() + plan.container_map.len() + plan.copies.len();
+        self.edits += plan.records.len() + plan.extents.len() + plan.volume_map.len() + plan.container_map.len() + plan.copies.len();
     }
 
     fn said(&self, editors: usize) -> String {
-        let tree = |(entries, levels): (usize, u16)| format!("{entries} in {levels} levels");
-        format!(
-            "{} transactions, {} edits, {} blocks written, {editors} editors; most: container's map {}, volume's map {}, file-system tree {}, {} nodes",
-            self.transactions,
-            self.edits,
-            self.blocks,
-            tree(self.container_map),
-            tree(self.volume_map),
-            tree(self.tree),
-            self.nodes
-        )
+        let tree = |name: &str, (entries, levels): (usize, u16)| format!("{name} {entries}/{levels}");
+        let trees = [
+            tree("container's map", self.container_map),
+            tree("volume's map", self.volume_map),
+            tree("file-system tree", self.tree),
+            tree("extent references", self.extents),
+        ];
+        let Self { transactions, edits, blocks, nodes, .. } = self;
+        format!("{transactions} transactions, {edits} edits, {blocks} blocks, {editors} editors; most entries/levels: {}; {nodes} nodes", trees.join(", "))
     }
 }

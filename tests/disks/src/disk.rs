@@ -51,12 +51,19 @@ impl Disk {
             let first = (chunk * self.per_chunk()) as u64;
             let blocks = first..first + self.counts[chunk] as u64;
             if let Some(address) = blocks.into_iter().find(|&a| self.free[chunk] > 0 && !self.is_used(a)) {
-                self.bitmap[address as usize / 8] |= 1 << (address % 8);
-                self.free[chunk] -= 1;
+                self.mark(address);
                 return address;
             }
         }
         panic!("the container is full");
+    }
+
+    /// Marks a free block as used.
+    pub fn mark(&mut self, address: u64) {
+        assert!(!self.is_used(address), "block {address} is in use");
+        self.bitmap[address as usize / 8] |= 1 << (address % 8);
+        let chunk = address as usize / self.per_chunk();
+        self.free[chunk] -= 1;
     }
 
     /// Gives a block back that no checkpoint uses any more.

@@ -11,9 +11,11 @@ use std::cmp::Ordering;
 use crate::bytes::{is_sealed, put_u16, put_u32, put_u64, seal, u16_at, u32_at, u64_at};
 use crate::node::spans;
 
+pub const EXTENT: u64 = 2;
 pub const INODE: u64 = 3;
 pub const XATTR: u64 = 4;
 const SIBLING_LINK: u64 = 5;
+pub const DSTREAM: u64 = 6;
 pub const FILE_EXTENT: u64 = 8;
 pub const DIR_REC: u64 = 9;
 const SNAP_NAME: u64 = 11;

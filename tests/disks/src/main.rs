@@ -18,22 +18,20 @@ mod transaction;
 
 use std::path::Path;
 
+const USE: &str = "disks DIRECTORY [CASE ..]             all cases, or those named; containers are made in DIRECTORY
+disks DIRECTORY soak FIRST COUNT      random cases, from a seed on";
+
 fn main() {
     let words: Vec<String> = std::env::args().skip(1).collect();
-    let [directory, chosen @ ..] = &words[..] else {
-        eprintln!("disks DIRECTORY [CASE ..]    runs all cases or those named; containers are made in DIRECTORY");
-        std::process::exit(2);
+    let words: Vec<&str> = words.iter().map(String::as_str).collect();
+    let wrong = match &words[..] {
+        [directory, "soak", first, count] => match (first.parse(), count.parse()) {
+            (Ok(first), Ok(count)) => cases::soak(Path::new(directory), first, count),
+            _ => return eprintln!("{USE}"),
+        },
+        [directory, chosen @ ..] => cases::run(Path::new(directory), chosen),
+        [] => return eprintln!("{USE}"),
     };
-    let mut failed = 0;
-    for case in cases::ALL.iter().filter(|c| chosen.is_empty() || chosen.iter().any(|n| n == c.name)) {
-        let path = Path::new(directory).join(format!("{}.apfs", case.name));
-        match bench::run(case, &path) {
-            Ok(said) => println!("{}: {said}", case.name),
-            Err(why) => {
-                println!("{}: WRONG: {why}", case.name);
-                failed += 1;
-            }
-        }
-    }
-    std::process::exit(if failed == 0 { 0 } else { 1 });
+    println!("{wrong} cases went wrong");
+    std::process::exit((wrong > 0) as i32);
 }

@@ -72,14 +72,14 @@ pub fn address_of(map: &Mapped, id: u64) -> u64 {
     map.range((id, 0)..=(id, u64::MAX)).next_back().unwrap_or_else(|| panic!("object {id} is not mapped")).1 .1
 }
 
-/// Addresses of all nodes of a virtual tree with variable lengths, a node before its children.
-pub fn virtual_nodes(disk: &Disk, map: &Mapped, root: u64) -> Vec<u64> {
+/// Addresses of all nodes of a tree with variable lengths, a node before its children. With a map the tree is a virtual one.
+pub fn tree_nodes(disk: &Disk, map: Option<&Mapped>, root: u64) -> Vec<u64> {
     let mut out = Vec::new();
     let mut todo = vec![root];
     while let Some(id) = todo.pop() {
-        let address = address_of(map, id);
+        let address = map.map_or(id, |m| address_of(m, id));
         let b = disk.block(address);
-        assert!(is_sealed(b) && u64_at(b, 8) == id, "node {id} at {address} is not what the map says");
+        assert!(is_sealed(b) && u64_at(b, 8) == id, "the block at {address} is not node {id}");
         if level(b) > 0 {
             todo.extend(spans(b, None).into_iter().rev().map(|s| u64_at(&b[s.value.expect("a child")], 0)));
         }

@@ -1,11 +1,14 @@
 //! Records of the file-system tree, as bytes.
 
 use crate::bytes::{put_u16, put_u32, put_u64};
-use crate::keys::{key, DIR_REC, INODE, XATTR};
+use crate::keys::{key, DIR_REC, DSTREAM, EXTENT, FILE_EXTENT, INODE, XATTR};
 
 const INODE_FIXED: usize = 92;
-const NAME_FIELD: u8 = 4;
-const DO_NOT_COPY: u8 = 2;
+const NAME_FIELD: (u8, u8) = (4, 2);
+const DSTREAM_FIELD: (u8, u8) = (8, 0x20);
+const DSTREAM_LENGTH: usize = 40;
+/// An extent that no snapshot has seen.
+const NEW: u64 = 1 << 60;
 const EMBEDDED: u16 = 2;
 const SYSTEM_OWNED: u16 = 4;
 pub const SYMLINK: &str = "com.apple.fs.symlink";
@@ -37,29 +40,64 @@ pub struct Inode {
     /// Children of a directory, links of anything else.
     pub links: u32,
     pub time: u64,
+    /// Bytes of a file's data stream, if it has one.
+    pub bytes: Option<u64>,
 }
 
 pub fn inode_key(id: u64) -> Vec<u8> {
     key(id, INODE)
 }
 
-/// `j_inode_val_t` with the name as its only extended field.
+/// `j_inode_val_t` with its extended fields: the name and, if there is one, the data stream.
 pub fn inode_value(inode: &Inode) -> Vec<u8> {
-    let name = inode.name.as_bytes();
-    let padded = (name.len() + 1).div_ceil(8) * 8;
-    let mut v = vec![0; INODE_FIXED + 8 + padded];
+    let mut v = vec![0; INODE_FIXED];
     put_u64(&mut v, 0, inode.parent);
     put_u64(&mut v, 8, inode.id);
     (16..48).step_by(8).for_each(|at| put_u64(&mut v, at, inode.time));
     put_u32(&mut v, 56, inode.links);
     put_u16(&mut v, 80, inode.kind.code() << 12 | 0o755);
-    put_u16(&mut v, INODE_FIXED, 1);
-    put_u16(&mut v, INODE_FIXED + 2, padded as u16);
-    v[INODE_FIXED + 4] = NAME_FIELD;
-    v[INODE_FIXED + 5] = DO_NOT_COPY;
-    put_u16(&mut v, INODE_FIXED + 6, name.len() as u16 + 1);
-    v[INODE_FIXED + 8..][..name.len()].copy_from_slice(name);
+    let mut fields = vec![(NAME_FIELD, [inode.name.as_bytes(), &[0]].concat())];
+    if let Some(bytes) = inode.bytes {
+        let mut stream = vec![0; DSTREAM_LENGTH];
+        put_u64(&mut stream, 0, bytes);
+        put_u64(&mut stream, 8, bytes);
+        fields.push((DSTREAM_FIELD, stream));
+    }
+    v.extend(extended(&fields));
     v
+}
+
+/// `xf_blob_t`: count and length, then type, flags and length of each field, then their values padded to 8 bytes.
+fn extended(fields: &[((u8, u8), Vec<u8>)]) -> Vec<u8> {
+    let mut values = Vec::new();
+    let mut blob = (fields.len() as u16).to_le_bytes().to_vec();
+    for (_, value) in fields {
+        values.extend(value);
+        values.resize(values.len().div_ceil(8) * 8, 0);
+    }
+    blob.extend((values.len() as u16).to_le_bytes());
+    for ((kind, flags), value) in fields {
+        blob.extend([*kind, *flags]);
+        blob.extend((value.len() as u16).to_le_bytes());
+    }
+    blob.extend(values);
+    blob
+}
+
+/// A data stream's record: it is used once.
+pub fn stream_record(id: u64) -> (Vec<u8>, Vec<u8>) {
+    (key(id, DSTREAM), 1u32.to_le_bytes().to_vec())
+}
+
+/// `j_file_extent_key_t` and its value: blocks from `address` on, at a byte of a file.
+pub fn extent_record(id: u64, byte: u64, address: u64, bytes: u64) -> (Vec<u8>, Vec<u8>) {
+    ([key(id, FILE_EXTENT), byte.to_le_bytes().to_vec()].concat(), [bytes, address, 0].map(u64::to_le_bytes).concat())
+}
+
+/// `j_phys_ext_key_t` and its value, of the extent-reference tree: blocks that one file uses.
+pub fn reference_record(id: u64, address: u64, blocks: u64) -> (Vec<u8>, Vec<u8>) {
+    let value = [(blocks | NEW).to_le_bytes(), id.to_le_bytes()].concat();
+    (key(address, EXTENT), [value, 1u32.to_le_bytes().to_vec()].concat())
 }
 
 /// `hash`: of the name, as the volume has it; none where names are not hashed.

@@ -4,7 +4,7 @@
 use crate::bytes::{put_u64, u64_at};
 use crate::container::{Container, Mapping, FS_OID, NEXT_OID, OMAP_OID};
 use crate::disk::Disk;
-use crate::editor::{Answer, Editor, Order, Place};
+use crate::editor::{Answer, Editor, Flushed, Order, Place};
 use crate::keys;
 use crate::node;
 use crate::space::Space;
@@ -14,6 +14,7 @@ const INCOMPATIBLE: usize = 56;
 const ALLOC_COUNT: usize = 88;
 const VOLUME_OMAP: usize = 128;
 const ROOT_TREE: usize = 136;
+const EXTENTREF_TREE: usize = 144;
 const NEXT_OBJ_ID: usize = 176;
 const NUM_FILES: usize = 184;
 const TOTAL_ALLOCED: usize = 224;
@@ -31,8 +32,11 @@ const NORMALIZATION_INSENSITIVE: u64 = 8;
 
 pub enum Edit {
     Put(Vec<u8>, Vec<u8>),
+    Ghost(Vec<u8>),
     Take(Vec<u8>),
 }
+
+type Lookup = (Vec<u8>, Option<Vec<u8>>);
 
 /// What a transaction is to change.
 #[derive(Default)]
@@ -40,7 +44,11 @@ pub struct Plan {
     /// Of the file-system tree, keys as they are stored.
     pub records: Vec<Edit>,
     /// Looked up after the edits: a key, and its value if it is there.
-    pub lookups: Vec<(Vec<u8>, Option<Vec<u8>>)>,
+    pub lookups: Vec<Lookup>,
+    /// Of the extent-reference tree, keys as they are stored; runs of blocks that files take and give back (address, count).
+    pub extents: Vec<Edit>,
+    pub take: Vec<(u64, u64)>,
+    pub give: Vec<(u64, u64)>,
     pub volume_map: Vec<Edit>,
     pub container_map: Vec<Edit>,
     /// Ids of file-system nodes that get a new block without a change.
@@ -83,9 +91,20 @@ impl Volume {
         u64_at(&self.superblock, NEXT_OBJ_ID)
     }
 
+    /// The file-system tree, in byte order.
+    pub fn tree(&self) -> Place {
+        let (root, map) = (u64_at(&self.superblock, ROOT_TREE), Some(self.volume_map));
+        Place { root, map, order: Order::Byte, xid: u64_at(&self.superblock, 16) }
+    }
+
     /// Addresses of the file-system tree's nodes, a node before its children.
     pub fn nodes(&self, disk: &Disk) -> Vec<u64> {
-        node::virtual_nodes(disk, &node::object_map(disk, self.volume_map).0, u64_at(&self.superblock, ROOT_TREE))
+        node::tree_nodes(disk, Some(&node::object_map(disk, self.volume_map).0), u64_at(&self.superblock, ROOT_TREE))
+    }
+
+    /// The same of the extent-reference tree.
+    pub fn extent_nodes(&self, disk: &Disk) -> Vec<u64> {
+        node::tree_nodes(disk, None, u64_at(&self.superblock, EXTENTREF_TREE))
     }
 }
 
@@ -117,13 +136,15 @@ impl Transaction<'_> {
     fn volume(&mut self, plan: &Plan) -> Answer<()> {
         let volume = Volume::read(self.disk);
         let mut sb = volume.superblock.clone();
-        let (mut moved, removed) = if plan.records.is_empty() { Default::default() } else { self.records(plan, &volume)? };
+        self.data(plan);
+        let Flushed { mut moved, removed, .. } = self.records(plan, &volume)?;
+        let extents = self.extents(plan, &volume)?;
+        put_u64(&mut sb, EXTENTREF_TREE, extents);
         for &id in &plan.copies {
             moved.push((id, self.copy(&volume, id)));
         }
         if !(moved.is_empty() && removed.is_empty() && plan.volume_map.is_empty()) {
             let old = u64_at(&sb, VOLUME_OMAP);
-            put_u64(&mut sb, VOLUME_OMAP, 0);
             let new = self.map(old, &moved, &removed, &plan.volume_map)?;
             put_u64(&mut sb, VOLUME_OMAP, new);
         }
@@ -155,16 +176,48 @@ impl Transaction<'_> {
         put_u64(entry, 40, self.xid);
     }
 
-    /// Edits the file-system tree. An editor without its order is lent the nodes with their keys turned (keys.rs).
-    fn records(&mut self, plan: &Plan, volume: &Volume) -> Answer<(Vec<(u64, u64)>, Vec<u64>)> {
+    /// Blocks of files.
+    fn data(&mut self, plan: &Plan) {
+        for &(address, count) in &plan.take {
+            (address..address + count).for_each(|a| self.disk.mark(a));
+            self.taken += count;
+        }
+        for &(address, count) in &plan.give {
+            self.space.free(&(address..address + count).collect::<Vec<_>>());
+            self.given += count;
+        }
+    }
+
+    /// Edits the file-system tree.
+    fn records(&mut self, plan: &Plan, volume: &Volume) -> Answer<Flushed> {
+        if plan.records.is_empty() {
+            return Ok(Flushed::default());
+        }
+        let root = u64_at(&volume.superblock, ROOT_TREE);
+        let done = self.named_tree(volume, root, Some(volume.volume_map), &plan.records, &plan.lookups)?;
+        assert_eq!(done.root, root, "the root of a virtual tree keeps its id");
+        self.next_oid = done.next;
+        Ok(done)
+    }
+
+    /// Edits the extent-reference tree; gives its root.
+    fn extents(&mut self, plan: &Plan, volume: &Volume) -> Answer<u64> {
+        let root = u64_at(&volume.superblock, EXTENTREF_TREE);
+        if plan.extents.is_empty() {
+            return Ok(root);
+        }
+        Ok(self.named_tree(volume, root, None, &plan.extents, &[])?.root)
+    }
+
+    /// Edits a tree in the file system's order. An editor that cannot be given that order is lent the tree with its keys turned (keys.rs).
+    fn named_tree(&mut self, volume: &Volume, root: u64, map: Option<u64>, edits: &[Edit], lookups: &[Lookup]) -> Answer<Flushed> {
         let hashed = volume.hashed();
         let own = self.editor.takes_own_order();
-        let nodes = if own { Vec::new() } else { volume.nodes(self.disk) };
+        let mapped = map.map(|m| node::object_map(self.disk, m).0);
+        let mut nodes = if own { Vec::new() } else { node::tree_nodes(self.disk, mapped.as_ref(), root) };
         nodes.iter().for_each(|&a| keys::turn_node(self.disk.block_mut(a), hashed, keys::widen));
         let order = if own { Order::Own(hashed) } else { Order::Byte };
-        let root = u64_at(&volume.superblock, ROOT_TREE);
-        let place = Place { root, map: Some(volume.volume_map), order, xid: self.container.xid() };
-        self.editor.open(self.disk, place)?;
+        self.editor.open(self.disk, Place { root, map, order, xid: self.container.xid() })?;
         let form = |key: &[u8]| {
             let mut key = key.to_vec();
             if !own {
@@ -172,26 +225,30 @@ impl Transaction<'_> {
             }
             key
         };
-        self.edit(&plan.records, &form)?;
-        for (key, value) in &plan.lookups {
+        self.edit(edits, &form)?;
+        for (key, value) in lookups {
             let found = self.editor.get(self.disk, &form(key))?;
             assert!(found == value.clone().map(Some), "a lookup after the edits");
         }
         let done = self.editor.flush(self.disk, self.xid, self.next_oid)?;
-        assert_eq!(done.root, root, "the root of a virtual tree keeps its id");
-        let written = done.moved.iter().map(|m| m.1).filter(|_| !own);
-        nodes.iter().copied().chain(written).for_each(|a| keys::turn_node(self.disk.block_mut(a), hashed, keys::narrow));
-        self.next_oid = done.next;
+        if !own {
+            let written = if map.is_some() { done.moved.iter().map(|m| m.1).collect() } else { node::tree_nodes(self.disk, None, done.root) };
+            nodes.extend(written);
+            nodes.sort();
+            nodes.dedup();
+        }
+        nodes.iter().for_each(|&a| keys::turn_node(self.disk.block_mut(a), hashed, keys::narrow));
         self.taken += done.allocated;
         self.given += done.freed.len() as u64;
         self.space.free(&done.freed);
-        Ok((done.moved, done.removed))
+        Ok(done)
     }
 
     fn edit(&mut self, edits: &[Edit], form: &dyn Fn(&[u8]) -> Vec<u8>) -> Answer<()> {
         for edit in edits {
             match edit {
-                Edit::Put(key, value) => self.editor.upsert(self.disk, &form(key), value)?,
+                Edit::Put(key, value) => self.editor.upsert(self.disk, &form(key), Some(value))?,
+                Edit::Ghost(key) => self.editor.upsert(self.disk, &form(key), None)?,
                 Edit::Take(key) => assert!(self.editor.remove(self.disk, &form(key))?, "a key to remove is there"),
             }
         }

@@ -94,6 +94,10 @@ impl Editor for Library {
         false
     }
 
+    fn checks_order(&self) -> bool {
+        true
+    }
+
     fn open(&mut self, disk: &mut Disk, place: Place) -> Answer<()> {
         self.mapped = place.map.is_some() as u64;
         self.map = place.map.unwrap_or(0);
@@ -116,8 +120,9 @@ impl Editor for Library {
         })
     }
 
-    fn upsert(&mut self, disk: &mut Disk, key: &[u8], value: &[u8]) -> Answer<()> {
-        call!(moachest_upsert, self, disk, scratch self.scratch; key.as_ptr(), key.len(), 0, value.as_ptr(), value.len())
+    fn upsert(&mut self, disk: &mut Disk, key: &[u8], value: Option<&[u8]>) -> Answer<()> {
+        let (is_ghost, value) = (value.is_none() as u64, value.unwrap_or(&[]));
+        call!(moachest_upsert, self, disk, scratch self.scratch; key.as_ptr(), key.len(), is_ghost, value.as_ptr(), value.len())
     }
 
     fn remove(&mut self, disk: &mut Disk, key: &[u8]) -> Answer<bool> {

@@ -44,10 +44,13 @@ pub trait Editor {
     fn name(&self) -> &'static str;
     /// Whether it can be given the file-system tree's own order.
     fn takes_own_order(&self) -> bool;
+    /// Whether it refuses a node whose keys do not rise.
+    fn checks_order(&self) -> bool;
     fn open(&mut self, disk: &mut Disk, place: Place) -> Answer<()>;
     /// None: not there. Some(None): a ghost.
     fn get(&mut self, disk: &mut Disk, key: &[u8]) -> Answer<Option<Option<Vec<u8>>>>;
-    fn upsert(&mut self, disk: &mut Disk, key: &[u8], value: &[u8]) -> Answer<()>;
+    /// No value: a ghost.
+    fn upsert(&mut self, disk: &mut Disk, key: &[u8], value: Option<&[u8]>) -> Answer<()>;
     fn remove(&mut self, disk: &mut Disk, key: &[u8]) -> Answer<bool>;
     fn omap_put(&mut self, disk: &mut Disk, id: u64, xid: u64, address: u64) -> Answer<()>;
     fn omap_drop(&mut self, disk: &mut Disk, id: u64) -> Answer<()>;

@@ -68,6 +68,10 @@ impl Editor for Original {
         self.own_order
     }
 
+    fn checks_order(&self) -> bool {
+        false
+    }
+
     fn open(&mut self, disk: &mut Disk, place: Place) -> Answer<()> {
         let tree = with_container(disk, |c| with_reader(c, &place, |r| Tree::open(r, place.root, comparison(place.order))));
         self.open = Some((tree.map_err(|e| e.to_string())?, place));
@@ -78,8 +82,8 @@ impl Editor for Original {
         self.call(disk, |t, r| t.get(r, key))
     }
 
-    fn upsert(&mut self, disk: &mut Disk, key: &[u8], value: &[u8]) -> Answer<()> {
-        self.call(disk, |t, r| t.upsert(r, key.to_vec(), Some(value.to_vec())))
+    fn upsert(&mut self, disk: &mut Disk, key: &[u8], value: Option<&[u8]>) -> Answer<()> {
+        self.call(disk, |t, r| t.upsert(r, key.to_vec(), value.map(<[u8]>::to_vec)))
     }
 
     fn remove(&mut self, disk: &mut Disk, key: &[u8]) -> Answer<bool> {
