@@ -2,7 +2,7 @@
 //! model's records, and be accepted by `apfsck`.
 
 use std::path::Path;
-use std::time::Instant;
+use std::time::{Duration, Instant};
 
 use crate::cases::Done;
 use crate::disk::Disk;
@@ -10,7 +10,9 @@ use crate::editor::Editor;
 use crate::judge::Sheet;
 use crate::model::Model;
 use crate::node;
-use crate::transaction::{self, Plan, Volume};
+use crate::plan::Plan;
+use crate::transaction;
+use crate::volume::Volume;
 
 /// Slots that the library is lent.
 #[cfg(library)]
@@ -19,6 +21,17 @@ const SLOTS: usize = 1024;
 struct Session {
     editor: Box<dyn Editor>,
     disk: Disk,
+    /// Time that its transactions took, all but the writing of the file.
+    spent: Duration,
+}
+
+impl Session {
+    fn commit(&mut self, plan: &Plan) -> Result<u64, String> {
+        let start = Instant::now();
+        let superblock = transaction::commit(&mut self.disk, self.editor.as_mut(), plan);
+        self.spent += start.elapsed();
+        superblock.map_err(|e| format!("{}: {e}", self.editor.name()))
+    }
 }
 
 pub struct Bench {
@@ -67,11 +80,12 @@ pub fn run(mebibytes: u64, options: &[&str], path: &Path, play: &dyn Fn(&mut Ben
     let start = Instant::now();
     let (sheet, disk) = Sheet::make(path, mebibytes, options)?;
     sheet.judge().map_err(|e| format!("untouched: {e}"))?;
-    let sessions = editors(disk.size).into_iter().map(|editor| Session { editor, disk: disk.clone() }).collect();
+    let sessions = editors(disk.size).into_iter().map(|editor| Session { editor, disk: disk.clone(), spent: Duration::ZERO }).collect();
     let mut bench = Bench { sessions, sheet, figures: Figures::default() };
     play(&mut bench)?;
     let _ = std::fs::remove_file(path);
-    Ok(format!("{}; {:.1} s", bench.figures.said(bench.sessions.len()), start.elapsed().as_secs_f64()))
+    let spent: Vec<String> = bench.sessions.iter().map(|s| format!("{} {:.1} s", s.editor.name(), s.spent.as_secs_f64())).collect();
+    Ok(format!("{}; {}; in all {:.1} s", bench.figures.said(), spent.join(", "), start.elapsed().as_secs_f64()))
 }
 
 impl Bench {
@@ -88,7 +102,7 @@ impl Bench {
         let block_0 = self.disk().block(0).to_vec();
         let mut superblock = 0;
         for s in &mut self.sessions {
-            superblock = transaction::commit(&mut s.disk, s.editor.as_mut(), plan).map_err(|e| format!("{}: {e}", s.editor.name()))?;
+            superblock = s.commit(plan)?;
         }
         let (first, others) = self.sessions.split_first().expect("an editor");
         for other in others {
@@ -110,7 +124,7 @@ impl Bench {
     pub fn disliked(&mut self, plan: &Plan, words: &str) -> Result<(), String> {
         let before: Vec<Disk> = self.sessions.iter().map(|s| s.disk.clone()).collect();
         for s in &mut self.sessions {
-            transaction::commit(&mut s.disk, s.editor.as_mut(), plan).map_err(|e| format!("{}: {e}", s.editor.name()))?;
+            s.commit(plan)?;
         }
         let (first, others) = self.sessions.split_first().expect("an editor");
         others.iter().try_for_each(|other| compare(first, other))?;
@@ -127,7 +141,7 @@ impl Bench {
     pub fn refused(&mut self, plan: &Plan, answers: &[&str]) -> Result<(), String> {
         for s in &mut self.sessions {
             let before = s.disk.clone();
-            let answer = transaction::commit(&mut s.disk, s.editor.as_mut(), plan);
+            let answer = s.commit(plan);
             s.disk = before;
             if !answer.as_ref().is_err_and(|e| answers.iter().any(|a| e.ends_with(a))) {
                 return Err(format!("{} answered {answer:?}", s.editor.name()));
@@ -180,7 +194,7 @@ impl Figures {
         self.edits += plan.records.len() + plan.extents.len() + plan.volume_map.len() + plan.container_map.len() + plan.copies.len();
     }
 
-    fn said(&self, editors: usize) -> String {
+    fn said(&self) -> String {
         let tree = |name: &str, (entries, levels): (usize, u16)| format!("{name} {entries}/{levels}");
         let trees = [
             tree("container's map", self.container_map),
@@ -189,6 +203,6 @@ impl Figures {
             tree("extent references", self.extents),
         ];
         let Self { transactions, edits, blocks, nodes, .. } = self;
-        format!("{transactions} transactions, {edits} edits, {blocks} blocks, {editors} editors; most entries/levels: {}; {nodes} nodes", trees.join(", "))
+        format!("{transactions} transactions, {edits} edits, {blocks} blocks; most entries/levels: {}; {nodes} nodes", trees.join(", "))
     }
 }

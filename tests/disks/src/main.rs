@@ -10,11 +10,13 @@ mod judge;
 mod keys;
 mod model;
 mod node;
+mod plan;
 mod queue;
 mod random;
 mod records;
 mod space;
 mod transaction;
+mod volume;
 
 use std::path::Path;
 

@@ -6,8 +6,9 @@ use crate::bytes::u64_at;
 use crate::disk::Disk;
 use crate::keys;
 use crate::node::{self, Record};
+use crate::plan::{Edit, Plan};
 use crate::records::*;
-use crate::transaction::{Edit, Plan, Volume};
+use crate::volume::Volume;
 
 pub const ROOT: u64 = 2;
 const PARENT_OF_ROOT: u64 = 1;
@@ -55,7 +56,8 @@ impl Model {
         let root = model.value(&inode_key(ROOT)).expect("a root directory");
         assert_eq!(u64_at(&root, 0), PARENT_OF_ROOT);
         let time = u64_at(&root, 16);
-        model.inodes.insert(ROOT, Inode { parent: PARENT_OF_ROOT, id: ROOT, name: "root".into(), kind: Kind::Directory, links: 0, time, bytes: None });
+        let root = Inode { parent: PARENT_OF_ROOT, id: ROOT, name: "root".into(), kind: Kind::Directory, links: 0, time, bytes: None };
+        model.inodes.insert(ROOT, root);
         model
     }
 

@@ -2,20 +2,17 @@
 //! that the checkpoint before uses is written over.
 
 use crate::bytes::{put_u64, u64_at};
-use crate::container::{Container, Mapping, FS_OID, NEXT_OID, OMAP_OID};
+use crate::container::{Container, Mapping, NEXT_OID, OMAP_OID};
 use crate::disk::Disk;
 use crate::editor::{Answer, Editor, Flushed, Order, Place};
 use crate::keys;
 use crate::node;
+use crate::plan::{Edit, Lookup, Plan};
 use crate::space::Space;
+use crate::volume::{Volume, EXTENTREF_TREE, NEXT_OBJ_ID, OM_TREE, ROOT_TREE, VOLUME_OMAP};
 
-// apfs_superblock_t
-const INCOMPATIBLE: usize = 56;
+// apfs_superblock_t, what a transaction counts
 const ALLOC_COUNT: usize = 88;
-const VOLUME_OMAP: usize = 128;
-const ROOT_TREE: usize = 136;
-const EXTENTREF_TREE: usize = 144;
-const NEXT_OBJ_ID: usize = 176;
 const NUM_FILES: usize = 184;
 const TOTAL_ALLOCED: usize = 224;
 const TOTAL_FREED: usize = 232;
@@ -24,89 +21,6 @@ const LAST_MOD_TIME: usize = 256;
 const MODIFIED_BY: usize = 320;
 const MODIFIED_BY_ENTRY: usize = 48;
 const NAME: &[u8] = b"moachest tests/disks";
-// omap_phys_t
-const OM_TREE: usize = 48;
-/// Names fold case, or are normalized: directory records have hashed keys.
-const CASE_INSENSITIVE: u64 = 1;
-const NORMALIZATION_INSENSITIVE: u64 = 8;
-
-pub enum Edit {
-    Put(Vec<u8>, Vec<u8>),
-    Ghost(Vec<u8>),
-    Take(Vec<u8>),
-}
-
-type Lookup = (Vec<u8>, Option<Vec<u8>>);
-
-/// What a transaction is to change.
-#[derive(Default)]
-pub struct Plan {
-    /// Of the file-system tree, keys as they are stored.
-    pub records: Vec<Edit>,
-    /// Looked up after the edits: a key, and its value if it is there.
-    pub lookups: Vec<Lookup>,
-    /// Of the extent-reference tree, keys as they are stored; runs of blocks that files take and give back (address, count).
-    pub extents: Vec<Edit>,
-    pub take: Vec<(u64, u64)>,
-    pub give: Vec<(u64, u64)>,
-    pub volume_map: Vec<Edit>,
-    pub container_map: Vec<Edit>,
-    /// Ids of file-system nodes that get a new block without a change.
-    pub copies: Vec<u64>,
-    /// Files, directories and symbolic links of the volume; its next id.
-    pub counts: Option<[u64; 3]>,
-    pub next_id: Option<u64>,
-}
-
-/// What a reader of the newest checkpoint sees.
-pub struct Volume {
-    pub superblock: Vec<u8>,
-    pub address: u64,
-    pub id: u64,
-    /// Roots of the trees of the two object maps.
-    pub container_map: u64,
-    pub volume_map: u64,
-}
-
-impl Volume {
-    pub fn read(disk: &Disk) -> Self {
-        let container = Container::read(disk);
-        let container_map = u64_at(disk.block(container.u64(OMAP_OID)), OM_TREE);
-        let id = container.u64(FS_OID);
-        let address = node::address_of(&node::object_map(disk, container_map).0, id);
-        let superblock = disk.block(address).to_vec();
-        let volume_map = u64_at(disk.block(u64_at(&superblock, VOLUME_OMAP)), OM_TREE);
-        Self { superblock, address, id, container_map, volume_map }
-    }
-
-    pub fn hashed(&self) -> bool {
-        u64_at(&self.superblock, INCOMPATIBLE) & (CASE_INSENSITIVE | NORMALIZATION_INSENSITIVE) != 0
-    }
-
-    pub fn folds_case(&self) -> bool {
-        u64_at(&self.superblock, INCOMPATIBLE) & CASE_INSENSITIVE != 0
-    }
-
-    pub fn next_id(&self) -> u64 {
-        u64_at(&self.superblock, NEXT_OBJ_ID)
-    }
-
-    /// The file-system tree, in byte order.
-    pub fn tree(&self) -> Place {
-        let (root, map) = (u64_at(&self.superblock, ROOT_TREE), Some(self.volume_map));
-        Place { root, map, order: Order::Byte, xid: u64_at(&self.superblock, 16) }
-    }
-
-    /// Addresses of the file-system tree's nodes, a node before its children.
-    pub fn nodes(&self, disk: &Disk) -> Vec<u64> {
-        node::tree_nodes(disk, Some(&node::object_map(disk, self.volume_map).0), u64_at(&self.superblock, ROOT_TREE))
-    }
-
-    /// The same of the extent-reference tree.
-    pub fn extent_nodes(&self, disk: &Disk) -> Vec<u64> {
-        node::tree_nodes(disk, None, u64_at(&self.superblock, EXTENTREF_TREE))
-    }
-}
 
 struct Transaction<'a> {
     disk: &'a mut Disk,

@@ -4,9 +4,9 @@ use super::{change, Done};
 use crate::bench::Bench;
 use crate::disk::Disk;
 use crate::model::{Model, ROOT};
+use crate::plan::{Edit, Plan};
 use crate::random::Random;
 use crate::records::{xattr_key, xattr_value, Kind};
-use crate::transaction::{Edit, Plan};
 
 /// Runs of free blocks among addresses, as the last transaction left them.
 fn free_runs(disk: &Disk, addresses: std::ops::Range<u64>) -> Vec<(u64, u64)> {

@@ -4,7 +4,8 @@ use super::Done;
 use crate::bench::Bench;
 use crate::bytes::u64_at;
 use crate::container::Container;
-use crate::transaction::{Edit, Plan, Volume};
+use crate::plan::{Edit, Plan};
+use crate::volume::Volume;
 
 const UNUSED: u64 = 1_000_000;
 

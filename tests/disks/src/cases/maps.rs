@@ -3,8 +3,9 @@
 use super::Done;
 use crate::bench::Bench;
 use crate::bytes::u64_at;
+use crate::plan::{Edit, Plan};
 use crate::random::Random;
-use crate::transaction::{Edit, Plan, Volume};
+use crate::volume::Volume;
 
 /// Nothing but new checkpoints, until both rings have come round.
 pub fn checkpoints(b: &mut Bench) -> Done {

@@ -9,7 +9,7 @@ use std::path::Path;
 
 use crate::bench::{self, Bench};
 use crate::model::Model;
-use crate::transaction::Plan;
+use crate::plan::Plan;
 
 pub type Done = Result<(), String>;
 

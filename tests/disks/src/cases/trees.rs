@@ -6,9 +6,10 @@ use super::{change, Done};
 use crate::bench::Bench;
 use crate::bytes::u64_at;
 use crate::model::{Model, ROOT};
+use crate::plan::Plan;
 use crate::random::Random;
 use crate::records::Kind;
-use crate::transaction::{Plan, Volume};
+use crate::volume::Volume;
 
 /// Kinds of record one after another, each in its own transaction, then all in one.
 pub fn records(b: &mut Bench) -> Done {
