@@ -16,7 +16,7 @@ use crate::volume::Volume;
 
 /// Slots that the library is lent.
 #[cfg(library)]
-const SLOTS: usize = 1024;
+const SLOTS: usize = 2048;
 
 struct Session {
     editor: Box<dyn Editor>,
@@ -58,7 +58,9 @@ fn editors(size: usize) -> Vec<Box<dyn Editor>> {
     let mut out: Vec<Box<dyn Editor>> = Vec::new();
     let _ = size;
     #[cfg(library)]
-    out.push(Box::new(crate::editor::library::Library::new(SLOTS, size)));
+    for trusted in [false, true] {
+        out.push(Box::new(crate::editor::library::Library::new(SLOTS, size, trusted)));
+    }
     #[cfg(original)]
     for own_order in [false, true] {
         out.push(Box::new(crate::editor::original::Original::new(own_order)));

@@ -32,9 +32,9 @@ pub fn data(b: &mut Bench) -> Done {
     let mut ids = Vec::new();
     change(b, m, |m, p| ids.extend(["one", "many", "rest"].map(|name| m.create(p, ROOT, name, Kind::File))))?;
     change(b, m, |m, p| m.extend(p, ids[0], 40_000, 100))?;
-    let mut blocks: Vec<u64> = (0..9000).map(|i| 42_000 + i).collect();
+    let mut blocks: Vec<u64> = (0..3000).map(|i| 42_000 + i).collect();
     (1..blocks.len()).rev().for_each(|i| blocks.swap(i, r.below(i as u64 + 1) as usize));
-    for part in blocks.chunks(3000) {
+    for part in blocks.chunks(1000) {
         change(b, m, |m, p| part.iter().for_each(|&a| m.extend(p, ids[1], a, 1)))?;
     }
     let rest = free_runs(b.disk(), chunk(b.disk(), 0));
