@@ -1,6 +1,7 @@
 //! Runs a case: every editor commits the same plans on its own copy of the container. The copies must be equal block for block, hold the
 //! model's records, and be accepted by `apfsck`.
 
+use std::panic::{catch_unwind, AssertUnwindSafe};
 use std::path::Path;
 use std::time::{Duration, Instant};
 
@@ -79,6 +80,11 @@ pub fn report(name: &str, outcome: Result<String, String>) -> bool {
 
 /// Makes a container in a file, has it judged untouched, and plays a case on it. The file stays if the case goes wrong.
 pub fn run(mebibytes: u64, options: &[&str], path: &Path, play: &dyn Fn(&mut Bench) -> Done) -> Result<String, String> {
+    // A panic is of one case; the others go on.
+    catch_unwind(AssertUnwindSafe(|| make_and_play(mebibytes, options, path, play))).unwrap_or_else(|_| Err("panic".into()))
+}
+
+fn make_and_play(mebibytes: u64, options: &[&str], path: &Path, play: &dyn Fn(&mut Bench) -> Done) -> Result<String, String> {
     let start = Instant::now();
     let (sheet, disk) = Sheet::make(path, mebibytes, options)?;
     sheet.judge().map_err(|e| format!("untouched: {e}"))?;

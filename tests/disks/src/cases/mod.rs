@@ -35,8 +35,10 @@ pub fn soak(directory: &Path, first: u64, count: u64) -> usize {
 
 /// Runs all cases, or those named; gives how many went wrong.
 pub fn run(directory: &Path, chosen: &[&str]) -> usize {
+    let unknown = chosen.iter().filter(|n| !ALL.iter().any(|c| c.name == **n));
+    let unknown = unknown.filter(|n| !bench::report(n, Err("no such case".into()))).count();
     let named = ALL.iter().filter(|c| chosen.is_empty() || chosen.contains(&c.name));
-    named.filter(|c| !bench::report(c.name, bench::run(c.mebibytes, c.options, &directory.join(c.name), &c.play))).count()
+    unknown + named.filter(|c| !bench::report(c.name, bench::run(c.mebibytes, c.options, &directory.join(c.name), &c.play))).count()
 }
 
 const fn case(name: &'static str, mebibytes: u64, options: &'static [&'static str], play: fn(&mut Bench) -> Done) -> Case {
