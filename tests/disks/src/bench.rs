@@ -7,7 +7,7 @@ use std::time::{Duration, Instant};
 
 use crate::cases::Done;
 use crate::disk::Disk;
-use crate::editor::Editor;
+use crate::editor::{Editor, Place};
 use crate::judge::Sheet;
 use crate::model::Model;
 use crate::node;
@@ -45,6 +45,7 @@ pub struct Bench {
 #[derive(Default)]
 struct Figures {
     transactions: u64,
+    unjudged: u64,
     edits: usize,
     blocks: u64,
     container_map: (usize, u16),
@@ -52,6 +53,8 @@ struct Figures {
     tree: (usize, u16),
     nodes: usize,
     extents: (usize, u16),
+    /// Entries and levels of the two maps, and nodes of the file-system tree, after the last transaction.
+    left: [usize; 5],
 }
 
 /// The library is judged where there is one: its session is the first.
@@ -106,6 +109,12 @@ impl Bench {
         self.commit_all(plan, model).map_err(|e| format!("transaction {number}: {e}"))
     }
 
+    /// Commits a plan so many times without a judgement.
+    pub fn commit_unjudged(&mut self, plan: &Plan, times: u64) -> Result<(), String> {
+        self.figures.unjudged += times;
+        (0..times).try_for_each(|_| self.sessions.iter_mut().try_for_each(|s| s.commit(plan).map(|_| ())))
+    }
+
     fn commit_all(&mut self, plan: &Plan, model: Option<&Model>) -> Result<(), String> {
         let block_0 = self.disk().block(0).to_vec();
         let mut superblock = 0;
@@ -145,12 +154,16 @@ impl Bench {
         }
     }
 
-    /// Each editor must refuse a plan with one of these answers.
+    /// Each editor must refuse a plan with one of these answers, and leave the image as it was.
     pub fn refused(&mut self, plan: &Plan, answers: &[&str]) -> Result<(), String> {
         for s in &mut self.sessions {
             let before = s.disk.clone();
             let answer = s.commit(plan);
+            let kept = s.disk.image == before.image;
             s.disk = before;
+            if !kept {
+                return Err(format!("{} refused, but changed the image", s.editor.name()));
+            }
             if !answer.as_ref().is_err_and(|e| answers.iter().any(|a| e.ends_with(a))) {
                 return Err(format!("{} answered {answer:?}", s.editor.name()));
             }
@@ -158,10 +171,9 @@ impl Bench {
         Ok(())
     }
 
-    /// The library must refuse to open the file-system tree in byte order, its keys as they are stored. The original does not look.
-    pub fn refused_in_byte_order(&mut self, answer: &str) -> Result<(), String> {
-        for s in self.sessions.iter_mut().filter(|s| s.editor.checks_order()) {
-            let place = Volume::read(&s.disk).tree();
+    /// The library must refuse to open a tree with this answer. The original checks less.
+    pub fn not_opened(&mut self, place: Place, answer: &str) -> Result<(), String> {
+        for s in self.sessions.iter_mut().filter(|s| s.editor.checks_nodes()) {
             let given = s.editor.open(&mut s.disk, place);
             if given != Err(answer.into()) {
                 return Err(format!("{} answered {given:?}", s.editor.name()));
@@ -189,11 +201,12 @@ impl Figures {
     fn add(&mut self, disk: &Disk, plan: &Plan) {
         let volume = Volume::read(disk);
         let most = |to: &mut (usize, u16), entries: usize, levels: u16| *to = (to.0.max(entries), to.1.max(levels));
-        let (map, levels) = node::object_map(disk, volume.container_map);
-        most(&mut self.container_map, map.len(), levels);
+        let (outer, outer_levels) = node::object_map(disk, volume.container_map);
+        most(&mut self.container_map, outer.len(), outer_levels);
         let (map, levels) = node::object_map(disk, volume.volume_map);
         most(&mut self.volume_map, map.len(), levels);
         let nodes = volume.nodes(disk);
+        self.left = [outer.len(), outer_levels as usize, map.len(), levels as usize, nodes.len()];
         most(&mut self.tree, node::records(disk, &nodes).len(), node::level(disk.block(nodes[0])) + 1);
         self.nodes = self.nodes.max(nodes.len());
         let nodes = volume.extent_nodes(disk);
@@ -210,7 +223,9 @@ impl Figures {
             tree("file-system tree", self.tree),
             tree("extent references", self.extents),
         ];
-        let Self { transactions, edits, blocks, nodes, .. } = self;
-        format!("{transactions} transactions, {edits} edits, {blocks} blocks; most entries/levels: {}; {nodes} nodes", trees.join(", "))
+        let Self { transactions, unjudged, edits, blocks, nodes, left: [a, b, c, d, e], .. } = self;
+        let left = format!("{a}/{b}, {c}/{d}, {e} nodes");
+        let counts = format!("{transactions} transactions (and {unjudged} unjudged), {edits} edits, {blocks} blocks");
+        format!("{counts}; most entries/levels: {}; {nodes} nodes; left: {left}", trees.join(", "))
     }
 }

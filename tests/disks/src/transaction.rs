@@ -123,7 +123,8 @@ impl Transaction<'_> {
         Ok(self.named_tree(volume, root, None, &plan.extents, &[])?.root)
     }
 
-    /// Edits a tree in the file system's order. An editor that cannot be given that order is lent the tree with its keys turned (keys.rs).
+    /// Edits a tree in the file system's order. An editor that cannot be given that order is lent the tree with its keys turned (keys.rs); they are
+    /// turned back whatever it answers.
     fn named_tree(&mut self, volume: &Volume, root: u64, map: Option<u64>, edits: &[Edit], lookups: &[Lookup]) -> Answer<Flushed> {
         let hashed = volume.hashed();
         let own = self.editor.takes_own_order();
@@ -131,10 +132,26 @@ impl Transaction<'_> {
         let mut nodes = if own { Vec::new() } else { node::tree_nodes(self.disk, mapped.as_ref(), root) };
         nodes.iter().for_each(|&a| keys::turn_node(self.disk.block_mut(a), hashed, keys::widen));
         let order = if own { Order::Own(hashed) } else { Order::Byte };
-        self.editor.open(self.disk, Place { root, map, order, xid: self.container.xid() })?;
+        let done = self.edit_tree(Place { root, map, order, xid: self.container.xid() }, hashed, edits, lookups);
+        if let (Ok(done), false) = (&done, own) {
+            let written = if map.is_some() { done.moved.iter().map(|m| m.1).collect() } else { node::tree_nodes(self.disk, None, done.root) };
+            nodes.extend(written);
+            nodes.sort();
+            nodes.dedup();
+        }
+        nodes.iter().for_each(|&a| keys::turn_node(self.disk.block_mut(a), hashed, keys::narrow));
+        let done = done?;
+        self.taken += done.allocated;
+        self.given += done.freed.len() as u64;
+        self.space.free(&done.freed);
+        Ok(done)
+    }
+
+    fn edit_tree(&mut self, place: Place, hashed: bool, edits: &[Edit], lookups: &[Lookup]) -> Answer<Flushed> {
+        self.editor.open(self.disk, place)?;
         let form = |key: &[u8]| {
             let mut key = key.to_vec();
-            if !own {
+            if place.order == Order::Byte {
                 keys::widen(&mut key, hashed);
             }
             key
@@ -144,18 +161,7 @@ impl Transaction<'_> {
             let found = self.editor.get(self.disk, &form(key))?;
             assert!(found == value.clone().map(Some), "a lookup after the edits");
         }
-        let done = self.editor.flush(self.disk, self.xid, self.next_oid)?;
-        if !own {
-            let written = if map.is_some() { done.moved.iter().map(|m| m.1).collect() } else { node::tree_nodes(self.disk, None, done.root) };
-            nodes.extend(written);
-            nodes.sort();
-            nodes.dedup();
-        }
-        nodes.iter().for_each(|&a| keys::turn_node(self.disk.block_mut(a), hashed, keys::narrow));
-        self.taken += done.allocated;
-        self.given += done.freed.len() as u64;
-        self.space.free(&done.freed);
-        Ok(done)
+        self.editor.flush(self.disk, self.xid, self.next_oid)
     }
 
     fn edit(&mut self, edits: &[Edit], form: &dyn Fn(&[u8]) -> Vec<u8>) -> Answer<()> {

@@ -4,6 +4,7 @@ use super::Done;
 use crate::bench::Bench;
 use crate::bytes::u64_at;
 use crate::container::Container;
+use crate::editor::{Order, Place};
 use crate::plan::{Edit, Plan};
 use crate::volume::Volume;
 
@@ -37,7 +38,14 @@ pub fn disliked(b: &mut Bench) -> Done {
 }
 
 /// The file-system tree as it is stored is not in byte order: `mkapfs` itself puts `private-dir` before `root`. The library refuses to open it (9).
+/// It refuses a free queue too: an ephemeral node's id is not its address (6).
 pub fn as_stored(b: &mut Bench) -> Done {
-    b.refused_in_byte_order("refusal 9")?;
+    let place = Volume::read(b.disk()).tree();
+    b.not_opened(place, "refusal 9")?;
+    let queues: Vec<u64> = Container::read(b.disk()).mappings.iter().filter(|m| m.subtype == 9).map(|m| m.address).collect();
+    assert_eq!(queues.len(), 2);
+    for root in queues {
+        b.not_opened(Place { root, map: None, order: Order::Pair, xid: place.xid }, "refusal 6")?;
+    }
     b.commit(&Plan::default(), None)
 }

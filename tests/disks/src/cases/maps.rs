@@ -7,9 +7,12 @@ use crate::plan::{Edit, Plan};
 use crate::random::Random;
 use crate::volume::Volume;
 
-/// Nothing but new checkpoints, until both rings have come round.
+/// Nothing but new checkpoints. The ring of descriptors has 64 blocks and comes round after 32; that of data has 5,904, four to a checkpoint, and
+/// comes round in the last ten.
 pub fn checkpoints(b: &mut Bench) -> Done {
-    (0..40).try_for_each(|_| b.commit(&Plan::default(), None))
+    (0..40).try_for_each(|_| b.commit(&Plan::default(), None))?;
+    b.commit_unjudged(&Plan::default(), 5904 / 4 - 46)?;
+    (0..10).try_for_each(|_| b.commit(&Plan::default(), None))
 }
 
 /// An entry that says that an id was deleted: it maps nothing.

@@ -108,7 +108,7 @@ impl Editor for Library {
         false
     }
 
-    fn checks_order(&self) -> bool {
+    fn checks_nodes(&self) -> bool {
         true
     }
 

@@ -44,8 +44,8 @@ pub trait Editor {
     fn name(&self) -> &'static str;
     /// Whether it can be given the file-system tree's own order.
     fn takes_own_order(&self) -> bool;
-    /// Whether it refuses a node whose keys do not rise.
-    fn checks_order(&self) -> bool;
+    /// Whether it refuses a node whose keys do not rise, or whose id is not the one wanted.
+    fn checks_nodes(&self) -> bool;
     fn open(&mut self, disk: &mut Disk, place: Place) -> Answer<()>;
     /// None: not there. Some(None): a ghost.
     fn get(&mut self, disk: &mut Disk, key: &[u8]) -> Answer<Option<Option<Vec<u8>>>>;

@@ -68,7 +68,7 @@ impl Editor for Original {
         self.own_order
     }
 
-    fn checks_order(&self) -> bool {
+    fn checks_nodes(&self) -> bool {
         false
     }
 
