@@ -19,7 +19,7 @@ pub struct Flushed {
     pub allocated: u64,
     /// Blocks freed.
     pub freed: u64,
-    /// Their addresses. Their bits stay set: [`Space::release`] them once nobody needs the old tree.
+    /// Their addresses. Their bits stay set: [`Space::release`](crate::Space::release) them once nobody needs the old tree.
     pub freed_blocks: Vec<u64>,
     /// Entries of the tree.
     pub keys: u64,
