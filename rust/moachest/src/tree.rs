@@ -28,6 +28,9 @@ const ORDER: usize = 12;
 const SLOT_WORDS: usize = 9;
 const DIRTY: usize = 7;
 
+/// The library takes no more slots.
+const MOST_SLOTS: usize = 4096;
+
 /// The longest value that get can answer is shorter.
 const MOST_VALUE: usize = 0x10000;
 
@@ -100,11 +103,17 @@ impl Tree {
             let trusts = self.trusts();
             let result = Refusal::check(f(self, rd.image, trusts));
             self.looked(&result);
-            if result != Err(Refusal::NoSlot) || !self.work.grow(self.lent.size, self.options.most_slots) {
+            if result != Err(Refusal::NoSlot) || self.work.slots >= self.most_slots() {
                 return result;
             }
+            // Before they grow, so that a workspace that is half grown, should memory run out, is never trusted.
             self.look = true;
+            self.work.grow(self.lent.size, self.most_slots());
         }
+    }
+
+    fn most_slots(&self) -> usize {
+        self.options.most_slots.min(MOST_SLOTS)
     }
 
     fn trusts(&self) -> bool {
@@ -151,7 +160,7 @@ impl Tree {
 
     /// Every leaf entry with `lo <= key < hi`, in order.
     pub fn range(&mut self, rd: &Reader<'_>, lo: &[u8], hi: &[u8]) -> Result<Vec<Entry>> {
-        let most = self.options.most_slots.max(self.work.slots).saturating_mul(2 * self.lent.size);
+        let most = self.most_slots().max(self.work.slots) * 2 * self.lent.size;
         self.growing(most, |t, out| {
             let mut answer = [0; raw::ANSWER_WORDS];
             t.call(rd, |t, image, trusts| t.range_once(image, trusts, [lo, hi], out, &mut answer))?;

@@ -25,16 +25,11 @@ impl Workspace {
         self.scratch.resize(length(raw::moachest_scratch_bytes(self.slots, size)), 0);
     }
 
-    /// Twice as many slots, at most so many; whether there are more now.
+    /// Twice as many slots, at most so many.
     ///
     /// Slots in use keep their numbers: their words and bytes are at the start of both slices, and what lies behind them is unused.
-    pub fn grow(&mut self, size: usize, most: usize) -> bool {
-        let slots = (2 * self.slots).min(most);
-        if slots <= self.slots {
-            return false;
-        }
-        self.slots = slots;
+    pub fn grow(&mut self, size: usize, most: usize) {
+        self.slots = (2 * self.slots).min(most).max(self.slots);
         self.fit(size);
-        true
     }
 }

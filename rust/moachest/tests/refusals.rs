@@ -91,7 +91,7 @@ fn r11_no_slot() {
     disk.options = Options { slots: 1, most_slots: 1, checked: false };
     let mut tree = disk.open().unwrap();
     assert_eq!(tree.get(&disk.reader(), &omap_key(3, 1)), Err(Refusal::NoSlot));
-    disk.options.most_slots = 2;
+    disk.options.most_slots = usize::MAX;
     let mut tree = disk.open().unwrap();
     assert!(tree.get(&disk.reader(), &omap_key(3, 1)).unwrap().is_some());
     assert_eq!((tree.used(), tree.slots()), (2, 2));
