@@ -59,3 +59,32 @@ impl Node {
         self.used * 100 / self.space.max(1)
     }
 }
+
+#[cfg(test)]
+mod tests {
+    use super::Node;
+
+    /// Any bytes at all are read or not, and never reached past.
+    #[test]
+    fn any_block() {
+        let mut state = 1u64;
+        let mut random = || {
+            state = state.wrapping_mul(6364136223846793005).wrapping_add(1442695040888963407);
+            (state >> 33) as u8
+        };
+        for round in 0..20000 {
+            let mut block = [0u8; 512];
+            block.iter_mut().for_each(|byte| *byte = random());
+            // Half of them with few entries, so that the reader gets further.
+            if round % 2 == 0 {
+                block[37..40].fill(0);
+                block[41] &= 1;
+                block[43] &= 1;
+            }
+            if let Some(node) = Node::read(&block, usize::from(random())) {
+                assert!(node.used <= node.space && node.fill() <= 100);
+                assert_eq!(node.children.len(), if node.level > 0 { node.entries as usize } else { 0 });
+            }
+        }
+    }
+}
