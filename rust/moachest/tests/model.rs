@@ -92,6 +92,16 @@ impl Run {
         self.model.insert(key.clone(), Some(value));
     }
 
+    /// Calls that are refused leave no trace: what follows is answered as before.
+    fn refused(&mut self, tree: &mut Tree) {
+        let key = self.key().bytes();
+        let (keys, nodes, used) = (tree.keys(), tree.nodes(), tree.used());
+        let rd = self.disk.reader();
+        assert!(tree.upsert(&rd, &key, Some(&[7; 400])).is_err());
+        assert!(tree.upsert(&rd, [7; 450], None).is_err());
+        assert_eq!((tree.keys(), tree.nodes(), tree.used()), (keys, nodes, used));
+    }
+
     fn look(&mut self, tree: &mut Tree) {
         let (key, other, order) = (self.key(), self.key(), self.disk.order);
         let rd = self.disk.reader();
@@ -114,6 +124,7 @@ impl Run {
             for _ in 0..60 {
                 self.edit(&mut tree);
                 self.look(&mut tree);
+                self.refused(&mut tree);
             }
             self.disk.commit(tree);
             let mut tree = self.disk.open().unwrap();
