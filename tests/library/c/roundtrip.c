@@ -115,6 +115,12 @@ static void remove_one(uint64_t id, uint64_t found)
     expect("whether a key was there", answer[MOACHEST_REMOVE_FOUND], found);
 }
 
+static uint64_t drop_with(size_t length)
+{
+    return moachest_omap_drop(tree, MOACHEST_TREE_WORDS, image, sizeof image, heads, heads_words, bytes, bytes_length, scratch, length, SIZE, SLOTS,
+        0, 0, 9);
+}
+
 /* Refused calls change nothing: the same get is accepted after each. */
 static void refusals(uint64_t root)
 {
@@ -126,6 +132,10 @@ static void refusals(uint64_t root)
     expect("a get with too many slots in use", get(7, 3, 16), MOACHEST_LENT);
     tree[MOACHEST_TREE_USED] = used;
     expect("that get again", get(7, 3, 16), MOACHEST_ACCEPTED);
+    expect("a drop with a short scratch", drop_with(scratch_length - 1), MOACHEST_LENT);
+    expect("the keys after it", tree[MOACHEST_TREE_KEYS], ENTRIES);
+    expect("that drop with the scratch", drop_with(scratch_length), MOACHEST_ACCEPTED);
+    expect("the keys after it", tree[MOACHEST_TREE_KEYS], ENTRIES - 1);
     image[root * SIZE + 200] ^= 1;
     expect("open of a damaged root", open_at(root), MOACHEST_FLETCHER);
     image[root * SIZE + 200] ^= 1;
