@@ -1,0 +1,36 @@
+//! Records, as floor and range answer them (docs/FORMAT.md#record).
+
+/// A key and its value; without one it is a ghost.
+pub type Entry = (Vec<u8>, Option<Vec<u8>>);
+
+const GHOST: usize = 0xFFFF;
+
+fn u16_at(bytes: &[u8], at: usize) -> usize {
+    usize::from(bytes[at]) | usize::from(bytes[at + 1]) << 8
+}
+
+/// The entries of records that stand one after another.
+pub(crate) fn entries(mut records: &[u8]) -> Vec<Entry> {
+    let mut out = Vec::new();
+    while !records.is_empty() {
+        let (key, mark) = (u16_at(records, 0), u16_at(records, 2));
+        let value = if mark == GHOST { 0 } else { mark };
+        let (record, rest) = records.split_at(4 + key + value);
+        let held = (mark != GHOST).then(|| record[4 + key..].to_vec());
+        out.push((record[4..4 + key].to_vec(), held));
+        records = rest;
+    }
+    out
+}
+
+#[cfg(test)]
+mod tests {
+    use super::entries;
+
+    #[test]
+    fn records_are_read_back() {
+        assert_eq!(entries(&[]), []);
+        let both = [2, 0, 1, 0, 7, 8, 9, 1, 0, 0xFF, 0xFF, 5, 0, 0, 0, 0];
+        assert_eq!(entries(&both), [(vec![7, 8], Some(vec![9])), (vec![5], None), (vec![], Some(vec![]))]);
+    }
+}
