@@ -6,7 +6,6 @@ use crate::guard::Side;
 use crate::judge::judge;
 use crate::lends::{Call, Guards, Lends};
 use crate::library::lengths;
-use crate::model::is_nested;
 use crate::plan::Plan;
 use crate::predict::{demand, Demand};
 use crate::random::Random;
@@ -87,14 +86,10 @@ impl<'a> Life<'a> {
 
     /// One call on what is lent, judged. What it leaves is lent to the next.
     fn call(&mut self, l: &mut Lends, call: &Call, bent: bool) -> Step<u64> {
-        let mut demanded = demand(l, call);
+        let demanded = demand(l, call);
         let held = !matches!(demanded, Demand::Refused(1) | Demand::Untold) && !matches!(call, Call::Open(..));
         let trusted = held && self.r.chance(30);
         let left = self.guards.call(l, call, trusted);
-        // The reading takes a child's bounds from its parent alone, which is the same only where keys are nested.
-        if left.number == 9 && !matches!(demanded, Demand::Refused(9)) && !is_nested(l) {
-            demanded = Demand::Untold;
-        }
         if self.told {
             let (bent, trusted) = (if bent { "bent " } else { "" }, if trusted { " trusted" } else { "" });
             println!("{bent}{}{trusted} tree {:?}: {}", call.name(), l.tree, left.number);

@@ -159,19 +159,3 @@ pub fn holds_together(t: &Tree) -> bool {
     }
     named.iter().all(|n| *n <= 1)
 }
-
-/// Whether the keys of every slot below a slot lie within the bounds that all index keys above set. Slots that calls made are so.
-fn lies_within(t: &Tree, slot: usize, lower: Option<&[u8]>, upper: Option<&[u8]>) -> bool {
-    let m = &t.nodes[slot];
-    let less = |a: &[u8], b: &[u8]| compare(t.place.order)(a, b) == Ordering::Less;
-    let within = |k: &Vec<u8>| lower.is_none_or(|l| !less(k, l)) && upper.is_none_or(|u| less(k, u));
-    m.keys.iter().all(within) && m.items.iter().enumerate().all(|(i, item)| match item {
-        Item::Slot(c) => lies_within(t, *c, Some(&m.keys[i]), m.keys.get(i + 1).map(Vec::as_slice).or(upper)),
-        _ => true,
-    })
-}
-
-/// Whether the keys of slots that hold together also lie within their bounds, which refusal 1 does not ask.
-pub fn is_nested(l: &Lends) -> bool {
-    tree_of(&lent(l)).is_none_or(|t| !holds_together(&t) || lies_within(&t, t.root, None, None))
-}
