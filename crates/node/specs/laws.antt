@@ -18,6 +18,7 @@ pub mod LoadedLaws
 pub mod AcceptedLaws
 pub mod HeadLaws
 pub mod SlotLaws
+pub mod LikeLaws
 pub mod RelinkLaws
 pub mod FindLaws
 pub mod StandLaws

@@ -67,11 +67,17 @@ pub fn lengths_of(slot: &[u8], n: usize, info: BTreeInfo) -> Lengths
     s
 }
 
-// Whether the n entries of a slot fit.
-pub fn fits(slot: &[u8], n: usize, info: BTreeInfo, root: bool, level: u64) -> bool
+// Whether the n entries of a slot fit, which take `used` bytes there. Padding adds at most 7 bytes to a key and 7 to a value, and a record's head
+// has 4: where there is room for so much, their lengths need not be looked at.
+pub fn fits(slot: &[u8], n: usize, used: u64, info: BTreeInfo, root: bool, level: u64) -> bool
     requires { ⌜ Sized info × (recordsLength n (now slot) ≤ length (now slot)) × (length (now slot) ≤ 2 ^ 20) ⌝ }
+    requires { ⌜ used ≡ recordsLength n (now slot) ⌝ }
     ensures { λ r. ⌜ r ≡ fits info root level (entriesOf n (now (slot .entry))) ⌝ }
 {
+    let most = used + 10 * (n as u64);
+    if fits_sums(info, root, level, n as u64, most) {
+        return true;
+    }
     let s = lengths_of(slot, n, info);
     fits_sums(info, root, level, n as u64, s.keys + s.values)
 }

@@ -13,6 +13,7 @@ ghost use Rattle.seal.specs.Bytes.{moved};
 ghost use Rattle.node.specs.Entry.{valueLength};
 ghost use Rattle.node.specs.Records.{markLength, valueOf, recordLength, entryOf, recordsLength, entriesOf};
 ghost use Rattle.node.specs.Slot.{insertAt, removeAt, withKey, withValue, recordsHold, isChild, valueMeans};
+ghost use Rattle.node.specs.Order.{pair};
 ghost use Rattle.node.specs.internal.SlotSteps.{childOf, foundIn, lastIn};
 
 // Where a key's place is among n records: the entries before it, its offset, and whether the entry there has the key.
@@ -26,6 +27,13 @@ pub struct Found {
 pub struct Last {
     pub count: u64,
     pub at: usize,
+}
+
+// A record's key length and mark, and how long a record is that has them.
+pub struct Like {
+    pub klen: u64,
+    pub mark: u64,
+    pub len: usize,
 }
 
 // Where record i starts.
@@ -89,8 +97,102 @@ pub fn value_of(slot: &[u8], at: usize) -> Val
     Val::Child(Child::Mem(x))
 }
 
+// The length of the record at an offset. Where records follow each other that have one head, none waits for the length of the one before.
+fn like_at(slot: &[u8], at: usize, last: Like) -> Like
+    requires { ⌜ at + recordLength (drop at (now slot)) ≤ length (now slot) ⌝ }
+    requires { ⌜ last .len ≡ 4 + last .klen + markLength (last .mark) ⌝ }
+    ensures { λ r. ⌜ (r .len ≡ recordLength (drop at (now (slot .entry)))) × (r .len ≡ 4 + r .klen + markLength (r .mark))
+        × (at + r .len ≤ length (now (slot .entry))) ⌝ }
+{
+    let klen = bytes::u16_at(slot, at);
+    let mark = bytes::u16_at(slot, at + 2);
+    if klen == last.klen {
+        if mark == last.mark {
+            return last;
+        }
+    }
+    Like {
+        klen: klen,
+        mark: mark,
+        len: record::next(slot, at) - at,
+    }
+}
+
+// The place of a key in pair order, whose records mostly have one length.
+fn below_pair(slot: &[u8], n: u64, key: &[u8]) -> Found
+    requires { ⌜ recordsLength n (now slot) ≤ length (now slot) ⌝ }
+    ensures { λ r. ⌜ r ≡ foundIn pair (now (key .entry)) n (now (slot .entry)) ⌝ }
+{
+    let order = Order { code: Order::PAIR };
+    let mut i = 0;
+    let mut at = 0;
+    let mut like = Like {
+        klen: 0,
+        mark: 0,
+        len: 4,
+    };
+    while i < n {
+        let k = key_of(slot, at);
+        let lower = order.less(k, key);
+        if !lower {
+            let above = order.less(key, k);
+            return Found {
+                index: i,
+                at: at,
+                found: !above,
+            };
+        }
+        like = like_at(slot, at, like);
+        at += like.len;
+        i += 1;
+    }
+    Found {
+        index: i,
+        at: at,
+        found: false,
+    }
+}
+
+// The entries not above a key in pair order.
+fn not_above_pair(slot: &[u8], n: u64, key: &[u8]) -> Last
+    requires { ⌜ recordsLength n (now slot) ≤ length (now slot) ⌝ }
+    ensures { λ r. ⌜ r ≡ lastIn pair (now (key .entry)) n (now (slot .entry)) ⌝ }
+{
+    let order = Order { code: Order::PAIR };
+    let mut i = 0;
+    let mut at = 0;
+    let mut last = 0;
+    let mut like = Like {
+        klen: 0,
+        mark: 0,
+        len: 4,
+    };
+    while i < n {
+        let k = key_of(slot, at);
+        if order.less(key, k) {
+            return Last { count: i, at: last };
+        }
+        last = at;
+        like = like_at(slot, at, like);
+        at += like.len;
+        i += 1;
+    }
+    Last { count: i, at: last }
+}
+
 // The place of a key: after the entries whose keys are below it.
 pub fn below(slot: &[u8], n: u64, order: Order, key: &[u8]) -> Found
+    requires { ⌜ recordsLength n (now slot) ≤ length (now slot) ⌝ }
+    ensures { λ r. ⌜ r ≡ foundIn (order .code) (now (key .entry)) n (now (slot .entry)) ⌝ }
+{
+    if order.code == Order::PAIR {
+        return below_pair(slot, n, key);
+    }
+    below_any(slot, n, order, key)
+}
+
+// The same in any order.
+fn below_any(slot: &[u8], n: u64, order: Order, key: &[u8]) -> Found
     requires { ⌜ recordsLength n (now slot) ≤ length (now slot) ⌝ }
     ensures { λ r. ⌜ r ≡ foundIn (order .code) (now (key .entry)) n (now (slot .entry)) ⌝ }
 {
@@ -119,6 +221,17 @@ pub fn below(slot: &[u8], n: u64, order: Order, key: &[u8]) -> Found
 
 // The entries whose keys are not above a key: the last of them is where a descent goes on.
 pub fn not_above(slot: &[u8], n: u64, order: Order, key: &[u8]) -> Last
+    requires { ⌜ recordsLength n (now slot) ≤ length (now slot) ⌝ }
+    ensures { λ r. ⌜ r ≡ lastIn (order .code) (now (key .entry)) n (now (slot .entry)) ⌝ }
+{
+    if order.code == Order::PAIR {
+        return not_above_pair(slot, n, key);
+    }
+    not_above_any(slot, n, order, key)
+}
+
+// The same in any order.
+fn not_above_any(slot: &[u8], n: u64, order: Order, key: &[u8]) -> Last
     requires { ⌜ recordsLength n (now slot) ≤ length (now slot) ⌝ }
     ensures { λ r. ⌜ r ≡ lastIn (order .code) (now (key .entry)) n (now (slot .entry)) ⌝ }
 {

@@ -110,7 +110,7 @@ fn records_fit(b: NodeBuild, slot: &[u8], n: usize, used: u64) -> bool
     if !slot::records_hold(slot, n as u64, used) {
         return false;
     }
-    fit::fits(slot, n, b.info, b.root, b.level)
+    fit::fits(slot, n, used, b.info, b.root, b.level)
 }
 
 // Packs the n records of a slot, `used` bytes, as a root with the numbers of the root block `like`: false where they are not n records, or do

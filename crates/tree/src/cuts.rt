@@ -108,7 +108,14 @@ impl Tree {
             return true;
         }
         let part = bank::slot_of(bytes, size, n);
-        fit::fits(part, h.count as usize, self.info, n == self.root, h.level)
+        fit::fits(
+            part,
+            h.count as usize,
+            h.used,
+            self.info,
+            n == self.root,
+            h.level,
+        )
     }
 
     // Before entry i of slot n, the child in slot c under its first key; slot n is dirty.

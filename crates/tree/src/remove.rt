@@ -250,7 +250,7 @@ impl Tree {
     {
         let h = bank::live_at(heads, n);
         let part = bank::slot_of(bytes, size, n);
-        fit::fits(part, h.count as usize, self.info, true, h.level)
+        fit::fits(part, h.count as usize, h.used, self.info, true, h.level)
     }
 
     // An index root with one child.

@@ -182,6 +182,21 @@ room-most t (suc n) l h =
     let s : recordLength l ≡ 4 + u16At l 0 + markLength (u16At l 2) = record-sum l in
     omega (arith, room-most t n (drop r l) h₂, padded-most t (length (entryOf l .key)), padded-most t (valueLength (entryOf l .value)))
 
+-- padding adds at most 7 bytes to a key and 7 to a value, and a record's head has 4
+pub room-close : (t : BTreeInfo) (n : ℕ) (l : List ℕ) → recordsLength n l ≤ length l → keysLength t (entriesOf n l) + valuesLength t (entriesOf n l)
+    ≤ recordsLength n l + 10 * n
+unfolding recordsLength entriesOf keysLength valuesLength
+room-close t zero l h = omega arith
+room-close t (suc n) l h =
+    let r : ℕ = recordLength l in
+    let e : length (drop r l) ≡ length l - r = length-drop r l in
+    let h₁ : recordLength l ≤ length l = omega arith in
+    let h₂ : recordsLength n (drop r l) ≤ length (drop r l) = omega arith in
+    let p : length (entryOf l .key) ≡ u16At l 0 = entry-key-length l h₁ in
+    let q : valueLength (entryOf l .value) ≡ markLength (u16At l 2) = entry-value-length l h₁ in
+    let s : recordLength l ≡ 4 + u16At l 0 + markLength (u16At l 2) = record-sum l in
+    omega (arith, room-close t n (drop r l) h₂, padded-most t (length (entryOf l .key)), padded-most t (valueLength (entryOf l .value)))
+
 -- ---- the lengths of the first records, one after another
 
 pub lengths-none : (t : BTreeInfo) (l : List ℕ) → _≡_ {A = Lengths} (record { at = 0; keys = 0; values = 0 }) (lengthsOf t 0 l)
@@ -429,6 +444,24 @@ fits-none t root level h =
     sums-fitting t root level 0 0 (omega arith)
     (none-slots (fixed t) (dataSpace (t .«node_size») root) (4 + t .«key_size» + fixedValue t level) (fixed-least t level)
     (space-least (t .«node_size») root h))
+
+-- what fits with all padding fits
+pub close-fits : (t : BTreeInfo) (root : Bool) (level n used : ℕ) (l : List ℕ) (b : Bool) → used ≡ recordsLength n l → recordsLength n l ≤ length l
+    → b ≡ fitsSums t root level n (used + 10 * n) → b ≡ true → true ≡ fits t root level (entriesOf n l)
+unfolding fits roomOf
+close-fits t root level n used l b u h e q =
+    let m : keysLength t (entriesOf n l) + valuesLength t (entriesOf n l) ≤ used + 10 * n = omega (arith, room-close t n l h) in
+    rw length-entries (sym (sums-less t root level n n (keysLength t (entriesOf n l) + valuesLength t (entriesOf n l)) (used + 10 * n) (le-refl n) m
+    (sym e ∙ q)))
+
+pub close-small : (n used : ℕ) (l : List ℕ) → used ≡ recordsLength n l → recordsLength n l ≤ length l → length l ≤ 2 ^ 20 → used + 10 * n < 2 ^ 32
+close-small n used l u h k = omega (arith, records-least n l)
+
+pub close-ten : (n : ℕ) (l : List ℕ) → recordsLength n l ≤ length l → length l ≤ 2 ^ 20 → 10 * n < 2 ^ 64
+close-ten n l h k = omega (arith, records-least n l)
+
+pub close-sum : (n used : ℕ) (l : List ℕ) → used ≡ recordsLength n l → recordsLength n l ≤ length l → length l ≤ 2 ^ 20 → used + 10 * n < 2 ^ 64
+close-sum n used l u h k = omega (arith, records-least n l)
 
 -- ---- bounds that the code needs
 

@@ -5,7 +5,7 @@ use mathlib.Core.Bool.{Bool, true, false, not, _&&_}
 use Prim.Native.Nat.{ℕ, _*_, _≤_, _<_, _^_}
 use lib.ListN.{length}
 use lib.Dec.{leb, eqb}
-use borrow.Author.Tests.{leb-true, lt-leb, le-leb, not-true, not-false}
+use borrow.Author.Tests.{leb-true, lt-leb, le-leb, eqb-true, not-true, not-false}
 use Rattle.seal.specs.Bytes.{splice}
 use Rattle.node.specs.laws.TestLaws.{and-left, and-right}
 use Rattle.node.specs.Refusals as refusal
@@ -131,6 +131,11 @@ module _ (b : NodeBuild) (d l : List ℕ) where
 pub lie-within : (n used : ℕ) (l : List ℕ) (t : Bool) → t ≡ recordsHold n used l → not t ≡ false → recordsLength n l ≤ length l
 unfolding recordsHold
 lie-within n used l t e h = leb-true _ _ (and-left (leb (recordsLength n l) (length l)) _ (sym e ∙ not-false t h))
+
+pub lie-used : (n used : ℕ) (l : List ℕ) (t : Bool) → t ≡ recordsHold n used l → not t ≡ false → used ≡ recordsLength n l
+unfolding recordsHold
+lie-used n used l t e h =
+    sym (eqb-true (recordsLength n l) used (and-right (leb (recordsLength n l) (length l)) (eqb (recordsLength n l) used) (sym e ∙ not-false t h)))
 
 module _ (b : NodeBuild) (n used : ℕ) (l : List ℕ) (t : Bool) (e : t ≡ recordsHold n used l) where
   pub fit-none : not t ≡ true → false ≡ recordsFit b n used l

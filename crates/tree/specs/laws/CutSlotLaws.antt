@@ -21,7 +21,7 @@ use Rattle.tree.specs.internal.Bank.{nodeIn, live, Ready}
 use Rattle.tree.specs.internal.Edits.{stepAt, aboveOf}
 use Rattle.tree.specs.internal.Cutting.{upOf, roomCode, counted, staysWhole}
 use Rattle.tree.specs.laws.BankLaws.{live-entries, live-same}
-use Rattle.tree.specs.laws.SlotSteps.{slot-long, slot-room}
+use Rattle.tree.specs.laws.SlotSteps.{slot-long, slot-room, slot-used}
 use Rattle.tree.specs.laws.TreeLaws.{node-in, used-nodes}
 use Rattle.tree.specs.declared.editor.Tree.{Tree}
 use Rattle.tree.specs.declared.lent.Lent.{Lent}
@@ -122,6 +122,9 @@ module _ (size slots n : ℕ) (t : Tree) (heads bytes : List ℕ) (r : Ready siz
 
     pub whole-room : recordsLength (h .count) l ≤ length l
     whole-room = slot-room size slots (t .used) n heads bytes r hn l el h is-live
+
+    pub whole-used : h .used ≡ recordsLength (h .count) l
+    whole-used = slot-used size slots (t .used) n heads bytes r hn l el h is-live
 
     pub whole-long : length l ≤ 2 ^ 20
     whole-long = omega (arith, slot-long size slots (t .used) n heads bytes r hn l el h is-live, r .most)

@@ -1,66 +1,22 @@
 -- `node::slot::below` meets its contract. Assumes nothing.
-use Prim.Native.Nat.{_+_, _-_, _≤_}
-use mathlib.Core.Path.{_≡_}
-use lib.ListN.{drop}
+use Rattle.node.specs.laws.LikeLaws.{found-pair}
 use borrow.Author.Needs.{needs}
-use Rattle.node.specs.laws.SlotLaws.{at-start, at-lies, at-next}
-use Rattle.node.specs.laws.FindLaws.{place-start, place-next, there-next, found-here, found-none}
-use Rattle.node.specs.Records.{recordsLength, entriesOf}
-use Rattle.node.specs.Find.{placeOf, isThere}
 use Rattle.node.proofs.slot.below.Statement.{statement}
 use Rattle.node.proofs.slot.below.Tie as tie
 
-ruleset laws = (needs, at-start, at-lies, at-next, place-start, place-next, there-next, found-here, found-none)
+ruleset laws = (needs, found-pair)
 
-abbrev Inv-loop : tie.InvT-loop
-Inv-loop slot n order key i₀ at₀ i at = (i ≤ n) × (at ≡ recordsLength i slot) × (i + placeOf (order .code) key (drop i (entriesOf n slot)) ≡ placeOf (order .code) key (entriesOf n slot)) × (isThere (order .code) key (drop i (entriesOf n slot)) ≡ isThere (order .code) key (entriesOf n slot))
+below-pair-requires : tie.Need-below-pair-requires
+below-pair-requires c κs = search laws
 
-abbrev μ-loop : tie.MeasureT-loop
-μ-loop slot n order key i₀ at₀ i at = n - i
-
-loop-holds : tie.Need-loop-holds Inv-loop μ-loop
-loop-holds c = search laws
-
-key-of-requires : tie.Need-key-of-requires Inv-loop μ-loop
-key-of-requires c κs = search laws
-
-less-requires : tie.Need-less-requires Inv-loop μ-loop
-less-requires c κs = search laws
-
-less-requires-2 : tie.Need-less-requires-2 Inv-loop μ-loop
-less-requires-2 c κs = search laws
-
-returns : tie.Need-returns Inv-loop μ-loop
+returns : tie.Need-returns
 returns c = search laws
 
-next-requires : tie.Need-next-requires Inv-loop μ-loop
-next-requires c κs = search laws
+below-any-requires : tie.Need-below-any-requires
+below-any-requires c κs = search laws
 
-add-i : tie.Need-add-i Inv-loop μ-loop
-add-i c = search laws
-
-loop-less : tie.Need-loop-less Inv-loop μ-loop
-loop-less c = search laws
-
-loop-again : tie.Need-loop-again Inv-loop μ-loop
-loop-again c = search laws
-
-returns-2 : tie.Need-returns-2 Inv-loop μ-loop
+returns-2 : tie.Need-returns-2
 returns-2 c = search laws
 
 pub below-spec : {M : Type 1} → statement M
-below-spec =
-    tie.close
-    (tie.spec
-    Inv-loop
-    μ-loop
-    loop-holds
-    key-of-requires
-    less-requires
-    less-requires-2
-    returns
-    next-requires
-    add-i
-    loop-less
-    loop-again
-    returns-2)
+below-spec = tie.close (tie.spec below-pair-requires returns below-any-requires returns-2)

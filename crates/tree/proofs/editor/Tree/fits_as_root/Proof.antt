@@ -1,11 +1,11 @@
 -- `tree::editor::Tree::fits_as_root` meets its contract. Assumes nothing.
-use Rattle.tree.specs.laws.SlotSteps.{ready-part, ready-most, ready-few, slot-room}
+use Rattle.tree.specs.laws.SlotSteps.{ready-part, ready-most, ready-few, slot-room, slot-used}
 use Rattle.tree.specs.laws.RemoveReads.{fits-small, fits-root}
 use borrow.Author.Needs.{needs}
 use Rattle.tree.proofs.editor.Tree.fits_as_root.Statement.{statement}
 use Rattle.tree.proofs.editor.Tree.fits_as_root.Tie as tie
 
-ruleset laws = (needs, ready-part, ready-most, ready-few, slot-room, fits-small, fits-root)
+ruleset laws = (needs, ready-part, ready-most, ready-few, slot-room, slot-used, fits-small, fits-root)
 
 live-at-requires : tie.Need-live-at-requires
 live-at-requires c κs = search needs

@@ -1,0 +1,62 @@
+-- `node::slot::not_above_any` meets its contract. Assumes nothing.
+use Prim.Native.Nat.{_+_, _-_, _≤_}
+use mathlib.Core.Path.{_≡_}
+use lib.ListN.{drop}
+use borrow.Author.Needs.{needs}
+use Rattle.node.specs.laws.SlotLaws.{at-start, at-lies, at-next}
+use Rattle.node.specs.laws.FindLaws.{last-start, last-first, last-kept, last-next, last-here, last-none}
+use Rattle.node.specs.Records.{recordsLength, entriesOf}
+use Rattle.node.specs.Find.{notAbove}
+use Rattle.node.proofs.slot.not_above_any.Statement.{statement}
+use Rattle.node.proofs.slot.not_above_any.Tie as tie
+
+ruleset laws = (needs, at-start, at-lies, at-next, last-start, last-first, last-kept, last-next, last-here, last-none)
+
+abbrev Inv-loop : tie.InvT-loop
+Inv-loop slot n order key i₀ at₀ last₀ i at last = (i ≤ n) × (at ≡ recordsLength i slot) × (last ≡ recordsLength (i - 1) slot) × (i + notAbove (order .code) key (drop i (entriesOf n slot)) ≡ notAbove (order .code) key (entriesOf n slot))
+
+abbrev μ-loop : tie.MeasureT-loop
+μ-loop slot n order key i₀ at₀ last₀ i at last = n - i
+
+loop-holds : tie.Need-loop-holds Inv-loop μ-loop
+loop-holds c = search laws
+
+key-of-requires : tie.Need-key-of-requires Inv-loop μ-loop
+key-of-requires c κs = search laws
+
+less-requires : tie.Need-less-requires Inv-loop μ-loop
+less-requires c κs = search laws
+
+returns : tie.Need-returns Inv-loop μ-loop
+returns c = search laws
+
+next-requires : tie.Need-next-requires Inv-loop μ-loop
+next-requires c κs = search laws
+
+add-i : tie.Need-add-i Inv-loop μ-loop
+add-i c = search laws
+
+loop-less : tie.Need-loop-less Inv-loop μ-loop
+loop-less c = search laws
+
+loop-again : tie.Need-loop-again Inv-loop μ-loop
+loop-again c = search laws
+
+returns-2 : tie.Need-returns-2 Inv-loop μ-loop
+returns-2 c = search laws
+
+pub not-above-any-spec : {M : Type 1} → statement M
+not-above-any-spec =
+    tie.close
+    (tie.spec
+    Inv-loop
+    μ-loop
+    loop-holds
+    key-of-requires
+    less-requires
+    returns
+    next-requires
+    add-i
+    loop-less
+    loop-again
+    returns-2)
