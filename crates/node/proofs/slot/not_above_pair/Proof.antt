@@ -4,7 +4,6 @@ use mathlib.Core.Path.{_≡_}
 use lib.ListN.{drop}
 use Rattle.node.specs.Records.{markLength, recordsLength, entriesOf}
 use Rattle.node.specs.Order.{pair}
-use Rattle.node.specs.declared.order.Order.{Order}
 use Rattle.node.specs.laws.SlotLaws.{at-start, at-lies}
 use Rattle.node.specs.laws.LikeLaws.{like-start, like-next}
 use Rattle.node.specs.laws.FindLaws.{last-start, last-first, last-kept, last-next, last-here, last-none}
