@@ -22,4 +22,5 @@ pub mod Floor
 pub mod Upserting
 pub mod Removing
 pub mod Kids
+pub mod Loaded
 pub mod Block

@@ -111,3 +111,5 @@ pub mod DroppedLaws
 pub mod KidLaws
 pub mod NodeSlots
 pub mod BlockLaws
+pub mod LoadedLaws
+pub mod LoadedCalls

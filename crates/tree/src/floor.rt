@@ -15,23 +15,32 @@ use node::slot;
 ghost use mathlib.Core.Path.{_≡_};
 ghost use Prim.Native.Nat.{_-_};
 ghost use lib.ListN.{length};
+ghost use Rattle.node.specs.Records.{recordsLength};
 ghost use Rattle.node.specs.Result.{ok};
 ghost use Rattle.tree.specs.Lent.{lentOf};
 ghost use Rattle.tree.specs.Lookup.{lastFrom, floorFrom, floorIn};
-ghost use Rattle.tree.specs.Workspace.{stateOf};
+ghost use Rattle.tree.specs.Workspace.{slotBytes, stateOf};
 ghost use Rattle.tree.specs.Answers.{floorMeans, flooredIn, flooredOutput, flooredLeaves};
 ghost use Rattle.tree.specs.internal.Bank.{Ready};
 ghost use Rattle.tree.specs.internal.Tree.{boundsOf, BoundsIn};
 ghost use Rattle.tree.specs.internal.Undo.{Follows};
 ghost use Rattle.tree.specs.internal.Edits.{Trusts};
 ghost use Rattle.tree.specs.internal.Floor.{entryIn, lastMeans, EntryReady, LastReady, lastAt, floorAt, leftFrom};
-ghost use Rattle.tree.specs.internal.Floor.{flooredOf, floorWay, FloorReady, FloorCalled};
+ghost use Rattle.tree.specs.internal.Floor.{flooredOf, floorWay, FloorReady, FloorCalled, SpotOf};
 
 // Where a lookup ended: refused, at no entry, or at an entry of a slot.
 pub enum Last {
     Refused(u64),
     None(Tree),
     At(Tree, usize, u64),
+}
+
+// Where an entry of a slot lies, if one was found.
+pub struct Spot {
+    pub found: bool,
+    pub slot: usize,
+    pub index: u64,
+    pub at: usize,
 }
 
 // The answer of floor; a record of so many bytes stands at the output's start.
@@ -42,7 +51,7 @@ pub enum Floor {
 }
 
 // The place of the last of so many entries.
-fn last_index(count: u64) -> u64
+pub fn last_index(count: u64) -> u64
     ensures { λ r. ⌜ r ≡ count - 1 ⌝ }
 {
     if count == 0 {
@@ -211,6 +220,36 @@ impl Tree {
         }
     }
 
+    // An entry copied out as its record: 20.
+    fn copy_at(
+        self,
+        heads: &[u64],
+        bytes: &[u8],
+        size: usize,
+        slots: usize,
+        spot: Spot,
+        out: &mut [u8],
+    ) -> Floor
+        requires { ⌜ EntryReady size slots self (now heads) (now bytes) (spot .slot) (spot .index) ⌝ }
+        requires { ⌜ spot .at ≡ recordsLength (spot .index) (slotBytes size (now bytes) (spot .slot)) ⌝ }
+        ensures answer { λ r. ⌜ floorMeans size (now (heads .entry)) (now (bytes .entry)) (now (out .exit)) r
+            ≡ flooredOf (length (now (out .entry)))
+            (entryIn (stateOf size self (now (heads .entry)) (now (bytes .entry))) (spot .slot) (spot .index)) ⌝ }
+        ensures output { λ _. ⌜ now (out .exit)
+            ≡ flooredOutput (now (out .entry)) (flooredOf (length (now (out .entry)))
+            (entryIn (stateOf size self (now (heads .entry)) (now (bytes .entry))) (spot .slot) (spot .index))) ⌝ }
+        ensures ready { λ r. ⌜ FloorReady size slots (now (heads .entry)) (now (bytes .entry)) r ⌝ }
+    {
+        let part = bank::slot_of(bytes, size, spot.slot);
+        let at = spot.at;
+        let end = record::next(part, at);
+        if out.len() < end - at {
+            return Floor::Refused(refusal::OUTPUT);
+        }
+        bytes::copy_to(&part[at..end], out, 0);
+        Floor::Record(self, end - at)
+    }
+
     // Entry i of slot n copied out as its record: 20.
     fn copy_record(
         self,
@@ -232,14 +271,14 @@ impl Tree {
         ensures ready { λ r. ⌜ FloorReady size slots (now (heads .entry)) (now (bytes .entry)) r ⌝ }
     {
         let h = bank::live_at(heads, n);
-        let part = bank::slot_of(bytes, size, n);
-        let at = slot::offset_of(part, h.count, i);
-        let end = record::next(part, at);
-        if out.len() < end - at {
-            return Floor::Refused(refusal::OUTPUT);
-        }
-        bytes::copy_to(&part[at..end], out, 0);
-        Floor::Record(self, end - at)
+        let at = slot::offset_of(bank::slot_of(bytes, size, n), h.count, i);
+        let spot = Spot {
+            found: true,
+            slot: n,
+            index: i,
+            at: at,
+        };
+        self.copy_at(heads, bytes, size, slots, spot, out)
     }
 
     // Of floor, what follows 12: the lookup, 20. Refused, it may leave slots changed.
@@ -281,8 +320,8 @@ impl Tree {
         }
     }
 
-    // floor on slots that are trusted: 12; the lookup; 20. Refused, every slot is as it was.
-    pub fn floor_in(
+    // floor on slots that are trusted, whatever of the way is loaded.
+    fn floor_down(
         self,
         image: &[u8],
         heads: &mut [u64],
@@ -315,6 +354,69 @@ impl Tree {
             Floor::None(t) => Floor::None(t),
             Floor::Record(t, n) => Floor::Record(t, n),
         }
+    }
+
+    // The last entry not above a key in the leaf of its way, where every child on the way is loaded.
+    fn floor_loaded(
+        self,
+        heads: &[u64],
+        bytes: &[u8],
+        size: usize,
+        slots: usize,
+        key: &[u8],
+    ) -> Spot
+        requires { ⌜ Ready size slots (self .used) (now heads) (now bytes) ⌝ }
+        ensures { λ r. ⌜ SpotOf size slots self (now (heads .entry)) (now (bytes .entry)) (now (key .entry)) r ⌝ }
+    {
+        let none = Spot {
+            found: false,
+            slot: 0,
+            index: 0,
+            at: 0,
+        };
+        let leaf = self.leaf_of(heads, bytes, size, slots, key);
+        if self.used <= leaf {
+            return none;
+        }
+        let h = bank::live_at(heads, leaf);
+        let order = Order { code: self.order };
+        let last = slot::not_above(bank::slot_of(bytes, size, leaf), h.count, order, key);
+        if last.count == 0 {
+            return none;
+        }
+        Spot {
+            found: true,
+            slot: leaf,
+            index: last.count - 1,
+            at: last.at,
+        }
+    }
+
+    // floor on slots that are trusted: 12; the lookup; 20. Refused, every slot is as it was.
+    pub fn floor_in(
+        self,
+        image: &[u8],
+        heads: &mut [u64],
+        bytes: &mut [u8],
+        lent: Lent,
+        key: &[u8],
+        out: &mut [u8],
+    ) -> Floor
+        requires trusts { ⌜ Trusts (now image) lent self (now heads) (now bytes) ⌝ }
+        ensures answer { λ r. ⌜ floorMeans (lent .size) (now (heads .exit)) (now (bytes .exit)) (now (out .exit)) r
+            ≡ floorIn (lentOf (now (image .entry)) lent) (stateOf (lent .size) self (now (heads .entry)) (now
+            (bytes .entry))) (length (now (out .entry))) (now (key .entry)) ⌝ }
+        ensures output { λ _. ⌜ now (out .exit)
+            ≡ flooredOutput (now (out .entry)) (floorIn (lentOf (now (image .entry)) lent) (stateOf (lent .size) self
+            (now (heads .entry)) (now (bytes .entry))) (length (now (out .entry))) (now (key .entry))) ⌝ }
+        ensures left { λ r. ⌜ FloorCalled (now (image .entry)) lent self (now (heads .entry)) (now (bytes .entry))
+            (now (heads .exit)) (now (bytes .exit)) r ⌝ }
+    {
+        let spot = self.floor_loaded(heads, bytes, lent.size, lent.slots, key);
+        if spot.found {
+            return self.copy_at(heads, bytes, lent.size, lent.slots, spot, out);
+        }
+        self.floor_down(image, heads, bytes, lent, key, out)
     }
 
     // The last entry not above a key; its record is copied to the output's start.

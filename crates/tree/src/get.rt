@@ -140,8 +140,8 @@ impl Tree {
         }
     }
 
-    // get on slots that are trusted: 12; the way; 20. Refused, every slot is as it was.
-    pub fn get_in(
+    // get on slots that are trusted, whatever of the way is loaded.
+    fn get_down(
         self,
         image: &[u8],
         heads: &mut [u64],
@@ -175,6 +175,33 @@ impl Tree {
             Got::Ghost(t) => Got::Ghost(t),
             Got::Value(t, n) => Got::Value(t, n),
         }
+    }
+
+    // get on slots that are trusted: 12; the way; 20. Refused, every slot is as it was.
+    pub fn get_in(
+        self,
+        image: &[u8],
+        heads: &mut [u64],
+        bytes: &mut [u8],
+        lent: Lent,
+        key: &[u8],
+        out: &mut [u8],
+    ) -> Got
+        requires trusts { ⌜ Trusts (now image) lent self (now heads) (now bytes) ⌝ }
+        ensures answer { λ r. ⌜ gotMeans (lent .size) (now (heads .exit)) (now (bytes .exit)) (now (out .exit)) r
+            ≡ getIn (lentOf (now (image .entry)) lent) (stateOf (lent .size) self (now (heads .entry)) (now
+            (bytes .entry))) (length (now (out .entry))) (now (key .entry)) ⌝ }
+        ensures output { λ _. ⌜ now (out .exit)
+            ≡ gotOutput (now (out .entry)) (getIn (lentOf (now (image .entry)) lent) (stateOf (lent .size) self
+            (now (heads .entry)) (now (bytes .entry))) (length (now (out .entry))) (now (key .entry))) ⌝ }
+        ensures left { λ r. ⌜ GotCalled (now (image .entry)) lent self (now (heads .entry)) (now (bytes .entry))
+            (now (heads .exit)) (now (bytes .exit)) r ⌝ }
+    {
+        let leaf = self.leaf_of(heads, bytes, lent.size, lent.slots, key);
+        if leaf < self.used {
+            return self.copy_held(heads, bytes, lent.size, lent.slots, leaf, key, out);
+        }
+        self.get_down(image, heads, bytes, lent, key, out)
     }
 
     // What a key holds; its value is copied to the output's start.

@@ -14,6 +14,7 @@ pub mod get;
 pub mod hold;
 pub mod kids;
 pub mod lent;
+pub mod loaded;
 pub mod lookup;
 pub mod map;
 pub mod omap;

@@ -61,7 +61,8 @@ impl Tree {
         last.count - 1
     }
 
-    pub fn way(
+    // The way, whatever of it is loaded: children are loaded as they are met.
+    fn way_down(
         self,
         image: &[u8],
         heads: &mut [u64],
@@ -127,6 +128,33 @@ impl Tree {
             steps: k + 1,
             slots: way,
             kids: kids,
+        }
+    }
+
+    // The way from the root down, so many levels; what is loaded is walked first.
+    pub fn way(
+        self,
+        image: &[u8],
+        heads: &mut [u64],
+        bytes: &mut [u8],
+        lent: Lent,
+        level: u64,
+        key: &[u8],
+    ) -> Way
+        requires { ⌜ Ready (lent .size) (lent .slots) (self .used) (now heads) (now bytes) ⌝ }
+        requires { ⌜ level ≤ 32 ⌝ }
+        ensures answer { λ r. ⌜ wayOf (lent .size) (now (heads .exit)) (now (bytes .exit)) r
+            ≡ wayFrom level (lentOf (now (image .entry)) lent) (stateOf (lent .size) self (now (heads .entry)) (now
+            (bytes .entry))) unbounded (self .root) (now (key .entry)) ⌝ }
+        ensures ready { λ r. ⌜ WayReady (lent .size) (lent .slots) (now (heads .exit)) (now (bytes .exit)) r ⌝ }
+        ensures follows { λ _. ⌜ Follows (lent .size) (lent .slots) (self .used) (now (heads .entry)) (now
+            (bytes .entry)) (now (heads .exit)) (now (bytes .exit)) ⌝ }
+    {
+        let quick = self.way_loaded(heads, bytes, lent.size, lent.slots, level, key);
+        let went = quick.went;
+        match went {
+            Went::Arrived => quick,
+            Went::Refused(_) => self.way_down(image, heads, bytes, lent, level, key),
         }
     }
 }

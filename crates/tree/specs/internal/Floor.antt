@@ -1,7 +1,7 @@
 -- Where the steps of floor end, and what they compute, of the slots.
 use mathlib.Core.Path.{_≡_}
 use mathlib.Core.List.{List, [], _∷_}
-use mathlib.Core.Bool.{cond, _&&_, not}
+use mathlib.Core.Bool.{true, cond, _&&_, not}
 use Prim.Native.Nat.{ℕ, _-_, _<_}
 use lib.ListN.{length, getD}
 use lib.Dec.{leb, ltb}
@@ -10,19 +10,20 @@ use Rattle.node.specs.Refusals as refusal
 use Rattle.node.specs.Order.{less}
 use Rattle.node.specs.Entry.{Entry, ghost}
 use Rattle.node.specs.Find.{keyAt, lastNotAbove, lastOf}
-use Rattle.node.specs.Records.{recordsOf}
+use Rattle.node.specs.Records.{recordsLength, recordsOf}
 use Rattle.node.specs.Slot.{headAt}
 use Rattle.tree.specs.Lent as lent
 use Rattle.tree.specs.State.{State, nodeAt}
 use Rattle.tree.specs.Load as load
 use Rattle.tree.specs.Lookup as lookup
-use Rattle.tree.specs.Workspace.{stateOf}
+use Rattle.tree.specs.Workspace.{slotBytes, stateOf}
 use Rattle.tree.specs.internal.Bank.{live, Ready}
 use Rattle.tree.specs.internal.Edits.{Trusts}
 use Rattle.tree.specs.declared.editor.Tree.{Tree}
 use Rattle.tree.specs.declared.lent.Lent.{Lent}
 use Rattle.tree.specs.declared.floor.Last.{Last}
 use Rattle.tree.specs.declared.floor.Last.the-variants as last
+use Rattle.tree.specs.declared.floor.Spot.{Spot}
 use Rattle.tree.specs.declared.floor.Floor.{Floor}
 use Rattle.tree.specs.declared.floor.Floor.the-variants as flooring
 
@@ -78,6 +79,13 @@ flooredOf room g = check refusal.output (leb (length (recordsOf (g .answer))) ro
 -- what follows 12
 unfoldable pub floorWay : lent.Lent → State → ℕ → List ℕ → Result (lookup.Got Entry)
 floorWay l s room k = lookup.floorFrom (nodeAt s (s .root) .level) l s load.unbounded (s .root) k >>= flooredOf room
+
+-- an entry that was found lies there, and whatever is lent, floor's answer is that entry
+pub record SpotOf (size slots : ℕ) (t : Tree) (heads bytes k : List ℕ) (r : Spot) : Type 0 where
+  pub ready : r .found ≡ true → EntryReady size slots t heads bytes (r .slot) (r .index)
+  pub lies : r .found ≡ true → r .at ≡ recordsLength (r .index) (slotBytes size bytes (r .slot))
+  pub answer : r .found ≡ true → (l : lent.Lent) (room : ℕ)
+      → lookup.floorIn l (stateOf size t heads bytes) room k ≡ flooredOf room (entryIn (stateOf size t heads bytes) (r .slot) (r .index))
 
 -- an accepted floor leaves the workspace ready
 abbrev pub FloorReady : ℕ → ℕ → List ℕ → List ℕ → Floor → Type 0

@@ -53,7 +53,7 @@ above-none : (o : ℕ) (k : List ℕ) (es : List Entry) → notAbove o k es ≡ 
 unfolding lastNotAbove
 above-none o k es h = rw h
 
-above-one : (o : ℕ) (k : List ℕ) (es : List Entry) (i : ℕ) → notAbove o k es ≡ suc i → lastNotAbove o k es ≡ getD es i none ∷ []
+pub above-one : (o : ℕ) (k : List ℕ) (es : List Entry) (i : ℕ) → notAbove o k es ≡ suc i → lastNotAbove o k es ≡ getD es i none ∷ []
 unfolding lastNotAbove
 above-one o k es i h =
     let m : ℕ = notAbove o k es in
@@ -92,7 +92,7 @@ module _ (size : ℕ) (t : Tree) (heads bytes key : List ℕ) (n : ℕ) where
 
   module _ (hn : n < t .used) (h : Head) (eh : h ≡ live (headAt heads n)) (l : List ℕ) (el : l ≡ slotBytes size bytes n) (x : found.Last)
       (ex : x ≡ lastIn (t .order) key (h .count) l) where
-    count-above : x .count ≡ notAbove (t .order) key (nodeAt (stateOf size t heads bytes) n .entries)
+    pub count-above : x .count ≡ notAbove (t .order) key (nodeAt (stateOf size t heads bytes) n .entries)
     unfolding lastIn nodeIn
     count-above = rw (node-in size t heads bytes n hn, live-entries (headAt heads n) (slotBytes size bytes n), ex, eh, el)
 

@@ -41,7 +41,7 @@ use Rattle.tree.specs.declared.get.Got.{Got}
 use Rattle.tree.specs.declared.get.Got.the-variants as getting
 
 -- entries that a leaf can hold are no children
-rows-suit : (o : ℕ) (t : BTreeInfo) (es : List Entry) → every (entryHolds o t true) es ≡ true → suits true es ≡ true
+pub rows-suit : (o : ℕ) (t : BTreeInfo) (es : List Entry) → every (entryHolds o t true) es ≡ true → suits true es ≡ true
 unfolding suits every entryHolds
 rows-suit o t [] h = refl
 rows-suit o t (e ∷ es) h =

@@ -102,6 +102,13 @@ steps-next slots kids k n i h g =
     let d : k ≤ k = omega arith in
     rw (add-one, steps-set slots kids k k n i d, getD-set-same slots k n 0 h, getD-set-same kids k i 0 g)
 
+-- steps put before a step and a way
+pub onto-above : (xs : List lookup.Step) (n i : ℕ) (r : Result lookup.Way)
+    → onto xs (r >>= λ w. ok (lookup.above n i w)) ≡ onto (xs ++ record { slot = n; child = i } ∷ []) r
+unfolding onto lookup.above
+onto-above xs n i (refused k) = refl
+onto-above xs n i (ok w) = rw (append-assoc xs (record { slot = n; child = i } ∷ []) (w .steps))
+
 -- ---- a turn
 
 module _ (l : Lent) (s : State) (bs : load.Bounds) (n i d : ℕ) (key : List ℕ) (xs : List lookup.Step) (whole : Result lookup.Way)
@@ -120,11 +127,6 @@ module _ (l : Lent) (s : State) (bs : load.Bounds) (n i d : ℕ) (key : List ℕ
   way-refused x e = sym (sym inv ∙ ap (onto xs) one-down ∙ rw (← e))
 
   module _ (a : load.At) (e : ok a ≡ load.loadChild l s bs n i) where
-    onto-above : (r : Result lookup.Way) → onto xs (r >>= λ w. ok (lookup.above n i w)) ≡ onto (xs ++ record { slot = n; child = i } ∷ []) r
-    unfolding onto lookup.above
-    onto-above (refused k) = refl
-    onto-above (ok w) = rw (append-assoc xs (record { slot = n; child = i } ∷ []) (w .steps))
-
     pub way-down : (b inner : Bounds) → bs ≡ boundsOf s b → BoundsIn (length (s .nodes)) b → boundsOf s inner ≡ load.childBounds (s .order) bs
         (nodeAt s n .entries) i
         → (BoundsIn (length (s .nodes)) b → n < length (s .nodes) → BoundsIn (length (s .nodes)) inner)
@@ -136,7 +138,7 @@ module _ (l : Lent) (s : State) (bs : load.Bounds) (n i d : ℕ) (key : List ℕ
         ∙ ec in
         let z : lookup.wayFrom d l s bs n key ≡ (lookup.wayFrom (d - 1) l (a .state) (load.childBounds (s .order) bs (nodeAt s n .entries) i)
         (a .slot) key >>= λ w. ok (lookup.above n i w)) = one-down ∙ rw (← e) in
-        rw k (sym (onto-above (lookup.wayFrom (d - 1) l (a .state) (load.childBounds (s .order) bs (nodeAt s n .entries) i) (a .slot) key))
+        rw k (sym (onto-above xs n i (lookup.wayFrom (d - 1) l (a .state) (load.childBounds (s .order) bs (nodeAt s n .entries) i) (a .slot) key))
         ∙ sym (ap (onto xs) z) ∙ inv)
 
     pub down-in : (b inner : Bounds) → BoundsIn (length (s .nodes)) b
@@ -149,7 +151,7 @@ module _ (l : Lent) (s : State) (bs : load.Bounds) (n i d : ℕ) (key : List ℕ
 
 -- ---- as the code has it
 
-onto-none : (r : Result lookup.Way) → onto [] r ≡ r
+pub onto-none : (r : Result lookup.Way) → onto [] r ≡ r
 unfolding onto
 onto-none (refused k) = refl
 onto-none (ok w) = refl
