@@ -76,6 +76,7 @@ pub mod BetweenLaws
 pub mod RangeSteps
 pub mod RangeTurns
 pub mod RangeHeld
+pub mod RangeNext
 pub mod HeldLaws
 pub mod RangeCalls
 pub mod RangeLeaves

@@ -15,7 +15,7 @@ use node::refusal;
 use node::slot;
 ghost use mathlib.Core.Path.{_≡_};
 ghost use mathlib.Core.Bool.{true};
-ghost use Prim.Native.Nat.{_+_, _*_, _≤_, _^_};
+ghost use Prim.Native.Nat.{_+_, _*_, _-_, _≤_, _<_, _^_};
 ghost use lib.ListN.{length, drop};
 ghost use Rattle.node.specs.Bytes.{splice};
 ghost use Rattle.node.specs.Records.{recordLength, recordsLength, entryOf, entriesOf, recordsOf};
@@ -30,7 +30,7 @@ ghost use Rattle.tree.specs.internal.Tree.{boundsOf, BoundsIn};
 ghost use Rattle.tree.specs.internal.Undo.{Follows};
 ghost use Rattle.tree.specs.internal.Edits.{Trusts};
 ghost use Rattle.tree.specs.internal.Room.{Roomy};
-ghost use Rattle.tree.specs.internal.Range.{endOf, liesBetween, most, atMost, sumOf, counted, rangedOf, ReadyRanged};
+ghost use Rattle.tree.specs.internal.Range.{endOf, liesBetween, nextEntered, most, atMost, sumOf, counted, rangedOf, ReadyRanged};
 ghost use Rattle.tree.specs.internal.Range.{rangeChild, heldChild, rangeHeld, rangeWay, RangeCalled};
 
 // Sums stop here. No tree's entries come near it: its slots hold less.
@@ -81,6 +81,52 @@ fn between_at(slot: &[u8], at: usize, order: Order, lo: &[u8], hi: &[u8], ended:
         return false;
     }
     ends_above(order, ended, hi, key)
+}
+
+// Whether range looks into child i of n records, which lies at an offset: its key below hi, and the next, if any, above lo.
+fn enters_at(
+    slot: &[u8],
+    n: u64,
+    i: u64,
+    at: usize,
+    order: Order,
+    lo: &[u8],
+    hi: &[u8],
+    ended: bool,
+) -> bool
+    requires { ⌜ (recordsLength n (now slot) ≤ length (now slot)) × (i < n) × (at ≡ recordsLength i (now slot)) ⌝ }
+    ensures { λ r. ⌜ r
+        ≡ rangeEnters (order .code) (now (lo .entry)) (endOf ended (now (hi .entry))) (entriesOf n (now (slot .entry))) i ⌝ }
+{
+    let key = slot::key_of(slot, at);
+    if !ends_above(order, ended, hi, key) {
+        return false;
+    }
+    if n <= i + 1 {
+        return true;
+    }
+    let next = record::next(slot, at);
+    order.less(lo, slot::key_of(slot, next))
+}
+
+// The first child from one on that range looks into, n if there is none. One walk, so that a node's children are not each looked for anew.
+fn next_in(slot: &[u8], n: u64, from: u64, order: Order, lo: &[u8], hi: &[u8], ended: bool) -> u64
+    requires { ⌜ (recordsLength n (now slot) ≤ length (now slot)) × (from ≤ n) ⌝ }
+    ensures { λ r. ⌜ r
+        ≡ nextEntered (order .code) (now (lo .entry)) (endOf ended (now (hi .entry))) (entriesOf n (now (slot .entry)))
+        (n - from) from ⌝ }
+{
+    let mut at = slot::offset_of(slot, n, from);
+    let mut i = from;
+    while i < n {
+        let enters = enters_at(slot, n, i, at, order, lo, hi, ended);
+        if enters {
+            return i;
+        }
+        at = record::next(slot, at);
+        i += 1;
+    }
+    i
 }
 
 // Of n records in a slot, those between.
@@ -186,6 +232,44 @@ impl Tree {
         order.less(lo, self.key_at(heads, bytes, size, slots, n, i + 1))
     }
 
+    // The first child of slot n from one on that range looks into. Past the last, that one itself.
+    fn next_entered(
+        self,
+        heads: &[u64],
+        bytes: &[u8],
+        size: usize,
+        slots: usize,
+        n: usize,
+        from: u64,
+        lo: &[u8],
+        hi: &[u8],
+        ended: bool,
+    ) -> u64
+        requires { ⌜ Ready size slots (self .used) (now heads) (now bytes) ⌝ }
+        ensures { λ r. ⌜ r
+            ≡ nextEntered (self .order) (now (lo .entry)) (endOf ended (now (hi .entry)))
+            (nodeAt (stateOf size self (now (heads .entry)) (now (bytes .entry))) n .entries)
+            (length (nodeAt (stateOf size self (now (heads .entry)) (now (bytes .entry))) n .entries) - from) from ⌝ }
+    {
+        if self.used <= n {
+            return from;
+        }
+        let h = bank::live_at(heads, n);
+        if h.count < from {
+            return from;
+        }
+        let order = Order { code: self.order };
+        next_in(
+            bank::slot_of(bytes, size, n),
+            h.count,
+            from,
+            order,
+            lo,
+            hi,
+            ended,
+        )
+    }
+
     // Of the entries of slot n, those between.
     fn count_at_between(
         self,
@@ -246,7 +330,7 @@ impl Tree {
         let mut t = self;
         let mut count: u64 = 0;
         let mut length: u64 = 0;
-        let mut i: u64 = 0;
+        let mut i = t.next_entered(heads, bytes, lent.size, lent.slots, n, 0, lo, hi, ended);
         while i < kids {
             let got = t.range_child(image, heads, bytes, lent, b, n, i, d - 1, lo, hi, ended);
             match got {
@@ -257,7 +341,17 @@ impl Tree {
                     t = u;
                     count = add(count, k);
                     length = add(length, m);
-                    i += 1;
+                    i = u.next_entered(
+                        heads,
+                        bytes,
+                        lent.size,
+                        lent.slots,
+                        n,
+                        i + 1,
+                        lo,
+                        hi,
+                        ended,
+                    );
                 }
             }
         }
@@ -332,7 +426,7 @@ impl Tree {
         }
         let kids = self.count_at(heads, bytes, size, slots, n);
         let mut end = from;
-        let mut i: u64 = 0;
+        let mut i = self.next_entered(heads, bytes, size, slots, n, 0, lo, hi, ended);
         while i < kids {
             end = self.child_out(
                 heads,
@@ -348,7 +442,7 @@ impl Tree {
                 out,
                 end,
             );
-            i += 1;
+            i = self.next_entered(heads, bytes, size, slots, n, i + 1, lo, hi, ended);
         }
         end
     }

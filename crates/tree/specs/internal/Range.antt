@@ -34,6 +34,11 @@ endOf ended hi = cond ended (hi ∷ []) []
 unfoldable pub liesBetween : ℕ → List ℕ → List (List ℕ) → List ℕ → Bool
 liesBetween o lo hi k = not (less o k lo) && endsAbove o hi k
 
+-- of m children from child i on, the first that range enters; the one after them if there is none
+unfoldable pub nextEntered : ℕ → List ℕ → List (List ℕ) → List Entry → ℕ → ℕ → ℕ
+nextEntered o lo hi es zero i = i
+nextEntered o lo hi es (suc m) i = cond (rangeEnters o lo hi es i) i (nextEntered o lo hi es m (suc i))
+
 -- ---- sums that are cut off
 
 abbrev pub most : ℕ

@@ -1,8 +1,9 @@
 -- `tree::editor::Tree::+child_out+range_out` meets its contract. Assumes nothing.
 use native.Mathlib.Omega.{arith}
-use Rattle.tree.specs.laws.RangeHeld.{passed-end, passed-out, none-end, none-out, disk-end, disk-out, mem-room, mem-end, mem-out, leaf-room, leaf-end, leaf-out, kids-start, kids-start-out, kids-end, kids-out, kid-room, kid-end, kid-out}
+use Rattle.tree.specs.laws.RangeHeld.{passed-end, passed-out, none-end, none-out, disk-end, disk-out, mem-room, mem-end, mem-out, leaf-room, leaf-end, leaf-out, kids-end, kids-out, kid-room, kid-end, kid-out}
+use Rattle.tree.specs.laws.RangeNext.{next-falls, skipped-end, skipped-out, begin-end, begin-out}
 use borrow.Author.Needs.{needs}
-use Prim.Native.Nat.{ℕ, _+_, _-_, _≤_, _<_}
+use Prim.Native.Nat.{ℕ, _+_, _-_, _<_}
 use mathlib.Core.Path.{_≡_}
 use lib.ListN.{length}
 use Rattle.node.specs.Bytes.{splice}
@@ -19,12 +20,13 @@ use Rattle.tree.proofs.editor.Tree.range_out.Kinds as range-out-kinds
 use Rattle.tree.proofs.editor.Tree.+child_out+range_out.Lts-range_out as range-out-lts
 use Rattle.tree.proofs.editor.Tree.child_at.Reads as child-at-reads
 use Rattle.tree.proofs.editor.Tree.count_at.Reads as count-at-reads
+use Rattle.tree.proofs.editor.Tree.next_entered.Reads as next-entered-reads
 use Rattle.tree.proofs.editor.Tree.range_enters.Reads as range-enters-reads
 use Rattle.tree.proofs.editor.Tree.write_at_between.Reads as write-at-between-reads
 use Rattle.tree.proofs.editor.Tree.+child_out+range_out.{statement}
 use Rattle.tree.proofs.editor.Tree.+child_out+range_out.Tie.{close}
 
-ruleset laws = (needs, passed-end, passed-out, none-end, none-out, disk-end, disk-out, mem-room, mem-end, mem-out, leaf-room, leaf-end, leaf-out, kids-start, kids-start-out, kids-end, kids-out)
+ruleset laws = (needs, passed-end, passed-out, none-end, none-out, disk-end, disk-out, mem-room, mem-end, mem-out, leaf-room, leaf-end, leaf-out, kids-end, kids-out)
 
 abbrev μ-child-out : Measures 5 child-out-kinds.ps ℕ
 μ-child-out κs a = a .1 .1 .1 .1 .1 .1 .1 .0 + a .1 .1 .1 .1 .1 .1 .1 .0 + 1
@@ -158,7 +160,7 @@ child-out-returns-4 t c = search laws
 
 abbrev range-out-Inv-loop : range-out-lts.InvT-loop
 range-out-Inv-loop self heads bytes size slots n d lo hi ended out₀ from kids end₀ i₀ out end i =
-    (i ≤ kids) × (length out ≡ length out₀)
+    (length out ≡ length out₀)
     × (end + length (recordsOf (heldKids (rangeHeld (d - 1) (stateOf size self heads bytes) lo (endOf ended hi)) (stateOf size self heads bytes) lo
     (endOf ended hi) n (kids - i) i)) ≡ from + length (recordsOf (rangeHeld d (stateOf size self heads bytes) lo (endOf ended hi) n)))
     × (splice out end (recordsOf (heldKids (rangeHeld (d - 1) (stateOf size self heads bytes) lo (endOf ended hi)) (stateOf size self heads bytes) lo
@@ -172,6 +174,8 @@ range-out-write-at-between-requires : (t : ℕ) → range-out-lts.Need-write-at-
   write-at-between-reads.Learnt,
   count-at-reads.Asked,
   count-at-reads.Learnt,
+  next-entered-reads.Asked,
+  next-entered-reads.Learnt,
   child-out-below t,
   child-out.Post,
 ) (range-out-at t) range-out.Post range-out-Inv-loop range-out-μ-loop
@@ -182,6 +186,8 @@ range-out-same-length : (t : ℕ) → range-out-lts.Need-same-length (
   write-at-between-reads.Learnt,
   count-at-reads.Asked,
   count-at-reads.Learnt,
+  next-entered-reads.Asked,
+  next-entered-reads.Learnt,
   child-out-below t,
   child-out.Post,
 ) (range-out-at t) range-out.Post range-out-Inv-loop range-out-μ-loop
@@ -192,6 +198,8 @@ range-out-returns : (t : ℕ) → range-out-lts.Need-returns (
   write-at-between-reads.Learnt,
   count-at-reads.Asked,
   count-at-reads.Learnt,
+  next-entered-reads.Asked,
+  next-entered-reads.Learnt,
   child-out-below t,
   child-out.Post,
 ) (range-out-at t) range-out.Post range-out-Inv-loop range-out-μ-loop
@@ -202,26 +210,44 @@ range-out-count-at-requires : (t : ℕ) → range-out-lts.Need-count-at-requires
   write-at-between-reads.Learnt,
   count-at-reads.Asked,
   count-at-reads.Learnt,
+  next-entered-reads.Asked,
+  next-entered-reads.Learnt,
   child-out-below t,
   child-out.Post,
 ) (range-out-at t) range-out.Post range-out-Inv-loop range-out-μ-loop
 range-out-count-at-requires t c κs = search laws
+
+range-out-next-entered-requires : (t : ℕ) → range-out-lts.Need-next-entered-requires (
+  write-at-between-reads.Asked,
+  write-at-between-reads.Learnt,
+  count-at-reads.Asked,
+  count-at-reads.Learnt,
+  next-entered-reads.Asked,
+  next-entered-reads.Learnt,
+  child-out-below t,
+  child-out.Post,
+) (range-out-at t) range-out.Post range-out-Inv-loop range-out-μ-loop
+range-out-next-entered-requires t c κs = search laws
 
 range-out-loop-holds : (t : ℕ) → range-out-lts.Need-loop-holds (
   write-at-between-reads.Asked,
   write-at-between-reads.Learnt,
   count-at-reads.Asked,
   count-at-reads.Learnt,
+  next-entered-reads.Asked,
+  next-entered-reads.Learnt,
   child-out-below t,
   child-out.Post,
 ) (range-out-at t) range-out.Post range-out-Inv-loop range-out-μ-loop
-range-out-loop-holds t c = search laws
+range-out-loop-holds t c = (search laws, begin-end _ (c .before .before .before .before .before .before .before .before .args .self) _ _ _ _ _ _ (c .before .before .if1 .left) _ (c .before .count-at .ensures .0) _ _ (c .next-entered .ensures) _, begin-out _ (c .before .before .before .before .before .before .before .before .args .self) _ _ _ _ _ _ (c .before .before .if1 .left) _ (c .before .count-at .ensures .0) _ _ (c .next-entered .ensures) _ _)
 
 range-out-sub-child-out : (t : ℕ) → range-out-lts.Need-sub-child-out (
   write-at-between-reads.Asked,
   write-at-between-reads.Learnt,
   count-at-reads.Asked,
   count-at-reads.Learnt,
+  next-entered-reads.Asked,
+  next-entered-reads.Learnt,
   child-out-below t,
   child-out.Post,
 ) (range-out-at t) range-out.Post range-out-Inv-loop range-out-μ-loop
@@ -232,46 +258,68 @@ range-out-child-out-requires : (t : ℕ) → range-out-lts.Need-child-out-requir
   write-at-between-reads.Learnt,
   count-at-reads.Asked,
   count-at-reads.Learnt,
+  next-entered-reads.Asked,
+  next-entered-reads.Learnt,
   child-out-below t,
   child-out.Post,
 ) (range-out-at t) range-out.Post range-out-Inv-loop range-out-μ-loop
-range-out-child-out-requires t c κs = (omega (arith, c .before .before .before .before .before .before .before .before .before .before .pre .0, c .before .before .before .before .if1 .left), (c .before .before .before .before .before .before .before .before .before .before .pre .1 .0, kid-room _ _ _ _ _ _ _ (c .before .loop-test .taken) _ _ (c .before .before .loop .inv .2) (c .before .before .loop .out) (c .before .before .before .before .before .before .before .before .before .before .args .out .now) (c .before .before .loop .inv .1) (c .before .before .before .before .before .before .before .before .before .before .pre .1 .1)))
+range-out-child-out-requires t c κs = (omega (arith, c .before .before .before .before .before .before .before .before .before .before .before .pre .0, c .before .before .before .before .before .if1 .left), (c .before .before .before .before .before .before .before .before .before .before .before .pre .1 .0, kid-room _ _ _ _ _ _ _ (c .before .loop-test .taken) _ _ (c .before .before .loop .inv .1) (c .before .before .loop .out) (c .before .before .before .before .before .before .before .before .before .before .before .args .out .now) (c .before .before .loop .inv .0) (c .before .before .before .before .before .before .before .before .before .before .before .pre .1 .1)))
 
-range-out-add-i : (t : ℕ) → range-out-lts.Need-add-i (
+range-out-add-next-entered : (t : ℕ) → range-out-lts.Need-add-next-entered (
   write-at-between-reads.Asked,
   write-at-between-reads.Learnt,
   count-at-reads.Asked,
   count-at-reads.Learnt,
+  next-entered-reads.Asked,
+  next-entered-reads.Learnt,
   child-out-below t,
   child-out.Post,
 ) (range-out-at t) range-out.Post range-out-Inv-loop range-out-μ-loop
-range-out-add-i t c = search laws
+range-out-add-next-entered t c = search (needs, c .before .before .before .before .loop-test .taken)
+
+range-out-next-entered-requires-2 : (t : ℕ) → range-out-lts.Need-next-entered-requires-2 (
+  write-at-between-reads.Asked,
+  write-at-between-reads.Learnt,
+  count-at-reads.Asked,
+  count-at-reads.Learnt,
+  next-entered-reads.Asked,
+  next-entered-reads.Learnt,
+  child-out-below t,
+  child-out.Post,
+) (range-out-at t) range-out.Post range-out-Inv-loop range-out-μ-loop
+range-out-next-entered-requires-2 t c κs = search laws
 
 range-out-loop-less : (t : ℕ) → range-out-lts.Need-loop-less (
   write-at-between-reads.Asked,
   write-at-between-reads.Learnt,
   count-at-reads.Asked,
   count-at-reads.Learnt,
+  next-entered-reads.Asked,
+  next-entered-reads.Learnt,
   child-out-below t,
   child-out.Post,
 ) (range-out-at t) range-out.Post range-out-Inv-loop range-out-μ-loop
-range-out-loop-less t c = search laws
+range-out-loop-less t c = next-falls _ _ _ _ _ _ _ _ (c .next-entered2 .ensures) (c .before .before .before .before .before .loop-test .taken)
 
 range-out-loop-again : (t : ℕ) → range-out-lts.Need-loop-again (
   write-at-between-reads.Asked,
   write-at-between-reads.Learnt,
   count-at-reads.Asked,
   count-at-reads.Learnt,
+  next-entered-reads.Asked,
+  next-entered-reads.Learnt,
   child-out-below t,
   child-out.Post,
 ) (range-out-at t) range-out.Post range-out-Inv-loop range-out-μ-loop
-range-out-loop-again t c = (search (needs, c .before .before .before .before .loop-test .taken), search (needs, c .before .before .child-out .kept, c .before .before .before .before .before .loop .inv), kid-end _ _ _ _ _ _ _ (c .before .before .before .before .loop-test .taken) _ _ (c .before .before .before .before .before .loop .inv .2) _ (c .before .before .child-out .ensures .0), kid-out _ _ _ _ _ _ _ (c .before .before .before .before .loop-test .taken) _ _ (c .before .before .before .before .before .loop .inv .2) _ (c .before .before .child-out .ensures .0) (c .before .before .before .before .before .loop .out) (c .before .before .before .before .before .before .before .before .before .before .before .before .before .args .out .now) _ _ (c .before .before .before .before .before .loop .inv .1) (c .before .before .before .before .before .before .before .before .before .before .before .before .before .pre .1 .1) (c .before .before .child-out .ensures .1) (c .before .before .before .before .before .loop .inv .3))
+range-out-loop-again t c = (search (needs, c .before .before .before .child-out .kept, c .before .before .before .before .before .before .loop .inv), skipped-end _ _ (c .before .before .before .before .before .before .before .before .before .before .before .before .before .before .before .args .self) _ _ _ _ _ _ _ _ _ (c .next-entered2 .ensures) _ _ (kid-end _ _ _ _ _ _ _ (c .before .before .before .before .before .loop-test .taken) _ _ (c .before .before .before .before .before .before .loop .inv .1) _ (c .before .before .before .child-out .ensures .0)), skipped-out _ _ (c .before .before .before .before .before .before .before .before .before .before .before .before .before .before .before .args .self) _ _ _ _ _ _ _ _ _ (c .next-entered2 .ensures) _ _ _ (kid-out _ _ _ _ _ _ _ (c .before .before .before .before .before .loop-test .taken) _ _ (c .before .before .before .before .before .before .loop .inv .1) _ (c .before .before .before .child-out .ensures .0) (c .before .before .before .before .before .before .loop .out) (c .before .before .before .before .before .before .before .before .before .before .before .before .before .before .before .args .out .now) _ _ (c .before .before .before .before .before .before .loop .inv .0) (c .before .before .before .before .before .before .before .before .before .before .before .before .before .before .before .pre .1 .1) (c .before .before .before .child-out .ensures .1) (c .before .before .before .before .before .before .loop .inv .2)))
 
 range-out-same-length-2 : (t : ℕ) → range-out-lts.Need-same-length-2 (
   write-at-between-reads.Asked,
   write-at-between-reads.Learnt,
   count-at-reads.Asked,
   count-at-reads.Learnt,
+  next-entered-reads.Asked,
+  next-entered-reads.Learnt,
   child-out-below t,
   child-out.Post,
 ) (range-out-at t) range-out.Post range-out-Inv-loop range-out-μ-loop
@@ -282,10 +330,12 @@ range-out-returns-2 : (t : ℕ) → range-out-lts.Need-returns-2 (
   write-at-between-reads.Learnt,
   count-at-reads.Asked,
   count-at-reads.Learnt,
+  next-entered-reads.Asked,
+  next-entered-reads.Learnt,
   child-out-below t,
   child-out.Post,
 ) (range-out-at t) range-out.Post range-out-Inv-loop range-out-μ-loop
-range-out-returns-2 t c = search laws
+range-out-returns-2 t c = (kids-end _ _ _ _ _ _ _ (c .loop-test .left) _ _ (c .before .loop .inv .1), kids-out _ _ _ _ _ _ _ (c .loop-test .left) _ _ _ (c .before .loop .inv .2))
 
 pub +child-out+range-out-spec : {M : Type 1} → statement M
 +child-out+range-out-spec = close μ-child-out μ-range-out (λ t. child-out-lts.spec (
@@ -314,6 +364,8 @@ pub +child-out+range-out-spec : {M : Type 1} → statement M
       write-at-between-reads.Learnt,
       count-at-reads.Asked,
       count-at-reads.Learnt,
+      next-entered-reads.Asked,
+      next-entered-reads.Learnt,
       child-out-below t,
       child-out.Post,
     )
@@ -325,10 +377,12 @@ pub +child-out+range-out-spec : {M : Type 1} → statement M
     (range-out-same-length t)
     (range-out-returns t)
     (range-out-count-at-requires t)
+    (range-out-next-entered-requires t)
     (range-out-loop-holds t)
     (range-out-sub-child-out t)
     (range-out-child-out-requires t)
-    (range-out-add-i t)
+    (range-out-add-next-entered t)
+    (range-out-next-entered-requires-2 t)
     (range-out-loop-less t)
     (range-out-loop-again t)
     (range-out-same-length-2 t)

@@ -1,7 +1,8 @@
 -- `tree::editor::Tree::+range_child+range_from` meets its contract. Assumes nothing.
 use Rattle.tree.specs.laws.BetweenLaws.{most-of}
 use native.Mathlib.Omega.{arith}
-use Rattle.tree.specs.laws.RangeTurns.{child-passed, child-refused, child-more, child-in, child-entered, from-leaf, from-start, from-end, turn-refused, turn-count, turn-length, turn-more, turn-in, turn-next, ranged-ready}
+use Rattle.tree.specs.laws.RangeTurns.{child-passed, child-refused, child-more, child-in, child-entered, from-leaf, from-end, turn-refused, turn-count, turn-length, turn-more, turn-in, turn-next, ranged-ready}
+use Rattle.tree.specs.laws.RangeNext.{next-falls, turn-skipped, from-begin}
 use Rattle.tree.specs.laws.UndoLaws.{follows-same, follows-on}
 use Rattle.tree.specs.laws.WayLaws.{ready-at}
 use borrow.Author.Needs.{needs}
@@ -27,12 +28,13 @@ use Rattle.tree.proofs.editor.Tree.child_bounds.Reads as child-bounds-r
 use Rattle.tree.proofs.editor.Tree.count_at.Reads as count-at-reads
 use Rattle.tree.proofs.editor.Tree.count_at_between.Reads as count-at-between-reads
 use Rattle.tree.proofs.editor.Tree.load_child.Reads as load-child-reads
+use Rattle.tree.proofs.editor.Tree.next_entered.Reads as next-entered-reads
 use Rattle.tree.proofs.editor.Tree.range_enters.Reads as range-enters-reads
 use Rattle.tree.proofs.range.add.Reads as add-reads
 use Rattle.tree.proofs.editor.Tree.+range_child+range_from.{statement}
 use Rattle.tree.proofs.editor.Tree.+range_child+range_from.Tie.{close}
 
-ruleset laws = (needs, from-start, turn-count, turn-length, follows-same)
+ruleset laws = (needs, turn-count, turn-length, follows-same)
 
 abbrev μ-range-child : Measures 5 range-child-kinds.ps ℕ
 μ-range-child κs a = a .1 .1 .1 .1 .1 .1 .1 .1 .0 + a .1 .1 .1 .1 .1 .1 .1 .1 .0 + 1
@@ -238,7 +240,7 @@ range-child-returns-3 t c = (child-entered _ _ (c .before .before .before .befor
 
 abbrev range-from-Inv-loop : range-from-lts.InvT-loop
 range-from-Inv-loop image heads₀ bytes₀ lent b n d lo hi ended kids t₀ count₀ long₀ i₀ heads bytes t count long i =
-    (i ≤ kids) × (length heads ≡ length heads₀) × (length bytes ≡ length bytes₀) × (count ≤ most) × (long ≤ most) × BoundsIn (t .used) b
+    (length heads ≡ length heads₀) × (length bytes ≡ length bytes₀) × (count ≤ most) × (long ≤ most) × BoundsIn (t .used) b
     × Ready (lent .size) (lent .slots) (t .used) heads bytes × (t₀ .used ≤ t .used)
     × Follows (lent .size) (lent .slots) (t₀ .used) heads₀ bytes₀ heads bytes
     × (ahead (record { count = count; length = long }) (counted (rangeKids (rangeFrom (d - 1) (lentOf image lent) lo (endOf ended hi))
@@ -254,6 +256,8 @@ range-from-count-at-between-requires : (t : ℕ) → range-from-lts.Need-count-a
   count-at-between-reads.Learnt,
   count-at-reads.Asked,
   count-at-reads.Learnt,
+  next-entered-reads.Asked,
+  next-entered-reads.Learnt,
   range-child-below t,
   range-child.Post,
   add-reads.Asked,
@@ -266,6 +270,8 @@ range-from-same-length : (t : ℕ) → range-from-lts.Need-same-length (
   count-at-between-reads.Learnt,
   count-at-reads.Asked,
   count-at-reads.Learnt,
+  next-entered-reads.Asked,
+  next-entered-reads.Learnt,
   range-child-below t,
   range-child.Post,
   add-reads.Asked,
@@ -278,6 +284,8 @@ range-from-same-length-2 : (t : ℕ) → range-from-lts.Need-same-length-2 (
   count-at-between-reads.Learnt,
   count-at-reads.Asked,
   count-at-reads.Learnt,
+  next-entered-reads.Asked,
+  next-entered-reads.Learnt,
   range-child-below t,
   range-child.Post,
   add-reads.Asked,
@@ -290,6 +298,8 @@ range-from-returns : (t : ℕ) → range-from-lts.Need-returns (
   count-at-between-reads.Learnt,
   count-at-reads.Asked,
   count-at-reads.Learnt,
+  next-entered-reads.Asked,
+  next-entered-reads.Learnt,
   range-child-below t,
   range-child.Post,
   add-reads.Asked,
@@ -302,6 +312,8 @@ range-from-count-at-requires : (t : ℕ) → range-from-lts.Need-count-at-requir
   count-at-between-reads.Learnt,
   count-at-reads.Asked,
   count-at-reads.Learnt,
+  next-entered-reads.Asked,
+  next-entered-reads.Learnt,
   range-child-below t,
   range-child.Post,
   add-reads.Asked,
@@ -309,23 +321,41 @@ range-from-count-at-requires : (t : ℕ) → range-from-lts.Need-count-at-requir
 ) (range-from-at t) range-from.Post range-from-Inv-loop range-from-μ-loop
 range-from-count-at-requires t c κs = search laws
 
-range-from-loop-holds : (t : ℕ) → range-from-lts.Need-loop-holds (
+range-from-next-entered-requires : (t : ℕ) → range-from-lts.Need-next-entered-requires (
   count-at-between-reads.Asked,
   count-at-between-reads.Learnt,
   count-at-reads.Asked,
   count-at-reads.Learnt,
+  next-entered-reads.Asked,
+  next-entered-reads.Learnt,
   range-child-below t,
   range-child.Post,
   add-reads.Asked,
   add-reads.Learnt,
 ) (range-from-at t) range-from.Post range-from-Inv-loop range-from-μ-loop
-range-from-loop-holds t c = search laws
+range-from-next-entered-requires t c κs = search laws
+
+range-from-loop-holds : (t : ℕ) → range-from-lts.Need-loop-holds (
+  count-at-between-reads.Asked,
+  count-at-between-reads.Learnt,
+  count-at-reads.Asked,
+  count-at-reads.Learnt,
+  next-entered-reads.Asked,
+  next-entered-reads.Learnt,
+  range-child-below t,
+  range-child.Post,
+  add-reads.Asked,
+  add-reads.Learnt,
+) (range-from-at t) range-from.Post range-from-Inv-loop range-from-μ-loop
+range-from-loop-holds t c = (search laws, search laws, search laws, search laws, search laws, search laws, search laws, search laws, from-begin _ _ (c .before .before .before .before .before .before .before .before .before .before .before .before .args .self) _ _ _ _ _ _ _ (c .before .before .before .before .before .before .if1 .left) _ (c .before .before .before .count-at .ensures .0) _ _ (c .next-entered .ensures))
 
 range-from-sub-range-child : (t : ℕ) → range-from-lts.Need-sub-range-child (
   count-at-between-reads.Asked,
   count-at-between-reads.Learnt,
   count-at-reads.Asked,
   count-at-reads.Learnt,
+  next-entered-reads.Asked,
+  next-entered-reads.Learnt,
   range-child-below t,
   range-child.Post,
   add-reads.Asked,
@@ -338,6 +368,8 @@ range-from-range-child-requires : (t : ℕ) → range-from-lts.Need-range-child-
   count-at-between-reads.Learnt,
   count-at-reads.Asked,
   count-at-reads.Learnt,
+  next-entered-reads.Asked,
+  next-entered-reads.Learnt,
   range-child-below t,
   range-child.Post,
   add-reads.Asked,
@@ -350,6 +382,8 @@ range-from-enum-known-got : (t : ℕ) → range-from-lts.Need-enum-known-got (
   count-at-between-reads.Learnt,
   count-at-reads.Asked,
   count-at-reads.Learnt,
+  next-entered-reads.Asked,
+  next-entered-reads.Learnt,
   range-child-below t,
   range-child.Post,
   add-reads.Asked,
@@ -362,6 +396,8 @@ range-from-same-length-3 : (t : ℕ) → range-from-lts.Need-same-length-3 (
   count-at-between-reads.Learnt,
   count-at-reads.Asked,
   count-at-reads.Learnt,
+  next-entered-reads.Asked,
+  next-entered-reads.Learnt,
   range-child-below t,
   range-child.Post,
   add-reads.Asked,
@@ -374,6 +410,8 @@ range-from-same-length-4 : (t : ℕ) → range-from-lts.Need-same-length-4 (
   count-at-between-reads.Learnt,
   count-at-reads.Asked,
   count-at-reads.Learnt,
+  next-entered-reads.Asked,
+  next-entered-reads.Learnt,
   range-child-below t,
   range-child.Post,
   add-reads.Asked,
@@ -386,18 +424,22 @@ range-from-returns-2 : (t : ℕ) → range-from-lts.Need-returns-2 (
   count-at-between-reads.Learnt,
   count-at-reads.Asked,
   count-at-reads.Learnt,
+  next-entered-reads.Asked,
+  next-entered-reads.Learnt,
   range-child-below t,
   range-child.Post,
   add-reads.Asked,
   add-reads.Learnt,
 ) (range-from-at t) range-from.Post range-from-Inv-loop range-from-μ-loop
-range-from-returns-2 t c = (turn-refused _ _ (c .before .before .before .before .before .before .before .before .before .before .before .loop .t) _ _ _ _ _ _ _ _ _ _ _ _ (c .before .before .before .before .before .before .before .before .before .before .before .loop .inv .9) (c .before .before .before .before .before .before .before .before .before .before .loop-test .taken) _ _ _ (c .before .before .before .before .before .before .before .range-child .ensures .0) _ (c .before .got .given .1), (tt, follows-on _ _ _ _ _ _ _ _ _ _ (c .before .before .before .before .before .before .before .before .before .before .before .loop .inv .8) (c .before .before .before .before .before .before .before .range-child .ensures .1 .1) (c .before .before .before .before .before .before .before .before .before .before .before .loop .inv .7)))
+range-from-returns-2 t c = (turn-refused _ _ (c .before .before .before .before .before .before .before .before .before .before .before .loop .t) _ _ _ _ _ _ _ _ _ _ _ _ (c .before .before .before .before .before .before .before .before .before .before .before .loop .inv .8) (c .before .before .before .before .before .before .before .before .before .before .loop-test .taken) _ _ _ (c .before .before .before .before .before .before .before .range-child .ensures .0) _ (c .before .got .given .1), (tt, follows-on _ _ _ _ _ _ _ _ _ _ (c .before .before .before .before .before .before .before .before .before .before .before .loop .inv .7) (c .before .before .before .before .before .before .before .range-child .ensures .1 .1) (c .before .before .before .before .before .before .before .before .before .before .before .loop .inv .6)))
 
 range-from-enum-known-got-2 : (t : ℕ) → range-from-lts.Need-enum-known-got-2 (
   count-at-between-reads.Asked,
   count-at-between-reads.Learnt,
   count-at-reads.Asked,
   count-at-reads.Learnt,
+  next-entered-reads.Asked,
+  next-entered-reads.Learnt,
   range-child-below t,
   range-child.Post,
   add-reads.Asked,
@@ -410,6 +452,8 @@ range-from-add-requires : (t : ℕ) → range-from-lts.Need-add-requires (
   count-at-between-reads.Learnt,
   count-at-reads.Asked,
   count-at-reads.Learnt,
+  next-entered-reads.Asked,
+  next-entered-reads.Learnt,
   range-child-below t,
   range-child.Post,
   add-reads.Asked,
@@ -422,6 +466,8 @@ range-from-add-requires-2 : (t : ℕ) → range-from-lts.Need-add-requires-2 (
   count-at-between-reads.Learnt,
   count-at-reads.Asked,
   count-at-reads.Learnt,
+  next-entered-reads.Asked,
+  next-entered-reads.Learnt,
   range-child-below t,
   range-child.Post,
   add-reads.Asked,
@@ -429,47 +475,69 @@ range-from-add-requires-2 : (t : ℕ) → range-from-lts.Need-add-requires-2 (
 ) (range-from-at t) range-from.Post range-from-Inv-loop range-from-μ-loop
 range-from-add-requires-2 t c κs = search laws
 
-range-from-add-i : (t : ℕ) → range-from-lts.Need-add-i (
+range-from-add-next-entered : (t : ℕ) → range-from-lts.Need-add-next-entered (
   count-at-between-reads.Asked,
   count-at-between-reads.Learnt,
   count-at-reads.Asked,
   count-at-reads.Learnt,
+  next-entered-reads.Asked,
+  next-entered-reads.Learnt,
   range-child-below t,
   range-child.Post,
   add-reads.Asked,
   add-reads.Learnt,
 ) (range-from-at t) range-from.Post range-from-Inv-loop range-from-μ-loop
-range-from-add-i t c = search laws
+range-from-add-next-entered t c = search (needs, c .before .before .before .before .before .before .before .before .before .before .before .before .before .before .loop-test .taken, c .before .before .before .before .before .before .before .before .before .before .before .before .before .before .before .before .before .before .before .count-at .ensures)
+
+range-from-next-entered-requires-2 : (t : ℕ) → range-from-lts.Need-next-entered-requires-2 (
+  count-at-between-reads.Asked,
+  count-at-between-reads.Learnt,
+  count-at-reads.Asked,
+  count-at-reads.Learnt,
+  next-entered-reads.Asked,
+  next-entered-reads.Learnt,
+  range-child-below t,
+  range-child.Post,
+  add-reads.Asked,
+  add-reads.Learnt,
+) (range-from-at t) range-from.Post range-from-Inv-loop range-from-μ-loop
+range-from-next-entered-requires-2 t c κs = ranged-ready _ _ _ _ _ _ _ _ (c .before .before .before .before .before .got2 .given .1) (c .before .before .before .before .before .before .before .before .before .before .before .range-child .ensures .1 .0)
 
 range-from-loop-less : (t : ℕ) → range-from-lts.Need-loop-less (
   count-at-between-reads.Asked,
   count-at-between-reads.Learnt,
   count-at-reads.Asked,
   count-at-reads.Learnt,
+  next-entered-reads.Asked,
+  next-entered-reads.Learnt,
   range-child-below t,
   range-child.Post,
   add-reads.Asked,
   add-reads.Learnt,
 ) (range-from-at t) range-from.Post range-from-Inv-loop range-from-μ-loop
-range-from-loop-less t c = search laws
+range-from-loop-less t c = next-falls _ _ _ _ _ _ _ _ (c .next-entered2 .ensures) (c .before .before .before .before .before .before .before .before .before .before .before .before .before .before .before .loop-test .taken)
 
 range-from-loop-again : (t : ℕ) → range-from-lts.Need-loop-again (
   count-at-between-reads.Asked,
   count-at-between-reads.Learnt,
   count-at-reads.Asked,
   count-at-reads.Learnt,
+  next-entered-reads.Asked,
+  next-entered-reads.Learnt,
   range-child-below t,
   range-child.Post,
   add-reads.Asked,
   add-reads.Learnt,
 ) (range-from-at t) range-from.Post range-from-Inv-loop range-from-μ-loop
-range-from-loop-again t c = (search (needs, c .before .before .before .before .before .before .before .before .before .before .before .before .loop-test .taken), search (needs, c .before .before .before .before .before .before .before .before .before .range-child .kept, c .before .before .before .before .before .before .before .before .before .before .before .before .before .loop .inv), search (needs, c .before .before .before .before .before .before .before .before .before .range-child .kept, c .before .before .before .before .before .before .before .before .before .before .before .before .before .loop .inv), most-of _ _ (c .before .add .ensures), most-of _ _ (c .add2 .ensures), turn-in _ _ (c .before .before .before .before .before .before .before .before .before .before .before .before .before .loop .t) _ _ _ _ _ _ _ _ _ _ _ _ (c .before .before .before .before .before .before .before .before .before .before .before .before .before .loop .inv .9) (c .before .before .before .before .before .before .before .before .before .before .before .before .loop-test .taken) _ _ _ (c .before .before .before .before .before .before .before .before .before .range-child .ensures .0) _ _ _ (c .before .before .before .got2 .given .1) (c .before .before .before .before .before .before .before .before .before .before .before .before .before .loop .inv .5), ranged-ready _ _ _ _ _ _ _ _ (c .before .before .before .got2 .given .1) (c .before .before .before .before .before .before .before .before .before .range-child .ensures .1 .0), omega (arith, c .before .before .before .before .before .before .before .before .before .before .before .before .before .loop .inv .7, turn-more _ _ (c .before .before .before .before .before .before .before .before .before .before .before .before .before .loop .t) _ _ _ _ _ _ _ _ _ _ _ _ (c .before .before .before .before .before .before .before .before .before .before .before .before .before .loop .inv .9) (c .before .before .before .before .before .before .before .before .before .before .before .before .loop-test .taken) _ _ _ (c .before .before .before .before .before .before .before .before .before .range-child .ensures .0) _ _ _ (c .before .before .before .got2 .given .1)), follows-on _ _ _ _ _ _ _ _ _ _ (c .before .before .before .before .before .before .before .before .before .before .before .before .before .loop .inv .8) (c .before .before .before .before .before .before .before .before .before .range-child .ensures .1 .1) (c .before .before .before .before .before .before .before .before .before .before .before .before .before .loop .inv .7), turn-next _ _ (c .before .before .before .before .before .before .before .before .before .before .before .before .before .loop .t) _ _ _ _ _ _ _ _ _ _ _ _ (c .before .before .before .before .before .before .before .before .before .before .before .before .before .loop .inv .9) (c .before .before .before .before .before .before .before .before .before .before .before .before .loop-test .taken) _ _ _ (c .before .before .before .before .before .before .before .before .before .range-child .ensures .0) _ _ _ (c .before .before .before .got2 .given .1) (c .before .before .before .before .before .before .before .before .before .before .before .before .before .loop .inv .5) _ _ (c .before .add .ensures) (c .add2 .ensures))
+range-from-loop-again t c = (search (needs, c .before .before .before .before .before .before .before .before .before .before .before .before .range-child .kept, c .before .before .before .before .before .before .before .before .before .before .before .before .before .before .before .before .loop .inv), search (needs, c .before .before .before .before .before .before .before .before .before .before .before .before .range-child .kept, c .before .before .before .before .before .before .before .before .before .before .before .before .before .before .before .before .loop .inv), most-of _ _ (c .before .before .before .before .add .ensures), most-of _ _ (c .before .before .before .add2 .ensures), turn-in _ _ (c .before .before .before .before .before .before .before .before .before .before .before .before .before .before .before .before .loop .t) _ _ _ _ _ _ _ _ _ _ _ _ (c .before .before .before .before .before .before .before .before .before .before .before .before .before .before .before .before .loop .inv .8) (c .before .before .before .before .before .before .before .before .before .before .before .before .before .before .before .loop-test .taken) _ _ _ (c .before .before .before .before .before .before .before .before .before .before .before .before .range-child .ensures .0) _ _ _ (c .before .before .before .before .before .before .got2 .given .1) (c .before .before .before .before .before .before .before .before .before .before .before .before .before .before .before .before .loop .inv .4), ranged-ready _ _ _ _ _ _ _ _ (c .before .before .before .before .before .before .got2 .given .1) (c .before .before .before .before .before .before .before .before .before .before .before .before .range-child .ensures .1 .0), omega (arith, c .before .before .before .before .before .before .before .before .before .before .before .before .before .before .before .before .loop .inv .6, turn-more _ _ (c .before .before .before .before .before .before .before .before .before .before .before .before .before .before .before .before .loop .t) _ _ _ _ _ _ _ _ _ _ _ _ (c .before .before .before .before .before .before .before .before .before .before .before .before .before .before .before .before .loop .inv .8) (c .before .before .before .before .before .before .before .before .before .before .before .before .before .before .before .loop-test .taken) _ _ _ (c .before .before .before .before .before .before .before .before .before .before .before .before .range-child .ensures .0) _ _ _ (c .before .before .before .before .before .before .got2 .given .1)), follows-on _ _ _ _ _ _ _ _ _ _ (c .before .before .before .before .before .before .before .before .before .before .before .before .before .before .before .before .loop .inv .7) (c .before .before .before .before .before .before .before .before .before .before .before .before .range-child .ensures .1 .1) (c .before .before .before .before .before .before .before .before .before .before .before .before .before .before .before .before .loop .inv .6), turn-skipped _ _ _ _ (c .before .before .before .before .before .before .got2 .given .1) _ _ _ _ _ _ _ _ _ _ _ _ _ _ _ (c .next-entered2 .ensures) (turn-next _ _ (c .before .before .before .before .before .before .before .before .before .before .before .before .before .before .before .before .loop .t) _ _ _ _ _ _ _ _ _ _ _ _ (c .before .before .before .before .before .before .before .before .before .before .before .before .before .before .before .before .loop .inv .8) (c .before .before .before .before .before .before .before .before .before .before .before .before .before .before .before .loop-test .taken) _ _ _ (c .before .before .before .before .before .before .before .before .before .before .before .before .range-child .ensures .0) _ _ _ (c .before .before .before .before .before .before .got2 .given .1) (c .before .before .before .before .before .before .before .before .before .before .before .before .before .before .before .before .loop .inv .4) _ _ (c .before .before .before .before .add .ensures) (c .before .before .before .add2 .ensures)))
 
 range-from-same-length-5 : (t : ℕ) → range-from-lts.Need-same-length-5 (
   count-at-between-reads.Asked,
   count-at-between-reads.Learnt,
   count-at-reads.Asked,
   count-at-reads.Learnt,
+  next-entered-reads.Asked,
+  next-entered-reads.Learnt,
   range-child-below t,
   range-child.Post,
   add-reads.Asked,
@@ -482,6 +550,8 @@ range-from-same-length-6 : (t : ℕ) → range-from-lts.Need-same-length-6 (
   count-at-between-reads.Learnt,
   count-at-reads.Asked,
   count-at-reads.Learnt,
+  next-entered-reads.Asked,
+  next-entered-reads.Learnt,
   range-child-below t,
   range-child.Post,
   add-reads.Asked,
@@ -494,12 +564,14 @@ range-from-returns-3 : (t : ℕ) → range-from-lts.Need-returns-3 (
   count-at-between-reads.Learnt,
   count-at-reads.Asked,
   count-at-reads.Learnt,
+  next-entered-reads.Asked,
+  next-entered-reads.Learnt,
   range-child-below t,
   range-child.Post,
   add-reads.Asked,
   add-reads.Learnt,
 ) (range-from-at t) range-from.Post range-from-Inv-loop range-from-μ-loop
-range-from-returns-3 t c = (from-end _ _ (c .before .loop .t) _ _ _ _ _ _ _ _ _ _ _ _ (c .before .loop .inv .9) (c .loop-test .left) (c .before .loop .inv .3) (c .before .loop .inv .4), (c .before .loop .inv .6, c .before .loop .inv .8))
+range-from-returns-3 t c = (from-end _ _ (c .before .loop .t) _ _ _ _ _ _ _ _ _ _ _ _ (c .before .loop .inv .8) (c .loop-test .left) (c .before .loop .inv .2) (c .before .loop .inv .3), (c .before .loop .inv .5, c .before .loop .inv .7))
 
 pub +range-child+range-from-spec : {M : Type 1} → statement M
 +range-child+range-from-spec = close μ-range-child μ-range-from (λ t. range-child-lts.spec (
@@ -534,6 +606,8 @@ pub +range-child+range-from-spec : {M : Type 1} → statement M
       count-at-between-reads.Learnt,
       count-at-reads.Asked,
       count-at-reads.Learnt,
+      next-entered-reads.Asked,
+      next-entered-reads.Learnt,
       range-child-below t,
       range-child.Post,
       add-reads.Asked,
@@ -548,6 +622,7 @@ pub +range-child+range-from-spec : {M : Type 1} → statement M
     (range-from-same-length-2 t)
     (range-from-returns t)
     (range-from-count-at-requires t)
+    (range-from-next-entered-requires t)
     (range-from-loop-holds t)
     (range-from-sub-range-child t)
     (range-from-range-child-requires t)
@@ -558,7 +633,8 @@ pub +range-child+range-from-spec : {M : Type 1} → statement M
     (range-from-enum-known-got-2 t)
     (range-from-add-requires t)
     (range-from-add-requires-2 t)
-    (range-from-add-i t)
+    (range-from-add-next-entered t)
+    (range-from-next-entered-requires-2 t)
     (range-from-loop-less t)
     (range-from-loop-again t)
     (range-from-same-length-5 t)
