@@ -2,8 +2,17 @@
 use crate::answers;
 use crate::words;
 use tree::refusal;
+ghost use mathlib.Core.Path.{_≡_};
+ghost use Rattle.tree.specs.Lent.{lentOf};
+ghost use Rattle.tree.specs.Workspace.{edits};
+ghost use Rattle.tree.specs.Upsert.{upsert};
+ghost use Rattle.tree.specs.Remove.{remove};
+ghost use Rattle.tree.specs.Omap.{omapPut, omapDrop};
+ghost use Rattle.tree.specs.Answers.{putValue, editedOf, editedLeaves, removedOf, removedLeaves};
+ghost use Rattle.moachest.specs.Words.{yes, treeOf, lentNumbers, onTree, onWords};
+ghost use Rattle.moachest.specs.Answers.{editedTree, editedBack, removedTree, removedAnswer, removedBack};
 
-// Puts the entry of a key: bytes, or a ghost, which has none.
+// Puts the entry of a key: the bytes of `value`, or a ghost, which has none, where `is_ghost` is not 0.
 #[no_mangle]
 pub extern "C" fn moachest_upsert(
     tree: &mut [u64],
@@ -18,7 +27,12 @@ pub extern "C" fn moachest_upsert(
     key: &[u8],
     is_ghost: u64,
     value: &[u8],
-) -> u64 {
+) -> u64
+    ensures answer { λ r. ⌜ editedOf size (now (heads .exit)) (now (bytes .exit)) (editedBack r (now (tree .exit)))
+        ≡ onTree (now (tree .entry)) (λ t. edits size slots t (now (heads .entry)) (now (bytes .entry)) (now (scratch .entry)) (λ s. upsert (lentOf (now (image .entry)) (lentNumbers size slots mapped map)) s (now (key .entry)) (putValue (yes «is_ghost») (now (value .entry))))) ⌝ }
+    ensures left { λ r. ⌜ editedLeaves size slots (treeOf (now (tree .entry))) (now (heads .entry)) (now (bytes .entry)) (now (heads .exit)) (now (bytes .exit)) (editedBack r (now (tree .exit))) ⌝ }
+    ensures words { λ r. ⌜ now (tree .exit) ≡ editedTree (now (tree .entry)) (editedBack r (now (tree .exit))) ⌝ }
+{
     if tree.len() < words::TREE_WORDS {
         return refusal::LENT;
     }
@@ -37,7 +51,7 @@ pub extern "C" fn moachest_upsert(
     answers::leave_edited(tree, edited)
 }
 
-// The same on slots that are trusted.
+// The same answers as the call above, which it is today.
 #[no_mangle]
 pub extern "C" fn moachest_upsert_trusted(
     tree: &mut [u64],
@@ -69,7 +83,7 @@ pub extern "C" fn moachest_upsert_trusted(
     )
 }
 
-// Takes the entry of a key out.
+// Takes the entry of a key out. `answer` says whether it was there.
 #[no_mangle]
 pub extern "C" fn moachest_remove(
     tree: &mut [u64],
@@ -83,7 +97,12 @@ pub extern "C" fn moachest_remove(
     map: u64,
     key: &[u8],
     answer: &mut [u64],
-) -> u64 {
+) -> u64
+    ensures answer { λ r. ⌜ removedOf size (now (heads .exit)) (now (bytes .exit)) (removedBack r (now (tree .exit)) (now (answer .exit)))
+        ≡ onWords (now (tree .entry)) (now (answer .entry)) (λ t. edits size slots t (now (heads .entry)) (now (bytes .entry)) (now (scratch .entry)) (λ s. remove (lentOf (now (image .entry)) (lentNumbers size slots mapped map)) s (now (key .entry)))) ⌝ }
+    ensures left { λ r. ⌜ removedLeaves size slots (treeOf (now (tree .entry))) (now (heads .entry)) (now (bytes .entry)) (now (heads .exit)) (now (bytes .exit)) (removedBack r (now (tree .exit)) (now (answer .exit))) ⌝ }
+    ensures words { λ r. ⌜ (now (tree .exit) ≡ removedTree (now (tree .entry)) (removedBack r (now (tree .exit)) (now (answer .exit)))) × (now (answer .exit) ≡ removedAnswer (now (answer .entry)) (removedBack r (now (tree .exit)) (now (answer .exit)))) ⌝ }
+{
     if tree.len() < words::TREE_WORDS {
         return refusal::LENT;
     }
@@ -96,7 +115,7 @@ pub extern "C" fn moachest_remove(
     answers::leave_removed(tree, answer, removed)
 }
 
-// The same on slots that are trusted.
+// The same answers as the call above, which it is today.
 #[no_mangle]
 pub extern "C" fn moachest_remove_trusted(
     tree: &mut [u64],
@@ -126,7 +145,7 @@ pub extern "C" fn moachest_remove_trusted(
     )
 }
 
-// Takes the versions of an id out and puts a new one.
+// Takes the versions of an id out and puts one that maps it to an address and a length.
 #[no_mangle]
 pub extern "C" fn moachest_omap_put(
     tree: &mut [u64],
@@ -142,7 +161,12 @@ pub extern "C" fn moachest_omap_put(
     xid: u64,
     address: u64,
     length: u64,
-) -> u64 {
+) -> u64
+    ensures answer { λ r. ⌜ editedOf size (now (heads .exit)) (now (bytes .exit)) (editedBack r (now (tree .exit)))
+        ≡ onTree (now (tree .entry)) (λ t. edits size slots t (now (heads .entry)) (now (bytes .entry)) (now (scratch .entry)) (λ s. omapPut (lentOf (now (image .entry)) (lentNumbers size slots mapped map)) s id xid address length)) ⌝ }
+    ensures left { λ r. ⌜ editedLeaves size slots (treeOf (now (tree .entry))) (now (heads .entry)) (now (bytes .entry)) (now (heads .exit)) (now (bytes .exit)) (editedBack r (now (tree .exit))) ⌝ }
+    ensures words { λ r. ⌜ now (tree .exit) ≡ editedTree (now (tree .entry)) (editedBack r (now (tree .exit))) ⌝ }
+{
     if tree.len() < words::TREE_WORDS {
         return refusal::LENT;
     }
@@ -152,7 +176,7 @@ pub extern "C" fn moachest_omap_put(
     answers::leave_edited(tree, edited)
 }
 
-// The same on slots that are trusted.
+// The same answers as the call above, which it is today.
 #[no_mangle]
 pub extern "C" fn moachest_omap_put_trusted(
     tree: &mut [u64],
@@ -199,7 +223,12 @@ pub extern "C" fn moachest_omap_drop(
     mapped: u64,
     map: u64,
     id: u64,
-) -> u64 {
+) -> u64
+    ensures answer { λ r. ⌜ editedOf size (now (heads .exit)) (now (bytes .exit)) (editedBack r (now (tree .exit)))
+        ≡ onTree (now (tree .entry)) (λ t. edits size slots t (now (heads .entry)) (now (bytes .entry)) (now (scratch .entry)) (λ s. omapDrop (lentOf (now (image .entry)) (lentNumbers size slots mapped map)) s id)) ⌝ }
+    ensures left { λ r. ⌜ editedLeaves size slots (treeOf (now (tree .entry))) (now (heads .entry)) (now (bytes .entry)) (now (heads .exit)) (now (bytes .exit)) (editedBack r (now (tree .exit))) ⌝ }
+    ensures words { λ r. ⌜ now (tree .exit) ≡ editedTree (now (tree .entry)) (editedBack r (now (tree .exit))) ⌝ }
+{
     if tree.len() < words::TREE_WORDS {
         return refusal::LENT;
     }
@@ -209,7 +238,7 @@ pub extern "C" fn moachest_omap_drop(
     answers::leave_edited(tree, edited)
 }
 
-// The same on slots that are trusted.
+// The same answers as the call above, which it is today.
 #[no_mangle]
 pub extern "C" fn moachest_omap_drop_trusted(
     tree: &mut [u64],

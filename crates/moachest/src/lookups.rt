@@ -3,8 +3,14 @@ use crate::answers;
 use crate::words;
 use tree::lookup;
 use tree::refusal;
+ghost use mathlib.Core.Path.{_≡_};
+ghost use lib.ListN.{length};
+ghost use Rattle.tree.specs.Lent.{lentOf};
+ghost use Rattle.tree.specs.Answers.{openedOf, openedIn, openedLeaves, gotMeans, gotIn, gotOutput, gotLeaves, floorMeans, flooredIn, flooredOutput, flooredLeaves, rangeMeans, rangedIn, rangedOutput, rangedLength, rangedLeaves};
+ghost use Rattle.moachest.specs.Words.{treeOf, lentNumbers, onTree, onWords};
+ghost use Rattle.moachest.specs.Answers.{openedTree, openedBack, gotTree, gotAnswer, gotBack, flooredTree, flooredAnswer, flooredBack, rangedTree, rangedAnswer, rangedBack};
 
-// Opens the tree whose root is `root`.
+// Opens the tree whose root is `root`, with keys in this order, as seen from a transaction. Accepted, `tree` holds its words.
 #[no_mangle]
 pub extern "C" fn moachest_open(
     tree: &mut [u64],
@@ -18,7 +24,12 @@ pub extern "C" fn moachest_open(
     root: u64,
     order: u64,
     xid: u64,
-) -> u64 {
+) -> u64
+    ensures answer { λ r. ⌜ openedOf size (now (heads .exit)) (now (bytes .exit)) (openedBack r (now (tree .exit)))
+        ≡ onTree (now (tree .entry)) (λ t. openedIn (lentOf (now (image .entry)) (lentNumbers size slots mapped map)) (now (heads .entry)) (now (bytes .entry)) root order xid) ⌝ }
+    ensures left { λ r. ⌜ openedLeaves size slots (now (heads .exit)) (now (bytes .exit)) (openedBack r (now (tree .exit))) ⌝ }
+    ensures words { λ r. ⌜ now (tree .exit) ≡ openedTree (now (tree .entry)) (openedBack r (now (tree .exit))) ⌝ }
+{
     if tree.len() < words::TREE_WORDS {
         return refusal::LENT;
     }
@@ -27,7 +38,7 @@ pub extern "C" fn moachest_open(
     answers::leave_opened(tree, opened)
 }
 
-// What a key holds; a value is copied to the start of `out`.
+// What a key holds. `answer` says which, and a value is copied to the start of `out`.
 #[no_mangle]
 pub extern "C" fn moachest_get(
     tree: &mut [u64],
@@ -41,7 +52,14 @@ pub extern "C" fn moachest_get(
     key: &[u8],
     out: &mut [u8],
     answer: &mut [u64],
-) -> u64 {
+) -> u64
+    ensures answer { λ r. ⌜ gotMeans size (now (heads .exit)) (now (bytes .exit)) (now (out .exit)) (gotBack r (now (tree .exit)) (now (answer .exit)))
+        ≡ onWords (now (tree .entry)) (now (answer .entry)) (λ t. gotIn (lentOf (now (image .entry)) (lentNumbers size slots mapped map)) t (now (heads .entry)) (now (bytes .entry)) (length (now (out .entry))) (now (key .entry))) ⌝ }
+    ensures output { λ _. ⌜ now (out .exit)
+        ≡ gotOutput (now (out .entry)) (onWords (now (tree .entry)) (now (answer .entry)) (λ t. gotIn (lentOf (now (image .entry)) (lentNumbers size slots mapped map)) t (now (heads .entry)) (now (bytes .entry)) (length (now (out .entry))) (now (key .entry)))) ⌝ }
+    ensures left { λ r. ⌜ gotLeaves size slots (treeOf (now (tree .entry))) (now (heads .entry)) (now (bytes .entry)) (now (heads .exit)) (now (bytes .exit)) (gotBack r (now (tree .exit)) (now (answer .exit))) ⌝ }
+    ensures words { λ r. ⌜ (now (tree .exit) ≡ gotTree (now (tree .entry)) (gotBack r (now (tree .exit)) (now (answer .exit)))) × (now (answer .exit) ≡ gotAnswer (now (answer .entry)) (gotBack r (now (tree .exit)) (now (answer .exit)))) ⌝ }
+{
     if tree.len() < words::TREE_WORDS {
         return refusal::LENT;
     }
@@ -54,7 +72,7 @@ pub extern "C" fn moachest_get(
     answers::leave_got(tree, answer, got)
 }
 
-// The same on slots that are trusted.
+// The same answers as the call above, which it is today.
 #[no_mangle]
 pub extern "C" fn moachest_get_trusted(
     tree: &mut [u64],
@@ -84,7 +102,7 @@ pub extern "C" fn moachest_get_trusted(
     )
 }
 
-// The last entry not above a key; its record is copied to the start of `out`.
+// The last entry not above a key. `answer` says whether there is one, and its record is copied to the start of `out`.
 #[no_mangle]
 pub extern "C" fn moachest_floor(
     tree: &mut [u64],
@@ -98,7 +116,14 @@ pub extern "C" fn moachest_floor(
     key: &[u8],
     out: &mut [u8],
     answer: &mut [u64],
-) -> u64 {
+) -> u64
+    ensures answer { λ r. ⌜ floorMeans size (now (heads .exit)) (now (bytes .exit)) (now (out .exit)) (flooredBack r (now (tree .exit)) (now (answer .exit)))
+        ≡ onWords (now (tree .entry)) (now (answer .entry)) (λ t. flooredIn (lentOf (now (image .entry)) (lentNumbers size slots mapped map)) t (now (heads .entry)) (now (bytes .entry)) (length (now (out .entry))) (now (key .entry))) ⌝ }
+    ensures output { λ _. ⌜ now (out .exit)
+        ≡ flooredOutput (now (out .entry)) (onWords (now (tree .entry)) (now (answer .entry)) (λ t. flooredIn (lentOf (now (image .entry)) (lentNumbers size slots mapped map)) t (now (heads .entry)) (now (bytes .entry)) (length (now (out .entry))) (now (key .entry)))) ⌝ }
+    ensures left { λ r. ⌜ flooredLeaves size slots (treeOf (now (tree .entry))) (now (heads .entry)) (now (bytes .entry)) (now (heads .exit)) (now (bytes .exit)) (flooredBack r (now (tree .exit)) (now (answer .exit))) ⌝ }
+    ensures words { λ r. ⌜ (now (tree .exit) ≡ flooredTree (now (tree .entry)) (flooredBack r (now (tree .exit)) (now (answer .exit)))) × (now (answer .exit) ≡ flooredAnswer (now (answer .entry)) (flooredBack r (now (tree .exit)) (now (answer .exit)))) ⌝ }
+{
     if tree.len() < words::TREE_WORDS {
         return refusal::LENT;
     }
@@ -111,7 +136,7 @@ pub extern "C" fn moachest_floor(
     answers::leave_floor(tree, answer, floor)
 }
 
-// The same on slots that are trusted.
+// The same answers as the call above, which it is today.
 #[no_mangle]
 pub extern "C" fn moachest_floor_trusted(
     tree: &mut [u64],
@@ -141,7 +166,7 @@ pub extern "C" fn moachest_floor_trusted(
     )
 }
 
-// The entries from `lo` up to `hi`, without it; their records are copied to the start of `out`.
+// The entries from `lo` up to `hi`, without it. `answer` says how many, and their records are copied to the start of `out`.
 #[no_mangle]
 pub extern "C" fn moachest_range(
     tree: &mut [u64],
@@ -156,7 +181,15 @@ pub extern "C" fn moachest_range(
     hi: &[u8],
     out: &mut [u8],
     answer: &mut [u64],
-) -> u64 {
+) -> u64
+    ensures answer { λ r. ⌜ rangeMeans size (now (heads .exit)) (now (bytes .exit)) (now (out .exit)) (rangedBack r (now (tree .exit)) (now (answer .exit)))
+        ≡ onWords (now (tree .entry)) (now (answer .entry)) (λ t. rangedIn (lentOf (now (image .entry)) (lentNumbers size slots mapped map)) t (now (heads .entry)) (now (bytes .entry)) (length (now (out .entry))) (now (lo .entry)) (now (hi .entry))) ⌝ }
+    ensures output { λ _. ⌜ now (out .exit)
+        ≡ rangedOutput (now (out .entry)) (onWords (now (tree .entry)) (now (answer .entry)) (λ t. rangedIn (lentOf (now (image .entry)) (lentNumbers size slots mapped map)) t (now (heads .entry)) (now (bytes .entry)) (length (now (out .entry))) (now (lo .entry)) (now (hi .entry)))) ⌝ }
+    ensures long { λ r. ⌜ rangedLength (now (out .exit)) (rangedBack r (now (tree .exit)) (now (answer .exit))) ⌝ }
+    ensures left { λ r. ⌜ rangedLeaves size slots (treeOf (now (tree .entry))) (now (heads .entry)) (now (bytes .entry)) (now (heads .exit)) (now (bytes .exit)) (rangedBack r (now (tree .exit)) (now (answer .exit))) ⌝ }
+    ensures words { λ r. ⌜ (now (tree .exit) ≡ rangedTree (now (tree .entry)) (rangedBack r (now (tree .exit)) (now (answer .exit)))) × (now (answer .exit) ≡ rangedAnswer (now (answer .entry)) (rangedBack r (now (tree .exit)) (now (answer .exit)))) ⌝ }
+{
     if tree.len() < words::TREE_WORDS {
         return refusal::LENT;
     }
@@ -169,7 +202,7 @@ pub extern "C" fn moachest_range(
     answers::leave_ranged(tree, answer, ranged)
 }
 
-// The same on slots that are trusted.
+// The same answers as the call above, which it is today.
 #[no_mangle]
 pub extern "C" fn moachest_range_trusted(
     tree: &mut [u64],

@@ -2,30 +2,49 @@
 use node::info::BTreeInfo;
 use tree::editor::Tree;
 use tree::lent::Lent;
-ghost use Prim.Native.Nat.{_≤_, _<_};
-ghost use lib.ListN.{length};
+ghost use mathlib.Core.Path.{_≡_};
+ghost use mathlib.Core.List.{[], _∷_};
+ghost use Prim.Native.Nat.{_+_, _≤_, _<_};
+ghost use lib.ListN.{length, getD, set};
+ghost use Rattle.seal.specs.Bytes.{splice};
+ghost use Rattle.moachest.specs.Words.{infoOf, infoWords, treeOf, stored, lentNumbers};
 
 pub const TREE_WORDS: usize = 14;
 
 pub const ANSWER_WORDS: usize = 8;
 
-// One word stored.
-pub fn put(words: &mut [u64], i: usize, x: u64) {
+// One word stored; past the end none is.
+pub fn put(words: &mut [u64], i: usize, x: u64)
+    ensures { λ _. ⌜ now (words .exit) ≡ set (now (words .entry)) i x ⌝ }
+{
     if i < words.len() {
         words[i] = x;
     }
 }
 
+// Four words stored, one after another.
+pub fn put_four(words: &mut [u64], i: usize, a: u64, b: u64, c: u64, d: u64)
+    requires { ⌜ i + 4 ≤ length (now words) ⌝ }
+    ensures { λ _. ⌜ now (words .exit) ≡ splice (now (words .entry)) i (a ∷ b ∷ c ∷ d ∷ []) ⌝ }
+{
+    put(words, i, a);
+    put(words, i + 1, b);
+    put(words, i + 2, c);
+    put(words, i + 3, d);
+}
+
 // One word.
 fn word(tree: &[u64], i: usize) -> u64
     requires { ⌜ i < length (now tree) ⌝ }
+    ensures { λ r. ⌜ r ≡ getD (now (tree .entry)) i 0 ⌝ }
 {
     tree[i]
 }
 
-// The tree-wide numbers of a root.
+// The tree-wide numbers: words 2 to 9.
 fn info_of(tree: &[u64]) -> BTreeInfo
     requires { ⌜ 14 ≤ length (now tree) ⌝ }
+    ensures { λ r. ⌜ r ≡ infoOf (now (tree .entry)) ⌝ }
 {
     BTreeInfo {
         flags: word(tree, 2),
@@ -42,6 +61,7 @@ fn info_of(tree: &[u64]) -> BTreeInfo
 // The tree that the words are.
 pub fn load(tree: &[u64]) -> Tree
     requires { ⌜ 14 ≤ length (now tree) ⌝ }
+    ensures { λ r. ⌜ r ≡ treeOf (now (tree .entry)) ⌝ }
 {
     Tree {
         root: word(tree, 0) as usize,
@@ -54,35 +74,44 @@ pub fn load(tree: &[u64]) -> Tree
     }
 }
 
-// The tree-wide numbers of a root, stored.
+// The tree-wide numbers, stored.
 fn store_info(tree: &mut [u64], info: BTreeInfo)
     requires { ⌜ 14 ≤ length (now tree) ⌝ }
+    ensures { λ _. ⌜ now (tree .exit) ≡ splice (now (tree .entry)) 2 (infoWords info) ⌝ }
 {
-    put(tree, 2, info.flags);
-    put(tree, 3, info.node_size);
-    put(tree, 4, info.key_size);
-    put(tree, 5, info.val_size);
-    put(tree, 6, info.longest_key);
-    put(tree, 7, info.longest_val);
-    put(tree, 8, info.key_count);
-    put(tree, 9, info.node_count);
+    put_four(
+        tree,
+        2,
+        info.flags,
+        info.node_size,
+        info.key_size,
+        info.val_size,
+    );
+    put_four(
+        tree,
+        6,
+        info.longest_key,
+        info.longest_val,
+        info.key_count,
+        info.node_count,
+    );
 }
 
 // The words of a tree, stored.
 pub fn store(tree: &mut [u64], t: Tree)
     requires { ⌜ 14 ≤ length (now tree) ⌝ }
+    ensures { λ _. ⌜ now (tree .exit) ≡ stored (now (tree .entry)) t ⌝ }
 {
     put(tree, 0, t.root as u64);
     put(tree, 1, t.used as u64);
     store_info(tree, t.info);
-    put(tree, 10, t.by_id as u64);
-    put(tree, 11, t.subtype);
-    put(tree, 12, t.order);
-    put(tree, 13, t.xid);
+    put_four(tree, 10, t.by_id as u64, t.subtype, t.order, t.xid);
 }
 
 // What is lent by numbers: a map where `mapped` is not 0.
-pub fn lent(size: usize, slots: usize, mapped: u64, map: u64) -> Lent {
+pub fn lent(size: usize, slots: usize, mapped: u64, map: u64) -> Lent
+    ensures { λ r. ⌜ r ≡ lentNumbers size slots mapped map ⌝ }
+{
     Lent {
         size,
         slots,
