@@ -1,11 +1,10 @@
 -- A call's answer as numbers: what it returns, the words that it writes, and the answer read back from them.
 use mathlib.Core.List.{List, [], _∷_}
-use mathlib.Core.Bool.{Bool, cond}
+use mathlib.Core.Bool.{cond}
 use Prim.Native.Nat.{ℕ}
 use lib.ListN.{getD}
 use lib.Dec.{eqb}
 use Rattle.seal.specs.Bytes.{splice}
-use Rattle.tree.specs.declared.editor.Tree.{Tree}
 use Rattle.tree.specs.declared.lookup.Opened.{Opened}
 use Rattle.tree.specs.declared.lookup.Opened.the-variants as opening
 use Rattle.tree.specs.declared.get.Got.{Got}
@@ -21,7 +20,7 @@ use Rattle.tree.specs.declared.edited.Removed.the-variants as taking
 use Rattle.flush.specs.declared.flush.Flushed.{Flushed}
 use Rattle.flush.specs.declared.flush.Answer.{Answer}
 use Rattle.flush.specs.declared.flush.Answer.the-variants as flushing
-use Rattle.moachest.specs.Words.{treeOf, stored, mark, yes}
+use Rattle.moachest.specs.Words.{treeOf, stored}
 
 -- ---- open
 

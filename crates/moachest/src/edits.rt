@@ -29,8 +29,11 @@ pub extern "C" fn moachest_upsert(
     value: &[u8],
 ) -> u64
     ensures answer { λ r. ⌜ editedOf size (now (heads .exit)) (now (bytes .exit)) (editedBack r (now (tree .exit)))
-        ≡ onTree (now (tree .entry)) (λ t. edits size slots t (now (heads .entry)) (now (bytes .entry)) (now (scratch .entry)) (λ s. upsert (lentOf (now (image .entry)) (lentNumbers size slots mapped map)) s (now (key .entry)) (putValue (yes «is_ghost») (now (value .entry))))) ⌝ }
-    ensures left { λ r. ⌜ editedLeaves size slots (treeOf (now (tree .entry))) (now (heads .entry)) (now (bytes .entry)) (now (heads .exit)) (now (bytes .exit)) (editedBack r (now (tree .exit))) ⌝ }
+        ≡ onTree (now (tree .entry)) (λ t. edits size slots t (now (heads .entry)) (now (bytes .entry)) (now (scratch .entry)) (λ s.
+        upsert (lentOf (now (image .entry)) (lentNumbers size slots mapped map)) s (now (key .entry)) (putValue (yes «is_ghost») (now
+        (value .entry))))) ⌝ }
+    ensures left { λ r. ⌜ editedLeaves size slots (treeOf (now (tree .entry))) (now (heads .entry)) (now (bytes .entry)) (now (heads
+        .exit)) (now (bytes .exit)) (editedBack r (now (tree .exit))) ⌝ }
     ensures words { λ r. ⌜ now (tree .exit) ≡ editedTree (now (tree .entry)) (editedBack r (now (tree .exit))) ⌝ }
 {
     if tree.len() < words::TREE_WORDS {
@@ -99,9 +102,12 @@ pub extern "C" fn moachest_remove(
     answer: &mut [u64],
 ) -> u64
     ensures answer { λ r. ⌜ removedOf size (now (heads .exit)) (now (bytes .exit)) (removedBack r (now (tree .exit)) (now (answer .exit)))
-        ≡ onWords (now (tree .entry)) (now (answer .entry)) (λ t. edits size slots t (now (heads .entry)) (now (bytes .entry)) (now (scratch .entry)) (λ s. remove (lentOf (now (image .entry)) (lentNumbers size slots mapped map)) s (now (key .entry)))) ⌝ }
-    ensures left { λ r. ⌜ removedLeaves size slots (treeOf (now (tree .entry))) (now (heads .entry)) (now (bytes .entry)) (now (heads .exit)) (now (bytes .exit)) (removedBack r (now (tree .exit)) (now (answer .exit))) ⌝ }
-    ensures words { λ r. ⌜ (now (tree .exit) ≡ removedTree (now (tree .entry)) (removedBack r (now (tree .exit)) (now (answer .exit)))) × (now (answer .exit) ≡ removedAnswer (now (answer .entry)) (removedBack r (now (tree .exit)) (now (answer .exit)))) ⌝ }
+        ≡ onWords (now (tree .entry)) (now (answer .entry)) (λ t. edits size slots t (now (heads .entry)) (now (bytes .entry)) (now
+        (scratch .entry)) (λ s. remove (lentOf (now (image .entry)) (lentNumbers size slots mapped map)) s (now (key .entry)))) ⌝ }
+    ensures left { λ r. ⌜ removedLeaves size slots (treeOf (now (tree .entry))) (now (heads .entry)) (now (bytes .entry)) (now (heads
+        .exit)) (now (bytes .exit)) (removedBack r (now (tree .exit)) (now (answer .exit))) ⌝ }
+    ensures words { λ r. ⌜ (now (tree .exit) ≡ removedTree (now (tree .entry)) (removedBack r (now (tree .exit)) (now (answer .exit))))
+        × (now (answer .exit) ≡ removedAnswer (now (answer .entry)) (removedBack r (now (tree .exit)) (now (answer .exit)))) ⌝ }
 {
     if tree.len() < words::TREE_WORDS {
         return refusal::LENT;
@@ -163,8 +169,10 @@ pub extern "C" fn moachest_omap_put(
     length: u64,
 ) -> u64
     ensures answer { λ r. ⌜ editedOf size (now (heads .exit)) (now (bytes .exit)) (editedBack r (now (tree .exit)))
-        ≡ onTree (now (tree .entry)) (λ t. edits size slots t (now (heads .entry)) (now (bytes .entry)) (now (scratch .entry)) (λ s. omapPut (lentOf (now (image .entry)) (lentNumbers size slots mapped map)) s id xid address length)) ⌝ }
-    ensures left { λ r. ⌜ editedLeaves size slots (treeOf (now (tree .entry))) (now (heads .entry)) (now (bytes .entry)) (now (heads .exit)) (now (bytes .exit)) (editedBack r (now (tree .exit))) ⌝ }
+        ≡ onTree (now (tree .entry)) (λ t. edits size slots t (now (heads .entry)) (now (bytes .entry)) (now (scratch .entry)) (λ s.
+        omapPut (lentOf (now (image .entry)) (lentNumbers size slots mapped map)) s id xid address length)) ⌝ }
+    ensures left { λ r. ⌜ editedLeaves size slots (treeOf (now (tree .entry))) (now (heads .entry)) (now (bytes .entry)) (now (heads
+        .exit)) (now (bytes .exit)) (editedBack r (now (tree .exit))) ⌝ }
     ensures words { λ r. ⌜ now (tree .exit) ≡ editedTree (now (tree .entry)) (editedBack r (now (tree .exit))) ⌝ }
 {
     if tree.len() < words::TREE_WORDS {
@@ -225,8 +233,10 @@ pub extern "C" fn moachest_omap_drop(
     id: u64,
 ) -> u64
     ensures answer { λ r. ⌜ editedOf size (now (heads .exit)) (now (bytes .exit)) (editedBack r (now (tree .exit)))
-        ≡ onTree (now (tree .entry)) (λ t. edits size slots t (now (heads .entry)) (now (bytes .entry)) (now (scratch .entry)) (λ s. omapDrop (lentOf (now (image .entry)) (lentNumbers size slots mapped map)) s id)) ⌝ }
-    ensures left { λ r. ⌜ editedLeaves size slots (treeOf (now (tree .entry))) (now (heads .entry)) (now (bytes .entry)) (now (heads .exit)) (now (bytes .exit)) (editedBack r (now (tree .exit))) ⌝ }
+        ≡ onTree (now (tree .entry)) (λ t. edits size slots t (now (heads .entry)) (now (bytes .entry)) (now (scratch .entry)) (λ s.
+        omapDrop (lentOf (now (image .entry)) (lentNumbers size slots mapped map)) s id)) ⌝ }
+    ensures left { λ r. ⌜ editedLeaves size slots (treeOf (now (tree .entry))) (now (heads .entry)) (now (bytes .entry)) (now (heads
+        .exit)) (now (bytes .exit)) (editedBack r (now (tree .exit))) ⌝ }
     ensures words { λ r. ⌜ now (tree .exit) ≡ editedTree (now (tree .entry)) (editedBack r (now (tree .exit))) ⌝ }
 {
     if tree.len() < words::TREE_WORDS {

@@ -26,7 +26,8 @@ pub extern "C" fn moachest_open(
     xid: u64,
 ) -> u64
     ensures answer { λ r. ⌜ openedOf size (now (heads .exit)) (now (bytes .exit)) (openedBack r (now (tree .exit)))
-        ≡ onTree (now (tree .entry)) (λ t. openedIn (lentOf (now (image .entry)) (lentNumbers size slots mapped map)) (now (heads .entry)) (now (bytes .entry)) root order xid) ⌝ }
+        ≡ onTree (now (tree .entry)) (λ t. openedIn (lentOf (now (image .entry)) (lentNumbers size slots mapped map)) (now (heads
+        .entry)) (now (bytes .entry)) root order xid) ⌝ }
     ensures left { λ r. ⌜ openedLeaves size slots (now (heads .exit)) (now (bytes .exit)) (openedBack r (now (tree .exit))) ⌝ }
     ensures words { λ r. ⌜ now (tree .exit) ≡ openedTree (now (tree .entry)) (openedBack r (now (tree .exit))) ⌝ }
 {
@@ -53,12 +54,18 @@ pub extern "C" fn moachest_get(
     out: &mut [u8],
     answer: &mut [u64],
 ) -> u64
-    ensures answer { λ r. ⌜ gotMeans size (now (heads .exit)) (now (bytes .exit)) (now (out .exit)) (gotBack r (now (tree .exit)) (now (answer .exit)))
-        ≡ onWords (now (tree .entry)) (now (answer .entry)) (λ t. gotIn (lentOf (now (image .entry)) (lentNumbers size slots mapped map)) t (now (heads .entry)) (now (bytes .entry)) (length (now (out .entry))) (now (key .entry))) ⌝ }
+    ensures answer { λ r. ⌜ gotMeans size (now (heads .exit)) (now (bytes .exit)) (now (out .exit)) (gotBack r (now (tree .exit)) (now
+        (answer .exit)))
+        ≡ onWords (now (tree .entry)) (now (answer .entry)) (λ t. gotIn (lentOf (now (image .entry)) (lentNumbers size slots mapped
+        map)) t (now (heads .entry)) (now (bytes .entry)) (length (now (out .entry))) (now (key .entry))) ⌝ }
     ensures output { λ _. ⌜ now (out .exit)
-        ≡ gotOutput (now (out .entry)) (onWords (now (tree .entry)) (now (answer .entry)) (λ t. gotIn (lentOf (now (image .entry)) (lentNumbers size slots mapped map)) t (now (heads .entry)) (now (bytes .entry)) (length (now (out .entry))) (now (key .entry)))) ⌝ }
-    ensures left { λ r. ⌜ gotLeaves size slots (treeOf (now (tree .entry))) (now (heads .entry)) (now (bytes .entry)) (now (heads .exit)) (now (bytes .exit)) (gotBack r (now (tree .exit)) (now (answer .exit))) ⌝ }
-    ensures words { λ r. ⌜ (now (tree .exit) ≡ gotTree (now (tree .entry)) (gotBack r (now (tree .exit)) (now (answer .exit)))) × (now (answer .exit) ≡ gotAnswer (now (answer .entry)) (gotBack r (now (tree .exit)) (now (answer .exit)))) ⌝ }
+        ≡ gotOutput (now (out .entry)) (onWords (now (tree .entry)) (now (answer .entry)) (λ t. gotIn (lentOf (now (image .entry))
+        (lentNumbers size slots mapped map)) t (now (heads .entry)) (now (bytes .entry)) (length (now (out .entry))) (now (key
+        .entry)))) ⌝ }
+    ensures left { λ r. ⌜ gotLeaves size slots (treeOf (now (tree .entry))) (now (heads .entry)) (now (bytes .entry)) (now (heads
+        .exit)) (now (bytes .exit)) (gotBack r (now (tree .exit)) (now (answer .exit))) ⌝ }
+    ensures words { λ r. ⌜ (now (tree .exit) ≡ gotTree (now (tree .entry)) (gotBack r (now (tree .exit)) (now (answer .exit))))
+        × (now (answer .exit) ≡ gotAnswer (now (answer .entry)) (gotBack r (now (tree .exit)) (now (answer .exit)))) ⌝ }
 {
     if tree.len() < words::TREE_WORDS {
         return refusal::LENT;
@@ -117,12 +124,18 @@ pub extern "C" fn moachest_floor(
     out: &mut [u8],
     answer: &mut [u64],
 ) -> u64
-    ensures answer { λ r. ⌜ floorMeans size (now (heads .exit)) (now (bytes .exit)) (now (out .exit)) (flooredBack r (now (tree .exit)) (now (answer .exit)))
-        ≡ onWords (now (tree .entry)) (now (answer .entry)) (λ t. flooredIn (lentOf (now (image .entry)) (lentNumbers size slots mapped map)) t (now (heads .entry)) (now (bytes .entry)) (length (now (out .entry))) (now (key .entry))) ⌝ }
+    ensures answer { λ r. ⌜ floorMeans size (now (heads .exit)) (now (bytes .exit)) (now (out .exit)) (flooredBack r (now (tree .exit))
+        (now (answer .exit)))
+        ≡ onWords (now (tree .entry)) (now (answer .entry)) (λ t. flooredIn (lentOf (now (image .entry)) (lentNumbers size slots mapped
+        map)) t (now (heads .entry)) (now (bytes .entry)) (length (now (out .entry))) (now (key .entry))) ⌝ }
     ensures output { λ _. ⌜ now (out .exit)
-        ≡ flooredOutput (now (out .entry)) (onWords (now (tree .entry)) (now (answer .entry)) (λ t. flooredIn (lentOf (now (image .entry)) (lentNumbers size slots mapped map)) t (now (heads .entry)) (now (bytes .entry)) (length (now (out .entry))) (now (key .entry)))) ⌝ }
-    ensures left { λ r. ⌜ flooredLeaves size slots (treeOf (now (tree .entry))) (now (heads .entry)) (now (bytes .entry)) (now (heads .exit)) (now (bytes .exit)) (flooredBack r (now (tree .exit)) (now (answer .exit))) ⌝ }
-    ensures words { λ r. ⌜ (now (tree .exit) ≡ flooredTree (now (tree .entry)) (flooredBack r (now (tree .exit)) (now (answer .exit)))) × (now (answer .exit) ≡ flooredAnswer (now (answer .entry)) (flooredBack r (now (tree .exit)) (now (answer .exit)))) ⌝ }
+        ≡ flooredOutput (now (out .entry)) (onWords (now (tree .entry)) (now (answer .entry)) (λ t. flooredIn (lentOf (now (image
+        .entry)) (lentNumbers size slots mapped map)) t (now (heads .entry)) (now (bytes .entry)) (length (now (out .entry))) (now (key
+        .entry)))) ⌝ }
+    ensures left { λ r. ⌜ flooredLeaves size slots (treeOf (now (tree .entry))) (now (heads .entry)) (now (bytes .entry)) (now (heads
+        .exit)) (now (bytes .exit)) (flooredBack r (now (tree .exit)) (now (answer .exit))) ⌝ }
+    ensures words { λ r. ⌜ (now (tree .exit) ≡ flooredTree (now (tree .entry)) (flooredBack r (now (tree .exit)) (now (answer .exit))))
+        × (now (answer .exit) ≡ flooredAnswer (now (answer .entry)) (flooredBack r (now (tree .exit)) (now (answer .exit)))) ⌝ }
 {
     if tree.len() < words::TREE_WORDS {
         return refusal::LENT;
@@ -182,13 +195,19 @@ pub extern "C" fn moachest_range(
     out: &mut [u8],
     answer: &mut [u64],
 ) -> u64
-    ensures answer { λ r. ⌜ rangeMeans size (now (heads .exit)) (now (bytes .exit)) (now (out .exit)) (rangedBack r (now (tree .exit)) (now (answer .exit)))
-        ≡ onWords (now (tree .entry)) (now (answer .entry)) (λ t. rangedIn (lentOf (now (image .entry)) (lentNumbers size slots mapped map)) t (now (heads .entry)) (now (bytes .entry)) (length (now (out .entry))) (now (lo .entry)) (now (hi .entry))) ⌝ }
+    ensures answer { λ r. ⌜ rangeMeans size (now (heads .exit)) (now (bytes .exit)) (now (out .exit)) (rangedBack r (now (tree .exit))
+        (now (answer .exit)))
+        ≡ onWords (now (tree .entry)) (now (answer .entry)) (λ t. rangedIn (lentOf (now (image .entry)) (lentNumbers size slots mapped
+        map)) t (now (heads .entry)) (now (bytes .entry)) (length (now (out .entry))) (now (lo .entry)) (now (hi .entry))) ⌝ }
     ensures output { λ _. ⌜ now (out .exit)
-        ≡ rangedOutput (now (out .entry)) (onWords (now (tree .entry)) (now (answer .entry)) (λ t. rangedIn (lentOf (now (image .entry)) (lentNumbers size slots mapped map)) t (now (heads .entry)) (now (bytes .entry)) (length (now (out .entry))) (now (lo .entry)) (now (hi .entry)))) ⌝ }
+        ≡ rangedOutput (now (out .entry)) (onWords (now (tree .entry)) (now (answer .entry)) (λ t. rangedIn (lentOf (now (image
+        .entry)) (lentNumbers size slots mapped map)) t (now (heads .entry)) (now (bytes .entry)) (length (now (out .entry))) (now (lo
+        .entry)) (now (hi .entry)))) ⌝ }
     ensures long { λ r. ⌜ rangedLength (now (out .exit)) (rangedBack r (now (tree .exit)) (now (answer .exit))) ⌝ }
-    ensures left { λ r. ⌜ rangedLeaves size slots (treeOf (now (tree .entry))) (now (heads .entry)) (now (bytes .entry)) (now (heads .exit)) (now (bytes .exit)) (rangedBack r (now (tree .exit)) (now (answer .exit))) ⌝ }
-    ensures words { λ r. ⌜ (now (tree .exit) ≡ rangedTree (now (tree .entry)) (rangedBack r (now (tree .exit)) (now (answer .exit)))) × (now (answer .exit) ≡ rangedAnswer (now (answer .entry)) (rangedBack r (now (tree .exit)) (now (answer .exit)))) ⌝ }
+    ensures left { λ r. ⌜ rangedLeaves size slots (treeOf (now (tree .entry))) (now (heads .entry)) (now (bytes .entry)) (now (heads
+        .exit)) (now (bytes .exit)) (rangedBack r (now (tree .exit)) (now (answer .exit))) ⌝ }
+    ensures words { λ r. ⌜ (now (tree .exit) ≡ rangedTree (now (tree .entry)) (rangedBack r (now (tree .exit)) (now (answer .exit))))
+        × (now (answer .exit) ≡ rangedAnswer (now (answer .entry)) (rangedBack r (now (tree .exit)) (now (answer .exit)))) ⌝ }
 {
     if tree.len() < words::TREE_WORDS {
         return refusal::LENT;

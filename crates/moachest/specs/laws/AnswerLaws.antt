@@ -1,9 +1,9 @@
 -- Laws of answers as numbers: what is returned and written is read back. Assumes nothing.
 use mathlib.Core.Path.{_≡_, refl, ap, subst}
-use mathlib.Core.List.{List, [], _∷_}
-use mathlib.Core.Bool.{Bool, true, false, cond, _&&_}
+use mathlib.Core.List.{List}
+use mathlib.Core.Bool.{Bool, true, cond}
 use Prim.Native.Nat.{ℕ}
-use lib.Dec.{eqb, leb}
+use lib.Dec.{eqb}
 use borrow.Author.Tests.{ne-eqb}
 use Rattle.seal.specs.Bytes.{splice}
 use Rattle.tree.specs.declared.lookup.Opened.{Opened}
@@ -21,7 +21,6 @@ use Rattle.tree.specs.declared.edited.Removed.the-variants as taking
 use Rattle.flush.specs.declared.flush.Answer.{Answer}
 use Rattle.flush.specs.declared.flush.Answer.the-variants as flushing
 use Rattle.tree.specs.laws.NodeLaws.{never}
-use Rattle.moachest.specs.Words.{treeOf, stored}
 use Rattle.moachest.specs.Answers.{openedNumber, openedTree, openedBack, gotNumber, gotTree, gotAnswer, gotBack, flooredNumber, flooredTree, flooredAnswer, flooredBack, rangedNumber, rangedTree, rangedAnswer, rangedBack, editedNumber, editedTree, editedBack, removedNumber, removedTree, removedAnswer, removedBack, flushedWords, flushedNumber, flushedAnswer, flushedOfWords, flushedBack}
 use Rattle.moachest.specs.laws.RefusalLaws.{inTable}
 use Rattle.moachest.specs.laws.WordLaws.{tree-back}

@@ -1,5 +1,5 @@
 -- Laws of the code that leaves an answer: one for each word list and each kind of answer. Assumes nothing.
-use mathlib.Core.Path.{_≡_, refl, sym, ap, _∙_}
+use mathlib.Core.Path.{_≡_, refl, ap, _∙_}
 use mathlib.Core.List.{List, [], _∷_}
 use Prim.Native.Nat.{ℕ, _+_, _≤_}
 use native.Mathlib.Numerals.{add-one, add-two, add-three}
@@ -70,7 +70,8 @@ tree-put w a b v f m t em ef ev eb ea h =
     let two : b ≡ splice w 0 (t .root ∷ t .used ∷ []) = both-put w a b (t .root) (t .used) eb ea (omega arith) in
     let ten : v ≡ splice w 0 (t .root ∷ t .used ∷ infoWords (t .info)) = ev ∙ ap (λ (x : List ℕ). splice x 2 (infoWords (t .info))) two
     ∙ splice-two w 0 (t .root ∷ t .used ∷ []) (infoWords (t .info)) (omega arith) in
-    ef ∙ ap (λ (n : ℕ). splice v 10 (n ∷ t .subtype ∷ t .order ∷ t .xid ∷ [])) em ∙ ap (λ (x : List ℕ). splice x 10 (mark (t .«by_id») ∷ t .subtype ∷ t .order ∷ t .xid ∷ [])) ten
+    ef ∙ ap (λ (n : ℕ). splice v 10 (n ∷ t .subtype ∷ t .order ∷ t .xid ∷ [])) em ∙ ap (λ (x : List ℕ). splice x 10 (mark (t .«by_id»)
+    ∷ t .subtype ∷ t .order ∷ t .xid ∷ [])) ten
     ∙ splice-two w 0 (t .root ∷ t .used ∷ infoWords (t .info)) (mark (t .«by_id») ∷ t .subtype ∷ t .order ∷ t .xid ∷ []) (omega arith)
 
 pub flushed-put : (w v u : List ℕ) (f : Flushed) → u ≡ splice v 4 (f .done .moved ∷ f .keys ∷ f .fill ∷ f .done .next ∷ [])
@@ -144,7 +145,8 @@ pub got-value-tree : (w v : List ℕ) (g : Got) (t : Tree) (n : ℕ) → g ≡ g
 unfolding gotTree
 got-value-tree w v g t n e p = rw e p
 
-pub got-value-words : (a v u : List ℕ) (g : Got) (t : Tree) (n : ℕ) → g ≡ getting.Value t n → u ≡ set v 1 n → v ≡ set a 0 2 → 8 ≤ length a → u ≡ gotAnswer a g
+pub got-value-words : (a v u : List ℕ) (g : Got) (t : Tree) (n : ℕ) → g ≡ getting.Value t n → u ≡ set v 1 n → v ≡ set a 0 2
+    → 8 ≤ length a → u ≡ gotAnswer a g
 unfolding gotAnswer splice
 got-value-words a v u g t n e q p h = rw (e, q, p) (sets-eq (2 ∷ n ∷ []) a 0 (omega arith))
 
@@ -182,7 +184,8 @@ pub floored-record-tree : (w v : List ℕ) (g : Floor) (t : Tree) (n : ℕ) → 
 unfolding flooredTree
 floored-record-tree w v g t n e p = rw e p
 
-pub floored-record-words : (a v u : List ℕ) (g : Floor) (t : Tree) (n : ℕ) → g ≡ flooring.Record t n → u ≡ set v 1 n → v ≡ set a 0 1 → 8 ≤ length a → u ≡ flooredAnswer a g
+pub floored-record-words : (a v u : List ℕ) (g : Floor) (t : Tree) (n : ℕ) → g ≡ flooring.Record t n → u ≡ set v 1 n → v ≡ set a 0 1
+    → 8 ≤ length a → u ≡ flooredAnswer a g
 unfolding flooredAnswer splice
 floored-record-words a v u g t n e q p h = rw (e, q, p) (sets-eq (1 ∷ n ∷ []) a 0 (omega arith))
 
@@ -204,11 +207,13 @@ pub ranged-done-number : (g : Ranged) (t : Tree) (count : ℕ) (long : ℕ) → 
 unfolding rangedNumber
 ranged-done-number g t count long e = rw e refl
 
-pub ranged-done-tree : (w v : List ℕ) (g : Ranged) (t : Tree) (count : ℕ) (long : ℕ) → g ≡ ranging.Done t count long → v ≡ stored w t → v ≡ rangedTree w g
+pub ranged-done-tree : (w v : List ℕ) (g : Ranged) (t : Tree) (count : ℕ) (long : ℕ) → g ≡ ranging.Done t count long → v ≡ stored w t
+    → v ≡ rangedTree w g
 unfolding rangedTree
 ranged-done-tree w v g t count long e p = rw e p
 
-pub ranged-done-words : (a v u : List ℕ) (g : Ranged) (t : Tree) (count : ℕ) (long : ℕ) → g ≡ ranging.Done t count long → u ≡ set v 1 long → v ≡ set a 0 count → 8 ≤ length a → u ≡ rangedAnswer a g
+pub ranged-done-words : (a v u : List ℕ) (g : Ranged) (t : Tree) (count : ℕ) (long : ℕ) → g ≡ ranging.Done t count long → u
+    ≡ set v 1 long → v ≡ set a 0 count → 8 ≤ length a → u ≡ rangedAnswer a g
 unfolding rangedAnswer splice
 ranged-done-words a v u g t count long e q p h = rw (e, q, p) (sets-eq (count ∷ long ∷ []) a 0 (omega arith))
 

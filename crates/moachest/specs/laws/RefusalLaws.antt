@@ -143,7 +143,8 @@ n-load : (l : Lent) (s : State) (bs : Bounds) (n i : ℕ) → Numbered (loadChil
 unfolding loadChild
 n-load l s bs n i =
     by-val (valAt (nodeAt s n .entries) i) (λ q. rw q (n-refused refusal.lent refl)) (λ b q. rw q (n-refused refusal.lent refl))
-    (λ r q. rw q (n-check refusal.noSlot (ltb (length (s .nodes)) (l .slots)) _ refl (n-bind (addressOf l (s .xid) r) _ (n-address _ _ _) λ a. n-bind (loadBlock l (s .order) _ _ a) _
+    (λ r q. rw q (n-check refusal.noSlot (ltb (length (s .nodes)) (l .slots)) _ refl (n-bind (addressOf l (s .xid) r) _ (n-address _ _
+    _) λ a. n-bind (loadBlock l (s .order) _ _ a) _
     (n-block _ _ _ _ _) λ d. n-ok)))
     (λ c q. rw q n-ok)
 
@@ -191,7 +192,8 @@ n-floor-from (suc d) l s bs n k =
     n-bind (loadChild l s bs n i) _ (n-load _ _ _ _ _) λ c.
     n-bind (floorFrom d l (c .state) (childBounds (s .order) bs es i) (c .slot) k) _ (n-floor-from d l (c .state) _ (c .slot) k) λ g.
     by-list (g .answer)
-    (λ z. rw z (n-cond (ltb 0 i && not (less (s .order) k (keyAt es i))) _ _ (n-bind (loadChild l (g .state) bs n (i - 1)) _ (n-load _ _ _ _ _) λ b. n-last d l (b .state) _ (b .slot)) n-ok))
+    (λ z. rw z (n-cond (ltb 0 i && not (less (s .order) k (keyAt es i))) _ _ (n-bind (loadChild l (g .state) bs n (i - 1)) _ (n-load _
+    _ _ _ _) λ b. n-last d l (b .state) _ (b .slot)) n-ok))
     (λ x xs z. rw z n-ok)
 
 pub n-floor-in : (l : Lent) (s : State) (room : ℕ) (k : List ℕ) → Numbered (floorIn l s room k)
@@ -201,7 +203,8 @@ n-floor-in l s room k =
     (n-bind (floorFrom (nodeAt s (s .root) .level) l s unbounded (s .root) k) _ (n-floor-from _ _ _ _ _ _) λ g.
     n-check refusal.output (leb (length (recordsOf (g .answer))) room) (ok g) refl n-ok)
 
-n-kids : (f : State → Bounds → ℕ → Result (Got Entry)) (l : Lent) → ((s : State) (bs : Bounds) (n : ℕ) → Numbered (f s bs n)) → (s : State) (bs : Bounds)
+n-kids : (f : State → Bounds → ℕ → Result (Got Entry)) (l : Lent) → ((s : State) (bs : Bounds) (n : ℕ) → Numbered (f s bs n))
+    → (s : State) (bs : Bounds)
     (n : ℕ) (lo : List ℕ) (hi : List (List ℕ)) (m i : ℕ) → Numbered (rangeKids f l s bs n lo hi m i)
 unfolding rangeKids
 n-kids f l h s bs n lo hi zero i = n-ok
@@ -241,7 +244,8 @@ n-place t level es =
 
 n-cut-at : (l : Lent) (up : List Step) (n c : ℕ) (s : State) → Numbered (cutAt l up n c s)
 unfolding cutAt
-n-cut-at l [] n c s = n-check refusal.newRoot (newRootHolds (parted s n c) n (length (s .nodes))) _ refl (n-then (roomFor l s 2) _ (n-room l s 2) n-ok)
+n-cut-at l [] n c s = n-check refusal.newRoot (newRootHolds (parted s n c) n (length (s .nodes))) _ refl (n-then (roomFor l s 2) _
+    (n-room l s 2) n-ok)
 n-cut-at l (x ∷ xs) n c s = n-then (roomFor l s 1) _ (n-room l s 1) n-ok
 
 n-cut : (l : Lent) (up : List Step) (n : ℕ) (s : State) → Numbered (cutNode l up n s)
@@ -281,7 +285,8 @@ n-hand-down : (n : ℕ) (l : Lent) (s : State) → Numbered (handDown n l s)
 unfolding handDown
 n-hand-down zero l s = n-ok
 n-hand-down (suc n) l s =
-    n-cond (hasOnlyChild s) _ _ (n-bind (loadChild l s unbounded (s .root) 0) _ (n-load _ _ _ _ _) (λ c. n-taken (handDown n l) (n-hand-down n l) c)) n-ok
+    n-cond (hasOnlyChild s) _ _ (n-bind (loadChild l s unbounded (s .root) 0) _ (n-load _ _ _ _ _) (λ c. n-taken (handDown n l)
+    (n-hand-down n l) c)) n-ok
 
 n-shrunk : (l : Lent) (k : List ℕ) (w : Way) → Numbered (shrunkOn l k w)
 unfolding shrunkOn
@@ -312,7 +317,8 @@ n-remove-all l (e ∷ es) s = n-bind (removed l s (e .key)) _ (n-removed l s (e 
 n-dropped : (l : Lent) (s : State) (id : ℕ) → Numbered (dropped l s id)
 unfolding dropped
 n-dropped l s id =
-    n-bind (rangeFrom (nodeAt s (s .root) .level) l (pairKey id 0) (versionsEnd id) s unbounded (s .root)) _ (n-range-from _ _ _ _ _ _ _) (λ g. n-remove-all l (g .answer) (g .state))
+    n-bind (rangeFrom (nodeAt s (s .root) .level) l (pairKey id 0) (versionsEnd id) s unbounded (s .root)) _ (n-range-from _ _ _ _ _ _
+    _) (λ g. n-remove-all l (g .answer) (g .state))
 
 pub n-drop-in : (l : Lent) (s : State) (id : ℕ) → Numbered (omapDropIn l s id)
 unfolding omapDropIn
@@ -350,7 +356,8 @@ floor-numbered l t heads bytes room k = n-called _ _ t heads bytes _ (λ s. n-ch
 
 pub range-numbered : (l : Lent) (t : Tree) (heads bytes : List ℕ) (room : ℕ) (lo hi : List ℕ) → Numbered (rangedIn l t heads bytes room lo hi)
 unfolding rangedIn range
-range-numbered l t heads bytes room lo hi = n-called _ _ t heads bytes _ (λ s. n-check refusal.lent (lentHolds l s) _ refl (n-range-in l s room lo hi))
+range-numbered l t heads bytes room lo hi = n-called _ _ t heads bytes _ (λ s. n-check refusal.lent (lentHolds l s) _ refl (n-range-in
+    l s room lo hi))
 
 pub upsert-numbered : (size slots : ℕ) (t : Tree) (heads bytes scratch : List ℕ) (l : Lent) (k : List ℕ) (v : Val)
     → Numbered (edits size slots t heads bytes scratch (λ s. upsert l s k v))

@@ -1,20 +1,18 @@
 -- Laws of a tree's words: what is stored is read back. Assumes nothing.
-use mathlib.Core.Path.{_≡_, refl, sym, ap, _∙_}
-use mathlib.Core.List.{List, [], _∷_}
+use mathlib.Core.Path.{_≡_, refl, ap, _∙_}
+use mathlib.Core.List.{List}
 use mathlib.Core.Bool.{Bool, true, false}
-use Prim.Native.Nat.{ℕ, _+_, _≤_, _<_}
+use Prim.Native.Nat.{ℕ, _≤_, _<_}
 use native.Mathlib.Omega.{arith}
-use lib.ListN.{length, set, length-set}
-use lib.Seq.{sets-eq}
+use lib.ListN.{length}
 use lib.Dec.{leb}
 use borrow.Author.Tests.{le-leb, lt-leb}
 use Rattle.seal.specs.Bytes.{splice}
-use Rattle.node.specs.Result.{Result, ok, refused, _>>=_, _>>_, check}
+use Rattle.node.specs.Result.{Result, refused, _>>_, check}
 use Rattle.node.specs.Refusals as refusal
 use Rattle.node.specs.laws.ResultLaws.{check-passes, check-refuses}
-use Rattle.node.specs.declared.info.BTreeInfo.{BTreeInfo}
 use Rattle.tree.specs.declared.editor.Tree.{Tree}
-use Rattle.moachest.specs.Words.{yes, mark, infoOf, infoWords, treeOf, wordsOf, stored, onTree, onWords}
+use Rattle.moachest.specs.Words.{yes, mark, infoOf, treeOf, wordsOf, stored, onTree, onWords}
 
 -- ---- read back
 
