@@ -49,6 +49,7 @@ pub mod RootLaws
 pub mod RoomLaws
 pub mod RoomCalls
 pub mod RoomyLaws
+pub mod TrustCalls
 pub mod EditCalls
 pub mod FoundAtLaws
 pub mod EditRoom

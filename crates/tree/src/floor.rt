@@ -23,6 +23,7 @@ ghost use Rattle.tree.specs.Answers.{floorMeans, flooredIn, flooredOutpu
 ghost use Rattle.tree.specs.internal.Bank.{Ready};
 ghost use Rattle.tree.specs.internal.Tree.{boundsOf, BoundsIn};
 ghost use Rattle.tree.specs.internal.Undo.{Follows};
+ghost use Rattle.tree.specs.internal.Edits.{Trusts};
 ghost use Rattle.tree.specs.internal.Floor.{entryIn, lastMeans, EntryReady, LastReady, lastAt, floorAt, leftFrom};
 ghost use Rattle.tree.specs.internal.Floor.{flooredOf, floorWay, FloorReady, FloorCalled};
 
@@ -290,14 +291,14 @@ impl Tree {
         key: &[u8],
         out: &mut [u8],
     ) -> Floor
-        requires { ⌜ Ready (lent .size) (lent .slots) (self .used) (now heads) (now bytes) ⌝ }
+        requires trusts { ⌜ Trusts (now image) lent self (now heads) (now bytes) ⌝ }
         ensures answer { λ r. ⌜ floorMeans (lent .size) (now (heads .exit)) (now (bytes .exit)) (now (out .exit)) r
             ≡ floorIn (lentOf (now (image .entry)) lent) (stateOf (lent .size) self (now (heads .entry)) (now
             (bytes .entry))) (length (now (out .entry))) (now (key .entry)) ⌝ }
         ensures output { λ _. ⌜ now (out .exit)
             ≡ flooredOutput (now (out .entry)) (floorIn (lentOf (now (image .entry)) lent) (stateOf (lent .size) self
             (now (heads .entry)) (now (bytes .entry))) (length (now (out .entry))) (now (key .entry))) ⌝ }
-        ensures left { λ r. ⌜ FloorCalled (lent .size) (lent .slots) self (now (heads .entry)) (now (bytes .entry))
+        ensures left { λ r. ⌜ FloorCalled (now (image .entry)) lent self (now (heads .entry)) (now (bytes .entry))
             (now (heads .exit)) (now (bytes .exit)) r ⌝ }
     {
         let order = Order { code: self.order };

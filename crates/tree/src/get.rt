@@ -24,6 +24,7 @@ ghost use Rattle.tree.specs.Workspace.{stateOf};
 ghost use Rattle.tree.specs.Answers.{gotMeans, gotIn, gotOutput, gotLeaves};
 ghost use Rattle.tree.specs.internal.Bank.{Ready};
 ghost use Rattle.tree.specs.internal.Undo.{Follows};
+ghost use Rattle.tree.specs.internal.Edits.{Trusts};
 ghost use Rattle.tree.specs.internal.Get.{heldMeans, HeldIn, gotAt, gotWay, ReadyGot, GotCalled};
 
 // What a key holds in a slot: nothing, a ghost, or a value, which starts there and has so many bytes.
@@ -149,15 +150,14 @@ impl Tree {
         key: &[u8],
         out: &mut [u8],
     ) -> Got
-        requires { ⌜ Ready (lent .size) (lent .slots) (self .used) (now heads) (now bytes) ⌝ }
-        requires { ⌜ trusted (lentOf (now image) lent) (stateOf (lent .size) self (now heads) (now bytes)) ≡ true ⌝ }
+        requires trusts { ⌜ Trusts (now image) lent self (now heads) (now bytes) ⌝ }
         ensures answer { λ r. ⌜ gotMeans (lent .size) (now (heads .exit)) (now (bytes .exit)) (now (out .exit)) r
             ≡ getIn (lentOf (now (image .entry)) lent) (stateOf (lent .size) self (now (heads .entry)) (now
             (bytes .entry))) (length (now (out .entry))) (now (key .entry)) ⌝ }
         ensures output { λ _. ⌜ now (out .exit)
             ≡ gotOutput (now (out .entry)) (getIn (lentOf (now (image .entry)) lent) (stateOf (lent .size) self
             (now (heads .entry)) (now (bytes .entry))) (length (now (out .entry))) (now (key .entry))) ⌝ }
-        ensures left { λ r. ⌜ GotCalled (lent .size) (lent .slots) self (now (heads .entry)) (now (bytes .entry))
+        ensures left { λ r. ⌜ GotCalled (now (image .entry)) lent self (now (heads .entry)) (now (bytes .entry))
             (now (heads .exit)) (now (bytes .exit)) r ⌝ }
     {
         let order = Order { code: self.order };

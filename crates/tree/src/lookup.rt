@@ -16,7 +16,7 @@ ghost use lib.ListN.{length};
 ghost use Rattle.tree.specs.Lent.{lentOf};
 ghost use Rattle.tree.specs.Lookup.{opened};
 ghost use Rattle.tree.specs.Answers.{openedOf, openedIn, openedLeaves};
-ghost use Rattle.tree.specs.internal.Open.{openedRoot, ReadyOpened};
+ghost use Rattle.tree.specs.internal.Open.{openedRoot, ReadyOpened, OpenedTrusts};
 
 pub enum Opened {
     Refused(u64),
@@ -87,7 +87,7 @@ pub fn open_in(
         ≡ (lent .slots + lent .slots) * (4 * lent .size)) ⌝ }
     ensures answer { λ x. ⌜ openedOf (lent .size) (now (heads .exit)) (now (bytes .exit)) x
         ≡ opened (lentOf (now (image .entry)) lent) r order xid ⌝ }
-    ensures ready { λ x. ⌜ ReadyOpened (lent .size) (lent .slots) (now (heads .exit)) (now (bytes .exit)) x ⌝ }
+    ensures trusts { λ x. ⌜ OpenedTrusts (now (image .entry)) lent (now (heads .exit)) (now (bytes .exit)) x ⌝ }
 {
     if !lent::sizes_hold(image, lent) {
         return Opened::Refused(refusal::LENT);
@@ -116,6 +116,7 @@ pub fn open(
     ensures answer { λ x. ⌜ openedOf (lent .size) (now (heads .exit)) (now (bytes .exit)) x
         ≡ openedIn (lentOf (now (image .entry)) lent) (now (heads .entry)) (now (bytes .entry)) r order xid ⌝ }
     ensures left { λ x. ⌜ openedLeaves (lent .size) (lent .slots) (now (heads .exit)) (now (bytes .exit)) x ⌝ }
+    ensures trusts { λ x. ⌜ OpenedTrusts (now (image .entry)) lent (now (heads .exit)) (now (bytes .exit)) x ⌝ }
 {
     if !lent::sizes_hold(image, lent) {
         return Opened::Refused(refusal::LENT);

@@ -28,6 +28,7 @@ ghost use Rattle.tree.specs.Answers.{rangeMeans, rangedIn, rangedOutput,
 ghost use Rattle.tree.specs.internal.Bank.{Ready};
 ghost use Rattle.tree.specs.internal.Tree.{boundsOf, BoundsIn};
 ghost use Rattle.tree.specs.internal.Undo.{Follows};
+ghost use Rattle.tree.specs.internal.Edits.{Trusts};
 ghost use Rattle.tree.specs.internal.Room.{Roomy};
 ghost use Rattle.tree.specs.internal.Range.{endOf, liesBetween, most, atMost, sumOf, counted, rangedOf, ReadyRanged};
 ghost use Rattle.tree.specs.internal.Range.{rangeChild, heldChild, rangeHeld, rangeWay, RangeCalled};
@@ -519,9 +520,7 @@ impl Tree {
         hi: &[u8],
         out: &mut [u8],
     ) -> Ranged
-        requires { ⌜ Ready (lent .size) (lent .slots) (self .used) (now heads) (now bytes) ⌝ }
-        requires { ⌜ trusted (lentOf (now image) lent) (stateOf (lent .size) self (now heads) (now bytes)) ≡ true ⌝ }
-        requires { ⌜ Roomy (2 * lent .size) (stateOf (lent .size) self (now heads) (now bytes)) ⌝ }
+        requires trusts { ⌜ Trusts (now image) lent self (now heads) (now bytes) ⌝ }
         ensures answer { λ r. ⌜ rangeMeans (lent .size) (now (heads .exit)) (now (bytes .exit)) (now (out .exit)) r
             ≡ rangeIn (lentOf (now (image .entry)) lent) (stateOf (lent .size) self (now (heads .entry)) (now
             (bytes .entry))) (length (now (out .entry))) (now (lo .entry)) (now (hi .entry)) ⌝ }
@@ -529,7 +528,7 @@ impl Tree {
             ≡ rangedOutput (now (out .entry)) (rangeIn (lentOf (now (image .entry)) lent) (stateOf (lent .size) self
             (now (heads .entry)) (now (bytes .entry))) (length (now (out .entry))) (now (lo .entry)) (now (hi .entry))) ⌝ }
         ensures long { λ r. ⌜ rangedLength (now (out .exit)) r ⌝ }
-        ensures left { λ r. ⌜ RangeCalled (lent .size) (lent .slots) self (now (heads .entry)) (now (bytes .entry))
+        ensures left { λ r. ⌜ RangeCalled (now (image .entry)) lent self (now (heads .entry)) (now (bytes .entry))
             (now (heads .exit)) (now (bytes .exit)) r ⌝ }
     {
         let order = Order { code: self.order };

@@ -13,7 +13,9 @@ use Rattle.tree.specs.State.{State, nodeAt}
 use Rattle.tree.specs.Workspace.{stateOf}
 use Rattle.tree.specs.Lookup as lookup
 use Rattle.tree.specs.internal.Bank.{Ready}
+use Rattle.tree.specs.internal.Edits.{Trusts}
 use Rattle.tree.specs.declared.editor.Tree.{Tree}
+use Rattle.tree.specs.declared.lent.Lent.{Lent}
 use Rattle.tree.specs.declared.get.Held.{Held}
 use Rattle.tree.specs.declared.get.Held.the-variants as held
 use Rattle.tree.specs.declared.get.Got.{Got}
@@ -54,10 +56,10 @@ ReadyGot size slots heads bytes (getting.None t) = Ready size slots (t .used) he
 ReadyGot size slots heads bytes (getting.Ghost t) = Ready size slots (t .used) heads bytes
 ReadyGot size slots heads bytes (getting.Value t n) = Ready size slots (t .used) heads bytes
 
--- a refused get leaves the tree as it was, an accepted one a tree that is ready
-abbrev pub GotCalled : ℕ → ℕ → Tree → List ℕ → List ℕ → List ℕ → List ℕ → Got → Type 0
-GotCalled size slots t heads bytes heads′ bytes′ (getting.Refused x) = (stateOf size t heads′ bytes′ ≡ stateOf size t heads bytes) × Ready size slots
-    (t .used) heads′ bytes′
-GotCalled size slots t heads bytes heads′ bytes′ (getting.None u) = Ready size slots (u .used) heads′ bytes′
-GotCalled size slots t heads bytes heads′ bytes′ (getting.Ghost u) = Ready size slots (u .used) heads′ bytes′
-GotCalled size slots t heads bytes heads′ bytes′ (getting.Value u n) = Ready size slots (u .used) heads′ bytes′
+-- a refused get leaves the tree as it was, an accepted one a tree to be trusted
+abbrev pub GotCalled : List ℕ → Lent → Tree → List ℕ → List ℕ → List ℕ → List ℕ → Got → Type 0
+GotCalled image l t heads bytes heads′ bytes′ (getting.Refused x) =
+    (stateOf (l .size) t heads′ bytes′ ≡ stateOf (l .size) t heads bytes) × Ready (l .size) (l .slots) (t .used) heads′ bytes′
+GotCalled image l t heads bytes heads′ bytes′ (getting.None u) = Trusts image l u heads′ bytes′
+GotCalled image l t heads bytes heads′ bytes′ (getting.Ghost u) = Trusts image l u heads′ bytes′
+GotCalled image l t heads bytes heads′ bytes′ (getting.Value u n) = Trusts image l u heads′ bytes′

@@ -17,7 +17,9 @@ use Rattle.tree.specs.Workspace.{stateOf}
 use Rattle.tree.specs.Load.{Bounds, unbounded, childBounds, loadChild}
 use Rattle.tree.specs.Lookup.{Got, endsAbove, between, rangeEnters, rangeFrom}
 use Rattle.tree.specs.internal.Bank.{Ready}
+use Rattle.tree.specs.internal.Edits.{Trusts}
 use Rattle.tree.specs.declared.editor.Tree.{Tree}
+use Rattle.tree.specs.declared.lent.Lent.{Lent}
 use Rattle.tree.specs.declared.range.Sum.{Sum}
 use Rattle.tree.specs.declared.range.Ranged.{Ranged}
 use Rattle.tree.specs.declared.range.Ranged.the-variants as ranging
@@ -113,8 +115,8 @@ rangeWay l s room lo hi = do
   check refusal.output (leb (length (recordsOf (g .answer))) room)
   ok g
 
--- a refused range leaves the tree as it was, an accepted one a tree that is ready
-abbrev pub RangeCalled : ℕ → ℕ → Tree → List ℕ → List ℕ → List ℕ → List ℕ → Ranged → Type 0
-RangeCalled size slots t heads bytes heads′ bytes′ (ranging.Refused x) =
-    (stateOf size t heads′ bytes′ ≡ stateOf size t heads bytes) × Ready size slots (t .used) heads′ bytes′
-RangeCalled size slots t heads bytes heads′ bytes′ (ranging.Done u k m) = Ready size slots (u .used) heads′ bytes′
+-- a refused range leaves the tree as it was, an accepted one a tree to be trusted
+abbrev pub RangeCalled : List ℕ → Lent → Tree → List ℕ → List ℕ → List ℕ → List ℕ → Ranged → Type 0
+RangeCalled image l t heads bytes heads′ bytes′ (ranging.Refused x) =
+    (stateOf (l .size) t heads′ bytes′ ≡ stateOf (l .size) t heads bytes) × Ready (l .size) (l .slots) (t .used) heads′ bytes′
+RangeCalled image l t heads bytes heads′ bytes′ (ranging.Done u k m) = Trusts image l u heads′ bytes′

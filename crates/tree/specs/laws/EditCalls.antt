@@ -28,8 +28,8 @@ use Rattle.tree.specs.internal.Bank.{Ready}
 use Rattle.tree.specs.internal.Undo.{Follows, Shadowed, Back}
 use Rattle.tree.specs.internal.Room.{Roomy}
 use Rattle.tree.specs.internal.Edits.{Trusts, EditedCalled, RemovedCalled}
-use Rattle.tree.specs.laws.ReadyLaws.{called-ready, called-trusted, called-refused, called-passed}
-use Rattle.tree.specs.laws.RoomyLaws.{roomy-holds, holds-roomy}
+use Rattle.tree.specs.laws.ReadyLaws.{called-ready, called-refused, called-passed}
+use Rattle.tree.specs.laws.TrustCalls.{called-trusts, trusts-hold, back-hold}
 use Rattle.tree.specs.laws.CallLaws.{call-ready, call-state, call-shadowed, back-ready, back-state}
 use Rattle.tree.specs.declared.editor.Tree.{Tree}
 use Rattle.tree.specs.declared.lent.Lent.{Lent}
@@ -104,17 +104,8 @@ module _ (image : List ℕ) (l : Lent) (t : Tree) (heads bytes scratch : List �
     both : (space && held ≡ true) × (wide ≡ true)
     both = and-split (space && held) wide (sym e ∙ not-false a q)
 
-    pub edits-space : workspaceHolds (l .size) (l .slots) (t .used) heads bytes ≡ true
-    edits-space = and-split space held (both .0) .0
-
     pub edits-trusts : Trusts image l t heads bytes
-    edits-trusts =
-        let r = called-ready image l t heads bytes (space && held) refl (ap not (both .0)) in
-        record {
-          ready = r;
-          trust = called-trusted image l t heads bytes (space && held) refl (ap not (both .0));
-          roomy = holds-roomy (l .size) (l .slots) t heads bytes r edits-space;
-        }
+    edits-trusts = called-trusts image l t heads bytes (space && held) refl (ap not (both .0))
 
     pub edits-scratch : 2 * l .size ≤ length scratch
     unfolding scratchHolds
@@ -128,24 +119,16 @@ module _ (image : List ℕ) (l : Lent) (t : Tree) (heads bytes scratch : List �
     edits-list = eqb-true (length scratch) ((2 * l .slots + 2) * l .size) (both .1)
 
     -- what an edit leaves
-    left-held : (u : Tree) (h′ b′ : List ℕ) → Trusts image l u h′ b′ → workspaceHolds (l .size) (l .slots) (u .used) h′ b′ ≡ true
-    left-held u h′ b′ c = roomy-holds (l .size) (l .slots) u h′ b′ (c .ready) (c .roomy)
-
-    back-held : (h′ b′ : List ℕ) → stateOf (l .size) t h′ b′ ≡ stateOf (l .size) t heads bytes → Ready (l .size) (l .slots) (t .used) h′ b′
-        → workspaceHolds (l .size) (l .slots) (t .used) h′ b′ ≡ workspaceHolds (l .size) (l .slots) (t .used) heads bytes
-    back-held h′ b′ k r =
-        roomy-holds (l .size) (l .slots) t h′ b′ r (subst (λ (x : State). Roomy (2 * l .size) x) (sym k) (edits-trusts .roomy)) ∙ sym edits-space
-
     pub edited-left : (h′ b′ : List ℕ) (r : Edited) → EditedCalled image l t heads bytes h′ b′ r
         → editedLeaves (l .size) (l .slots) t heads bytes h′ b′ r
-    edited-left h′ b′ (editing.Refused x) c = (c .0, back-held h′ b′ (c .0) (c .1))
-    edited-left h′ b′ (editing.Done u) c = left-held u h′ b′ c
+    edited-left h′ b′ (editing.Refused x) c = (c .0, back-hold image l t heads bytes edits-trusts h′ b′ (c .0) (c .1))
+    edited-left h′ b′ (editing.Done u) c = trusts-hold image l u h′ b′ c
 
     pub removed-left : (h′ b′ : List ℕ) (r : Removed) → RemovedCalled image l t heads bytes h′ b′ r
         → removedLeaves (l .size) (l .slots) t heads bytes h′ b′ r
-    removed-left h′ b′ (taking.Refused x) c = (c .0, back-held h′ b′ (c .0) (c .1))
-    removed-left h′ b′ (taking.Yes u) c = left-held u h′ b′ c
-    removed-left h′ b′ (taking.No u) c = left-held u h′ b′ c
+    removed-left h′ b′ (taking.Refused x) c = (c .0, back-hold image l t heads bytes edits-trusts h′ b′ (c .0) (c .1))
+    removed-left h′ b′ (taking.Yes u) c = trusts-hold image l u h′ b′ c
+    removed-left h′ b′ (taking.No u) c = trusts-hold image l u h′ b′ c
 
   -- each call: 1, or what follows
   pub upsert-lent : (k : List ℕ) (v : Val) → not a ≡ true → editedOf (l .size) heads bytes (editing.Refused 1)

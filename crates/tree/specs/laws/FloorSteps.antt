@@ -25,12 +25,13 @@ use Rattle.tree.specs.Workspace.{stateOf, workspaceHolds, called}
 use Rattle.tree.specs.Answers.{floorMeans, flooredIn, flooredOutput, flooredLeaves}
 use Rattle.tree.specs.internal.Bank.{Ready}
 use Rattle.tree.specs.internal.Room.{Roomy}
+use Rattle.tree.specs.internal.Edits.{Trusts}
 use Rattle.tree.specs.internal.Tree.{boundOf, boundsOf}
 use Rattle.tree.specs.internal.Floor.{noneIn, entryIn, lastMeans, flooredOf, floorWay, FloorReady, FloorCalled}
 use Rattle.tree.specs.laws.GetLaws.{splice-none}
-use Rattle.tree.specs.laws.ReadyLaws.{holds-ready, holds-trusted}
-use Rattle.tree.specs.laws.RoomyLaws.{holds-roomy, roomy-holds}
+use Rattle.tree.specs.laws.TrustLoad.{trusted-floor}
 use Rattle.tree.specs.laws.TrustWay.{roomy-floor}
+use Rattle.tree.specs.laws.TrustCalls.{trusts-hold, back-hold, looked-trusts}
 use Rattle.tree.specs.declared.lent.Lent.{Lent}
 use Rattle.tree.specs.declared.editor.Tree.{Tree}
 use Rattle.tree.specs.declared.editor.Bounds.{Bounds}
@@ -134,15 +135,7 @@ floor-refused size h b h′ b′ out g x e = rw e
 pub floor-same : (size : ℕ) (h b out : List ℕ) (g g′ : Floor) → g ≡ g′ → floorMeans size h b out g′ ≡ floorMeans size h b out g
 floor-same size h b out g g′ e = ap (floorMeans size h b out) (sym e)
 
-pub none-ready : (size slots : ℕ) (h b : List ℕ) (g : Floor) (u : Tree) → g ≡ flooring.None u → FloorReady size slots h b g
-    → Ready size slots (u .used) h b
-none-ready size slots h b g u e r = rw e at r
-
-pub record-ready : (size slots : ℕ) (h b : List ℕ) (g : Floor) (u : Tree) (n : ℕ) → g ≡ flooring.Record u n → FloorReady size slots h b g
-    → Ready size slots (u .used) h b
-record-ready size slots h b g u n e r = rw e at r
-
--- ---- 1 first
+-- ---- what floor leaves
 
 -- what floor leaves has room
 roomy-in : (l : lent.Lent) (s : State) (room : ℕ) (k : List ℕ) → trusted l s ≡ true → Roomy (2 * l .size) s
@@ -153,24 +146,29 @@ roomy-in l s room k h r =
     holds-bind (lookup.floorFrom (nodeAt s (s .root) .level) l s load.unbounded (s .root) k) _ λ g e.
     holds-check refusal.output (leb (length (recordsOf (g .answer))) room) (ok g) λ b. holds-ok (roomy-floor l s k h r .at g e)
 
-module _ (image : List ℕ) (l : Lent) (t : Tree) (h b h′ b′ out key : List ℕ) (room : ℕ) (ready : Ready (l .size) (l .slots) (t .used) h b)
-    (trust : trusted (lentOf image l) (stateOf (l .size) t h b) ≡ true) (space : workspaceHolds (l .size) (l .slots) (t .used) h b ≡ true) where
-  roomy : Roomy (2 * l .size) (stateOf (l .size) t h b)
-  roomy = holds-roomy (l .size) (l .slots) t h b ready space
+module _ (image : List ℕ) (l : Lent) (t : Tree) (h b : List ℕ) (c : Trusts image l t h b) (h′ b′ : List ℕ) where
+  module _ (key out : List ℕ) (room : ℕ) (g : Floor)
+      (e : floorMeans (l .size) h′ b′ out g ≡ lookup.floorIn (lentOf image l) (stateOf (l .size) t h b) room key)
+      (r : FloorReady (l .size) (l .slots) h′ b′ g) where
+    found-trusts : (u : Tree) (v : List Entry) → ok (record { state = stateOf (l .size) u h′ b′; answer = v }) ≡ floorMeans (l .size) h′ b′ out g
+        → Ready (l .size) (l .slots) (u .used) h′ b′ → Trusts image l u h′ b′
+    unfolding lentOf
+    found-trusts u v q y =
+        looked-trusts image l u h′ b′ v _ (trusted-floor (lentOf image l) (stateOf (l .size) t h b) room key (c .trust))
+        (roomy-in (lentOf image l) (stateOf (l .size) t h b) room key (c .trust) (c .roomy)) (q ∙ e) y
 
-  left-held : (u : Tree) (v : List Entry) → ok (record { state = stateOf (l .size) u h′ b′; answer = v }) ≡ lookup.floorIn (lentOf image l)
-      (stateOf (l .size) t h b) room key → Ready (l .size) (l .slots) (u .used) h′ b′ → workspaceHolds (l .size) (l .slots) (u .used) h′ b′ ≡ true
-  unfolding lentOf
-  left-held u v e r =
-      roomy-holds (l .size) (l .slots) u h′ b′ r (roomy-in (lentOf image l) (stateOf (l .size) t h b) room key trust roomy .at _ (sym e))
+    pub none-trusts : (u : Tree) → g ≡ flooring.None u → Trusts image l u h′ b′
+    unfolding floorMeans
+    none-trusts u q = found-trusts u _ (ap (floorMeans (l .size) h′ b′ out) (sym q)) (subst (FloorReady (l .size) (l .slots) h′ b′) q r)
 
-  pub left-of : (g : Floor) → floorMeans (l .size) h′ b′ out g ≡ lookup.floorIn (lentOf image l) (stateOf (l .size) t h b) room key
-      → FloorCalled (l .size) (l .slots) t h b h′ b′ g → flooredLeaves (l .size) (l .slots) t h b h′ b′ g
-  unfolding floorMeans
-  left-of (flooring.Refused x) e c =
-      (c .0, roomy-holds (l .size) (l .slots) t h′ b′ (c .1) (subst (λ (s : State). Roomy (2 * l .size) s) (sym (c .0)) roomy) ∙ sym space)
-  left-of (flooring.None u) e c = left-held u _ e c
-  left-of (flooring.Record u n) e c = left-held u _ e c
+    pub record-trusts : (u : Tree) (n : ℕ) → g ≡ flooring.Record u n → Trusts image l u h′ b′
+    unfolding floorMeans
+    record-trusts u n q = found-trusts u _ (ap (floorMeans (l .size) h′ b′ out) (sym q)) (subst (FloorReady (l .size) (l .slots) h′ b′) q r)
+
+  pub left-of : (g : Floor) → FloorCalled image l t h b h′ b′ g → flooredLeaves (l .size) (l .slots) t h b h′ b′ g
+  left-of (flooring.Refused x) k = (k .0, back-hold image l t h b c h′ b′ (k .0) (k .1))
+  left-of (flooring.None u) k = trusts-hold image l u h′ b′ k
+  left-of (flooring.Record u n) k = trusts-hold image l u h′ b′ k
 
 -- after a refused floor every call answers as if there had been none
 pub refused-none : {A : Type 0} (size slots : ℕ) (t : Tree) (heads bytes heads′ bytes′ : List ℕ) (x : ℕ)
@@ -178,6 +176,8 @@ pub refused-none : {A : Type 0} (size slots : ℕ) (t : Tree) (heads bytes heads
     → called size slots t heads′ bytes′ f ≡ called size slots t heads bytes f
 unfolding called
 refused-none size slots t heads bytes heads′ bytes′ x c f = rw (c .1, c .0)
+
+-- ---- 1 first
 
 module _ (image : List ℕ) (l : Lent) (t : Tree) (h0 b0 : List ℕ) (a : Bool)
     (ea : a ≡ workspaceHolds (l .size) (l .slots) (t .used) h0 b0 && lentHolds (lentOf image l) (stateOf (l .size) t h0 b0)) where
@@ -211,15 +211,6 @@ module _ (image : List ℕ) (l : Lent) (t : Tree) (h0 b0 : List ℕ) (a : Bool)
   module _ (n : not a ≡ false) where
     both : (space ≡ true) × (numbers ≡ true)
     both = and-split space numbers (sym ea ∙ not-false a n)
-
-    pub lent-ready : Ready (l .size) (l .slots) (t .used) h0 b0
-    lent-ready = holds-ready image l t h0 b0 (both .0) (both .1)
-
-    pub lent-space : workspaceHolds (l .size) (l .slots) (t .used) h0 b0 ≡ true
-    lent-space = both .0
-
-    pub lent-trusts : trusted (lentOf image l) (stateOf (l .size) t h0 b0) ≡ true
-    lent-trusts = holds-trusted image l t h0 b0 (both .1)
 
     lent-yes : (room : ℕ) (key : List ℕ) → flooredIn (lentOf image l) t h0 b0 room key ≡ lookup.floorIn (lentOf image l)
         (stateOf (l .size) t h0 b0) room key

@@ -2,7 +2,7 @@
 use mathlib.Core.Path.{_≡_, refl, sym, ap, ap₂, subst, _∙_}
 use mathlib.Core.List.{List, [], _∷_, _++_}
 use mathlib.Core.Bool.{Bool, true, false, not, _&&_}
-use Prim.Native.Nat.{ℕ, _*_, zero, suc, _+_, _-_, _≤_}
+use Prim.Native.Nat.{ℕ, zero, suc, _+_, _-_, _≤_}
 use native.Mathlib.Omega.{arith}
 use lib.ListN.{length, getD, length-append}
 use lib.Dec.{eqb}
@@ -22,15 +22,15 @@ use Rattle.tree.specs.Load.{unbounded}
 use Rattle.tree.specs.Lookup as lookup
 use Rattle.tree.specs.Trust.{trusted}
 use Rattle.tree.specs.Answers.{gotMeans, gotIn, gotOutput, gotLeaves}
-use Rattle.tree.specs.internal.Room.{Roomy}
-use Rattle.tree.specs.laws.ReadyLaws.{holds-ready, holds-trusted}
-use Rattle.tree.specs.laws.RoomyLaws.{holds-roomy, roomy-holds, roomy-get}
+use Rattle.tree.specs.internal.Edits.{Trusts}
+use Rattle.tree.specs.laws.RoomyLaws.{roomy-get}
 use Rattle.tree.specs.declared.lent.Lent.{Lent}
 use Rattle.tree.specs.internal.Bank.{Ready}
 use Rattle.tree.specs.internal.Way.{stepsOf, wentOf, wayOf, WayReady}
 use Rattle.tree.specs.internal.Get.{gotHeld, heldAt, gotAt, gotWay, ReadyGot, GotCalled}
 use Rattle.tree.specs.laws.StandLaws.{Stands, all, trusted-of}
-use Rattle.tree.specs.laws.TrustLoad.{WayLoaded, way-loaded}
+use Rattle.tree.specs.laws.TrustLoad.{WayLoaded, way-loaded, trusted-get}
+use Rattle.tree.specs.laws.TrustCalls.{trusts-hold, back-hold, looked-trusts}
 use Rattle.tree.specs.laws.TrustUpsert.{down-level}
 use Rattle.tree.specs.laws.NamedLaws.{live-used}
 use Rattle.tree.specs.laws.EditStands.{down-leaf}
@@ -203,42 +203,36 @@ got-refused size h b h′ b′ out g x e = rw e
 pub got-same : (size : ℕ) (h b out : List ℕ) (g g′ : Got) → g ≡ g′ → gotMeans size h b out g′ ≡ gotMeans size h b out g
 got-same size h b out g g′ e = ap (gotMeans size h b out) (sym e)
 
-pub none-ready : (size slots : ℕ) (h b : List ℕ) (g : Got) (u : Tree) → g ≡ getting.None u → ReadyGot size slots h b g
-    → Ready size slots (u .used) h b
-none-ready size slots h b g u e r = rw e at r
+-- ---- what get leaves
 
-pub ghost-ready : (size slots : ℕ) (h b : List ℕ) (g : Got) (u : Tree) → g ≡ getting.Ghost u → ReadyGot size slots h b g
-    → Ready size slots (u .used) h b
-ghost-ready size slots h b g u e r = rw e at r
+module _ (image : List ℕ) (l : Lent) (t : Tree) (h b : List ℕ) (c : Trusts image l t h b) (h′ b′ : List ℕ) where
+  module _ (key out : List ℕ) (room : ℕ) (g : Got)
+      (e : gotMeans (l .size) h′ b′ out g ≡ lookup.getIn (lentOf image l) (stateOf (l .size) t h b) room key)
+      (r : ReadyGot (l .size) (l .slots) h′ b′ g) where
+    found-trusts : (u : Tree) (v : List Val) → ok (record { state = stateOf (l .size) u h′ b′; answer = v }) ≡ gotMeans (l .size) h′ b′ out g
+        → Ready (l .size) (l .slots) (u .used) h′ b′ → Trusts image l u h′ b′
+    unfolding lentOf
+    found-trusts u v q y =
+        looked-trusts image l u h′ b′ v _ (trusted-get (lentOf image l) (stateOf (l .size) t h b) room key (c .trust))
+        (roomy-get (lentOf image l) (stateOf (l .size) t h b) room key (c .trust) (c .roomy)) (q ∙ e) y
 
-pub value-ready : (size slots : ℕ) (h b : List ℕ) (g : Got) (u : Tree) (n : ℕ) → g ≡ getting.Value u n → ReadyGot size slots h b g
-    → Ready size slots (u .used) h b
-value-ready size slots h b g u n e r = rw e at r
+    pub none-trusts : (u : Tree) → g ≡ getting.None u → Trusts image l u h′ b′
+    unfolding gotMeans
+    none-trusts u q = found-trusts u _ (ap (gotMeans (l .size) h′ b′ out) (sym q)) (subst (ReadyGot (l .size) (l .slots) h′ b′) q r)
 
--- ---- 1 first
+    pub ghost-trusts : (u : Tree) → g ≡ getting.Ghost u → Trusts image l u h′ b′
+    unfolding gotMeans
+    ghost-trusts u q = found-trusts u _ (ap (gotMeans (l .size) h′ b′ out) (sym q)) (subst (ReadyGot (l .size) (l .slots) h′ b′) q r)
 
-module _ (image : List ℕ) (l : Lent) (t : Tree) (h b h′ b′ out key : List ℕ) (room : ℕ) (ready : Ready (l .size) (l .slots) (t .used) h b)
-    (trust : trusted (lentOf image l) (stateOf (l .size) t h b) ≡ true) (space : workspaceHolds (l .size) (l .slots) (t .used) h b ≡ true) where
-  roomy : Roomy (2 * l .size) (stateOf (l .size) t h b)
-  roomy = holds-roomy (l .size) (l .slots) t h b ready space
+    pub value-trusts : (u : Tree) (n : ℕ) → g ≡ getting.Value u n → Trusts image l u h′ b′
+    unfolding gotMeans
+    value-trusts u n q = found-trusts u _ (ap (gotMeans (l .size) h′ b′ out) (sym q)) (subst (ReadyGot (l .size) (l .slots) h′ b′) q r)
 
-  left-roomy : (u : Tree) (v : List Val) → ok (record { state = stateOf (l .size) u h′ b′; answer = v }) ≡ lookup.getIn (lentOf image l)
-      (stateOf (l .size) t h b) room key → Roomy (2 * l .size) (stateOf (l .size) u h′ b′)
-  unfolding lentOf
-  left-roomy u v e = roomy-get (lentOf image l) (stateOf (l .size) t h b) room key trust roomy .at _ (sym e)
-
-  left-held : (u : Tree) (v : List Val) → ok (record { state = stateOf (l .size) u h′ b′; answer = v }) ≡ lookup.getIn (lentOf image l)
-      (stateOf (l .size) t h b) room key → Ready (l .size) (l .slots) (u .used) h′ b′ → workspaceHolds (l .size) (l .slots) (u .used) h′ b′ ≡ true
-  left-held u v e r = roomy-holds (l .size) (l .slots) u h′ b′ r (left-roomy u v e)
-
-  pub left-of : (g : Got) → gotMeans (l .size) h′ b′ out g ≡ lookup.getIn (lentOf image l) (stateOf (l .size) t h b) room key
-      → GotCalled (l .size) (l .slots) t h b h′ b′ g → gotLeaves (l .size) (l .slots) t h b h′ b′ g
-  unfolding gotMeans
-  left-of (getting.Refused x) e c =
-      (c .0, roomy-holds (l .size) (l .slots) t h′ b′ (c .1) (subst (λ (s : State). Roomy (2 * l .size) s) (sym (c .0)) roomy) ∙ sym space)
-  left-of (getting.None u) e c = left-held u _ e c
-  left-of (getting.Ghost u) e c = left-held u _ e c
-  left-of (getting.Value u n) e c = left-held u _ e c
+  pub left-of : (g : Got) → GotCalled image l t h b h′ b′ g → gotLeaves (l .size) (l .slots) t h b h′ b′ g
+  left-of (getting.Refused x) k = (k .0, back-hold image l t h b c h′ b′ (k .0) (k .1))
+  left-of (getting.None u) k = trusts-hold image l u h′ b′ k
+  left-of (getting.Ghost u) k = trusts-hold image l u h′ b′ k
+  left-of (getting.Value u n) k = trusts-hold image l u h′ b′ k
 
 -- after a refused get every call answers as if there had been none
 pub refused-none : {A : Type 0} (size slots : ℕ) (t : Tree) (heads bytes heads′ bytes′ : List ℕ) (x : ℕ)
@@ -246,6 +240,8 @@ pub refused-none : {A : Type 0} (size slots : ℕ) (t : Tree) (heads bytes heads
     → called size slots t heads′ bytes′ f ≡ called size slots t heads bytes f
 unfolding called
 refused-none size slots t heads bytes heads′ bytes′ x c f = rw (c .1, c .0)
+
+-- ---- 1 first
 
 module _ (image : List ℕ) (l : Lent) (t : Tree) (h0 b0 : List ℕ) (a : Bool)
     (ea : a ≡ workspaceHolds (l .size) (l .slots) (t .used) h0 b0 && lentHolds (lentOf image l) (stateOf (l .size) t h0 b0)) where
@@ -279,15 +275,6 @@ module _ (image : List ℕ) (l : Lent) (t : Tree) (h0 b0 : List ℕ) (a : Bool)
   module _ (n : not a ≡ false) where
     both : (space ≡ true) × (numbers ≡ true)
     both = and-split space numbers (sym ea ∙ not-false a n)
-
-    pub lent-ready : Ready (l .size) (l .slots) (t .used) h0 b0
-    lent-ready = holds-ready image l t h0 b0 (both .0) (both .1)
-
-    pub lent-space : workspaceHolds (l .size) (l .slots) (t .used) h0 b0 ≡ true
-    lent-space = both .0
-
-    pub lent-trusts : trusted (lentOf image l) (stateOf (l .size) t h0 b0) ≡ true
-    lent-trusts = holds-trusted image l t h0 b0 (both .1)
 
     lent-yes : (room : ℕ) (key : List ℕ) → gotIn (lentOf image l) t h0 b0 room key ≡ lookup.getIn (lentOf image l)
         (stateOf (l .size) t h0 b0) room key

@@ -15,6 +15,7 @@ use Rattle.node.specs.Fit.{dataSpace}
 use Rattle.node.specs.Read.{onDisk, infoAt, readOf, spansLength}
 use Rattle.node.specs.internal.ReadSteps.{Sound}
 use Rattle.node.specs.laws.AcceptedLaws.{Accepted}
+use Rattle.node.specs.laws.ByteLaws.{Bytes}
 use Rattle.node.specs.Slot.{MemNode}
 use Rattle.node.specs.declared.info.BTreeInfo.{BTreeInfo}
 use Rattle.node.specs.declared.read.Node.{Node}
@@ -30,12 +31,14 @@ use Rattle.tree.specs.Lookup.{openedAt, opened}
 use Rattle.tree.specs.internal.Bank.{nodeIn, Ready, Wrote}
 use Rattle.tree.specs.internal.Map.{loadAt, addressAt}
 use Rattle.tree.specs.Answers.{openedOf, openedIn, openedLeaves}
-use Rattle.tree.specs.internal.Open.{openedRoot, ReadyOpened}
+use Rattle.tree.specs.internal.Open.{openedRoot, ReadyOpened, OpenedTrusts}
 use Rattle.tree.specs.internal.Holding.{roomHolds}
 use Rattle.tree.specs.laws.BankLaws.{slots-below, add-ready}
 use Rattle.tree.specs.laws.UndoLaws.{put-of}
 use Rattle.tree.specs.laws.SizeLaws.{size-bounds}
-use Rattle.tree.specs.laws.RoomyLaws.{roomy-holds, roomy-open}
+use Rattle.tree.specs.laws.TrustLoad.{trusted-open}
+use Rattle.tree.specs.laws.TrustWay.{roomy-open}
+use Rattle.tree.specs.laws.TrustCalls.{trusts-hold}
 use Rattle.tree.specs.laws.MapLaws.{block-long, block-at}
 use Rattle.tree.specs.laws.MapFloorLaws.{load-inside, load-accepts}
 use Rattle.tree.specs.declared.editor.Tree.{Tree}
@@ -246,10 +249,20 @@ module _ (image : List ℕ) (l : Lent) (r order xid : ℕ) (heads bytes : List �
     unfolding openedIn
     checked-open n y e = sym (rw (room-is, not-false t n) (sym e))
 
--- a tree that is open leaves a workspace that the next call accepts
-pub opened-holds : (image : List ℕ) (l : Lent) (r order xid : ℕ) (heads bytes : List ℕ) (x : Opened) → ReadyOpened (l .size) (l .slots) heads bytes x
-    → openedOf (l .size) heads bytes x ≡ opened (lentOf image l) r order xid → l .size ≤ 65536 → openedLeaves (l .size) (l .slots) heads bytes x
+-- a tree that is open is one to be trusted, and leaves a workspace that the next call accepts
+pub opened-trusts : (image : List ℕ) (l : Lent) (r order xid : ℕ) (heads bytes : List ℕ) (x : Opened) → Bytes image
+    → ReadyOpened (l .size) (l .slots) heads bytes x → openedOf (l .size) heads bytes x ≡ opened (lentOf image l) r order xid
+    → OpenedTrusts image l heads bytes x
 unfolding openedOf lentOf
-opened-holds image l r order xid heads bytes (opening.Refused k) y e small = tt
-opened-holds image l r order xid heads bytes (opening.Open t) y e small =
-    roomy-holds (l .size) (l .slots) t heads bytes y (roomy-open (lentOf image l) r order xid _ small (sym e))
+opened-trusts image l r order xid heads bytes (opening.Refused k) b y e = tt
+opened-trusts image l r order xid heads bytes (opening.Open t) b y e =
+    record {
+      ready = y;
+      trust = trusted-open (lentOf image l) r order xid (b .below) .at _ (sym e);
+      roomy = roomy-open (lentOf image l) r order xid .at _ (sym e);
+    }
+
+pub opened-holds : (image : List ℕ) (l : Lent) (heads bytes : List ℕ) (x : Opened) → OpenedTrusts image l heads bytes x
+    → openedLeaves (l .size) (l .slots) heads bytes x
+opened-holds image l heads bytes (opening.Refused k) c = tt
+opened-holds image l heads bytes (opening.Open t) c = trusts-hold image l t heads bytes c

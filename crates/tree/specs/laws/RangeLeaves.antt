@@ -22,12 +22,12 @@ use Rattle.tree.specs.Hold.{lentHolds}
 use Rattle.tree.specs.Trust.{trusted}
 use Rattle.tree.specs.Workspace.{stateOf, workspaceHolds, called}
 use Rattle.tree.specs.Answers.{rangeMeans, rangedIn, rangedOutput, rangedLeaves}
-use Rattle.tree.specs.internal.Bank.{Ready}
 use Rattle.tree.specs.internal.Room.{Roomy}
-use Rattle.tree.specs.internal.Range.{RangeCalled}
+use Rattle.tree.specs.internal.Edits.{Trusts}
+use Rattle.tree.specs.internal.Range.{ReadyRanged, RangeCalled}
 use Rattle.tree.specs.laws.RoomCalls.{roomy-range}
-use Rattle.tree.specs.laws.RoomyLaws.{holds-roomy, roomy-holds}
-use Rattle.tree.specs.laws.GetSteps.{lent-ready, lent-space}
+use Rattle.tree.specs.laws.TrustLoad.{trusted-range}
+use Rattle.tree.specs.laws.TrustCalls.{trusts-hold, back-hold, looked-trusts}
 use Rattle.tree.specs.declared.lent.Lent.{Lent}
 use Rattle.tree.specs.declared.editor.Tree.{Tree}
 use Rattle.tree.specs.declared.range.Ranged.{Ranged}
@@ -43,22 +43,19 @@ roomy-ranged l s room lo hi h r =
     holds-check refusal.output (leb (length (recordsOf (g .answer))) room) (ok g) λ b.
     holds-ok (roomy-range l lo (hi ∷ []) s h r .at g e)
 
-module _ (image : List ℕ) (l : Lent) (t : Tree) (h b h′ b′ out lo hi : List ℕ) (room : ℕ) (ready : Ready (l .size) (l .slots) (t .used) h b)
-    (trust : trusted (lentOf image l) (stateOf (l .size) t h b) ≡ true) (space : workspaceHolds (l .size) (l .slots) (t .used) h b ≡ true) where
-  roomy : Roomy (2 * l .size) (stateOf (l .size) t h b)
-  roomy = holds-roomy (l .size) (l .slots) t h b ready space
+module _ (image : List ℕ) (l : Lent) (t : Tree) (h b : List ℕ) (c : Trusts image l t h b) (h′ b′ : List ℕ) where
+  pub ranged-trusts : (lo hi out : List ℕ) (room : ℕ) (x : Ranged)
+      → rangeMeans (l .size) h′ b′ out x ≡ rangeIn (lentOf image l) (stateOf (l .size) t h b) room lo hi → ReadyRanged (l .size) (l .slots) h′ b′ x
+      → (u : Tree) (k m : ℕ) → x ≡ ranging.Done u k m → Trusts image l u h′ b′
+  unfolding rangeMeans lentOf
+  ranged-trusts lo hi out room x e r u k m q =
+      looked-trusts image l u h′ b′ _ _ (trusted-range (lentOf image l) (stateOf (l .size) t h b) room lo hi (c .trust))
+      (roomy-ranged (lentOf image l) (stateOf (l .size) t h b) room lo hi (c .trust) (c .roomy))
+      (ap (rangeMeans (l .size) h′ b′ out) (sym q) ∙ e) (subst (ReadyRanged (l .size) (l .slots) h′ b′) q r)
 
-  left-roomy : (u : Tree) (es : List Entry) → ok (record { state = stateOf (l .size) u h′ b′; answer = es }) ≡ rangeIn (lentOf image l)
-      (stateOf (l .size) t h b) room lo hi → Roomy (2 * l .size) (stateOf (l .size) u h′ b′)
-  unfolding lentOf
-  left-roomy u es e = roomy-ranged (lentOf image l) (stateOf (l .size) t h b) room lo hi trust roomy .at _ (sym e)
-
-  pub left-ranged : (x : Ranged) → rangeMeans (l .size) h′ b′ out x ≡ rangeIn (lentOf image l) (stateOf (l .size) t h b) room lo hi
-      → RangeCalled (l .size) (l .slots) t h b h′ b′ x → rangedLeaves (l .size) (l .slots) t h b h′ b′ x
-  unfolding rangeMeans
-  left-ranged (ranging.Refused y) e c =
-      (c .0, roomy-holds (l .size) (l .slots) t h′ b′ (c .1) (subst (λ (s : State). Roomy (2 * l .size) s) (sym (c .0)) roomy) ∙ sym space)
-  left-ranged (ranging.Done u k m) e c = roomy-holds (l .size) (l .slots) u h′ b′ c (left-roomy u _ e)
+  pub left-ranged : (x : Ranged) → RangeCalled image l t h b h′ b′ x → rangedLeaves (l .size) (l .slots) t h b h′ b′ x
+  left-ranged (ranging.Refused y) k = (k .0, back-hold image l t h b c h′ b′ (k .0) (k .1))
+  left-ranged (ranging.Done u n m) k = trusts-hold image l u h′ b′ k
 
 module _ (image : List ℕ) (l : Lent) (t : Tree) (h0 b0 : List ℕ) (a : Bool)
     (ea : a ≡ workspaceHolds (l .size) (l .slots) (t .used) h0 b0 && lentHolds (lentOf image l) (stateOf (l .size) t h0 b0)) where
@@ -92,9 +89,6 @@ module _ (image : List ℕ) (l : Lent) (t : Tree) (h0 b0 : List ℕ) (a : Bool)
   module _ (n : not a ≡ false) where
     both : (space ≡ true) × (numbers ≡ true)
     both = and-split space numbers (sym ea ∙ not-false a n)
-
-    pub lent-roomy : Roomy (2 * l .size) (stateOf (l .size) t h0 b0)
-    lent-roomy = holds-roomy (l .size) (l .slots) t h0 b0 (lent-ready image l t h0 b0 a ea n) (lent-space image l t h0 b0 a ea n)
 
     lent-yes : (room : ℕ) (lo hi : List ℕ) → rangedIn (lentOf image l) t h0 b0 room lo hi
         ≡ rangeIn (lentOf image l) (stateOf (l .size) t h0 b0) room lo hi

@@ -1,8 +1,8 @@
 -- Room of the workspace's words and room of the state are one: what every call leaves is no workspace that refusal 1 refuses. Assumes nothing.
 use mathlib.Core.Path.{_≡_, sym, ap, _∙_}
-use mathlib.Core.List.{List, [], _∷_}
-use mathlib.Core.Bool.{true, false}
-use Prim.Native.Nat.{ℕ, zero, suc, _*_, _≤_, _<_}
+use mathlib.Core.List.{List}
+use mathlib.Core.Bool.{true}
+use Prim.Native.Nat.{ℕ, _*_, _≤_, _<_}
 use native.Mathlib.Omega.{arith}
 use lib.ListN.{length}
 use lib.Dec.{leb, eqb, ltb}
@@ -11,14 +11,12 @@ use Rattle.node.specs.Entry.{Val}
 use Rattle.node.specs.Order.{keyed}
 use Rattle.node.specs.Refusals as refusal
 use Rattle.node.specs.Records.{recordsLength, entriesOf}
-use Rattle.node.specs.Result.{ok}
 use Rattle.node.specs.Slot.{MemNode, headAt, nodeOf}
 use Rattle.node.specs.laws.TestLaws.{by-test, never}
 use Rattle.node.specs.laws.ResultLaws.{Holds, holds-ok, holds-bind, holds-check}
 use Rattle.node.specs.laws.RecordsLaws.{length-entries, records-size}
 use Rattle.tree.specs.Lent as lent
 use Rattle.tree.specs.State.{State, nodeAt, noNode}
-use Rattle.tree.specs.Load.{adopted}
 use Rattle.tree.specs.Lookup as lookup
 use Rattle.tree.specs.Trust.{trusted}
 use Rattle.tree.specs.Workspace.{slotBytes, stateOf, workspaceHolds}
@@ -27,10 +25,9 @@ use Rattle.tree.specs.internal.Room.{Roomy}
 use Rattle.tree.specs.laws.BankLaws.{live-entries}
 use Rattle.tree.specs.laws.SlotSteps.{ready-part, part-long}
 use Rattle.tree.specs.laws.TreeLaws.{node-in, node-out}
-use Rattle.tree.specs.laws.OpenLaws.{open-opens}
 use Rattle.tree.specs.laws.ReadyLaws.{ready-holds, holds-small}
 use Rattle.tree.specs.laws.WeightLaws.{weight}
-use Rattle.tree.specs.laws.RoomCalls.{weight-size, block-weight, roomy-way}
+use Rattle.tree.specs.laws.RoomCalls.{weight-size, roomy-way}
 use Rattle.tree.specs.declared.editor.Tree.{Tree}
 
 pub entries-weight : (n : ℕ) (l : List ℕ) → recordsLength n l ≤ length l → weight (entriesOf n l) ≡ recordsLength n l
@@ -72,20 +69,7 @@ module _ (size slots : ℕ) (t : Tree) (heads bytes : List ℕ) (r : Ready size 
             never (ap (λ (m : MemNode). m .dead) o) d);
       }
 
--- ---- what open and get leave
-
-one-roomy : (k : ℕ) (s : State) (m : MemNode) → s .nodes ≡ m ∷ [] → weight (m .entries) ≤ k → (n : ℕ) → nodeAt s n .dead ≡ false
-    → weight (nodeAt s n .entries) ≤ k
-unfolding nodeAt noNode
-one-roomy k s m e w zero d = rw e w
-one-roomy k s m e w (suc n) d = never (rw e) d
-
-pub roomy-open : (l : lent.Lent) (r order xid : ℕ) (s : State) → l .size ≤ 65536 → lookup.opened l r order xid ≡ ok s → Roomy (2 * l .size) s
-unfolding lookup.openedAt adopted
-roomy-open l r order xid s small e =
-    let o = open-opens l r order xid s e in
-    let w = block-weight l _ _ _ (o .address) (o .found) small (o .reads) in
-    record { most = one-roomy (2 * l .size) s _ (ap (λ (x : State). x .nodes) (o .state)) w }
+-- ---- what get leaves
 
 pub roomy-get : (l : lent.Lent) (s : State) (room : ℕ) (k : List ℕ) → trusted l s ≡ true → Roomy (2 * l .size) s
     → Holds (λ g. Roomy (2 * l .size) (g .state)) (lookup.getIn l s room k)

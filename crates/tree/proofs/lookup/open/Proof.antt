@@ -5,7 +5,7 @@ use Prim.Native.Nat.{_-_}
 use Rattle.tree.proofs.lookup.open.Statement.{statement}
 use Rattle.tree.proofs.lookup.open.Tie as tie
 
-ruleset laws = (needs, open-most, open-many, checked-sizes, checked-room, checked-open, room-words, room-bytes, opened-holds)
+ruleset laws = (needs, open-most, open-many, checked-sizes, checked-room, checked-open, room-words, room-bytes)
 
 sizes-hold-requires : tie.Need-sizes-hold-requires
 sizes-hold-requires c κs = search laws
@@ -35,7 +35,10 @@ same-length-4 : tie.Need-same-length-4
 same-length-4 c = search laws
 
 returns-3 : tie.Need-returns-3
-returns-3 c = search laws
+returns-3 c =
+    let a = c .before .before .before .before .before .before .before .before .before .before .before .before .before .before .before .before .args in
+    let g = c .before .before .before .before .open-in in
+    (search laws, (opened-holds (a .image .now) (a .lent) _ _ (g .result) (g .ensures .1), g .ensures .1))
 
 pub open-spec : {M : Type 1} → statement M
 open-spec =

@@ -1,5 +1,6 @@
 -- `tree::lookup::open_in` meets its contract. Assumes nothing.
-use Rattle.tree.specs.laws.OpenSteps.{open-sizes, open-least, open-most, open-some, open-many, open-order, open-unmapped, open-found}
+use Rattle.node.specs.laws.ByteLaws.{bytes-known}
+use Rattle.tree.specs.laws.OpenSteps.{open-sizes, open-least, open-most, open-some, open-many, open-order, open-unmapped, open-found, opened-trusts}
 use borrow.Author.Needs.{needs}
 use Rattle.tree.proofs.lookup.open_in.Statement.{statement}
 use Rattle.tree.proofs.lookup.open_in.Tie as tie
@@ -40,7 +41,10 @@ same-length-2 : tie.Need-same-length-2
 same-length-2 c = search laws
 
 returns-4 : tie.Need-returns-4
-returns-4 c = search laws
+returns-4 c =
+    let a = c .before .before .before .before .before .before .before .before .before .before .before .before .before .before .before .before .before .before .args in
+    let g = c .before .before .before .before .open-at in
+    (search laws, opened-trusts (a .image .now) (a .lent) (a .r) (a .order) (a .xid) _ _ (g .result) (bytes-known _ (c .before .before .before .before .before .before .before .before .before .before .before .before .before .before .before .before .before .shared-slice-known .given)) (g .ensures .1) (search laws))
 
 pub open-in-spec : {M : Type 1} → statement M
 open-in-spec =

@@ -1,6 +1,7 @@
 -- `tree::editor::Tree::floor` meets its contract. Assumes nothing.
 use mathlib.Core.Path.{refl}
-use Rattle.tree.specs.laws.FloorSteps.{left-of, floor-lent, floor-lent-same, lent-ready, lent-space, lent-trusts, floor-answer, floor-output}
+use Rattle.tree.specs.laws.FloorSteps.{left-of, floor-lent, floor-lent-same, floor-answer, floor-output}
+use Rattle.tree.specs.laws.TrustCalls.{called-trusts}
 use borrow.Author.Needs.{needs}
 use Rattle.tree.proofs.editor.Tree.floor.Statement.{statement}
 use Rattle.tree.proofs.editor.Tree.floor.Tie as tie
@@ -18,7 +19,9 @@ returns : tie.Need-returns
 returns c = (search (needs, floor-lent), (search (needs, floor-lent-same), (refl, refl)))
 
 floor-in-requires : tie.Need-floor-in-requires
-floor-in-requires c κs = lent-ready (c .before .before .before .before .before .before .before .before .before .before .before .before .args .image .now) (c .before .before .before .before .before .before .before .before .before .before .before .before .args .lent) (c .before .before .before .before .before .before .before .before .before .before .before .before .args .self) _ _ _ (c .before .before .before .before .lent-holds .ensures) (c .before .before .before .if1 .left)
+floor-in-requires c κs =
+    let a = c .before .before .before .before .before .before .before .before .before .before .before .before .args in
+    called-trusts (a .image .now) (a .lent) (a .self) _ _ _ (c .before .before .before .before .lent-holds .ensures) (c .before .before .before .if1 .left)
 
 same-length-3 : tie.Need-same-length-3
 same-length-3 c = search needs
@@ -35,7 +38,7 @@ returns-2 c =
     let e = c .before .before .before .before .before .before .before .before .before .before .before .lent-holds .ensures in
     let n = c .before .before .before .before .before .before .before .before .before .before .if1 .left in
     let g = c .before .before .before .before .before .before .floor-in in
-    (floor-answer (a .image .now) (a .lent) (a .self) _ _ _ e n _ _ _ (g .ensures .0), (floor-output (a .image .now) (a .lent) (a .self) _ _ _ e n _ _ _ _ (g .ensures .1 .0), left-of (a .image .now) (a .lent) (a .self) _ _ _ _ _ _ _ (lent-ready (a .image .now) (a .lent) (a .self) _ _ _ e n) (lent-trusts (a .image .now) (a .lent) (a .self) _ _ _ e n) (lent-space (a .image .now) (a .lent) (a .self) _ _ _ e n) (g .result) (g .ensures .0) (g .ensures .1 .1)))
+    (floor-answer (a .image .now) (a .lent) (a .self) _ _ _ e n _ _ _ (g .ensures .0), (floor-output (a .image .now) (a .lent) (a .self) _ _ _ e n _ _ _ _ (g .ensures .1 .0), left-of (a .image .now) (a .lent) (a .self) _ _ (called-trusts (a .image .now) (a .lent) (a .self) _ _ _ e n) _ _ (g .result) (g .ensures .1 .1)))
 
 pub floor-spec : {M : Type 1} → statement M
 floor-spec =

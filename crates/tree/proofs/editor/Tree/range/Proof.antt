@@ -1,7 +1,7 @@
 -- `tree::editor::Tree::range` meets its contract. Assumes nothing.
 use mathlib.Core.Path.{refl}
-use Rattle.tree.specs.laws.RangeLeaves.{left-ranged, range-lent, range-lent-same, lent-roomy, range-answer, range-output}
-use Rattle.tree.specs.laws.GetSteps.{lent-ready, lent-space, lent-trusts}
+use Rattle.tree.specs.laws.RangeLeaves.{left-ranged, range-lent, range-lent-same, range-answer, range-output}
+use Rattle.tree.specs.laws.TrustCalls.{called-trusts}
 use borrow.Author.Needs.{needs}
 use Prim.Native.Nat.{_-_}
 use Rattle.tree.proofs.editor.Tree.range.Statement.{statement}
@@ -28,7 +28,7 @@ range-in-requires c κs =
     let a = c .before .before .before .before .before .before .before .before .before .before .before .before .before .args in
     let e = c .before .before .before .before .lent-holds .ensures in
     let n = c .before .before .before .if1 .left in
-    (lent-ready (a .image .now) (a .lent) (a .self) _ _ _ e n, (lent-trusts (a .image .now) (a .lent) (a .self) _ _ _ e n, lent-roomy (a .image .now) (a .lent) (a .self) _ _ _ e n))
+    called-trusts (a .image .now) (a .lent) (a .self) _ _ _ e n
 
 same-length-3 : tie.Need-same-length-3
 same-length-3 c = search needs
@@ -45,7 +45,7 @@ returns-2 c =
     let e = c .before .before .before .before .before .before .before .before .before .before .before .lent-holds .ensures in
     let n = c .before .before .before .before .before .before .before .before .before .before .if1 .left in
     let g = c .before .before .before .before .before .before .range-in in
-    (range-answer (a .image .now) (a .lent) (a .self) _ _ _ e n _ _ _ _ (g .ensures .0), (range-output (a .image .now) (a .lent) (a .self) _ _ _ e n _ _ _ _ _ (g .ensures .1 .0), (g .ensures .1 .1 .0, left-ranged (a .image .now) (a .lent) (a .self) _ _ _ _ _ _ _ _ (lent-ready (a .image .now) (a .lent) (a .self) _ _ _ e n) (lent-trusts (a .image .now) (a .lent) (a .self) _ _ _ e n) (lent-space (a .image .now) (a .lent) (a .self) _ _ _ e n) (g .result) (g .ensures .0) (g .ensures .1 .1 .1))))
+    (range-answer (a .image .now) (a .lent) (a .self) _ _ _ e n _ _ _ _ (g .ensures .0), (range-output (a .image .now) (a .lent) (a .self) _ _ _ e n _ _ _ _ _ (g .ensures .1 .0), (g .ensures .1 .1 .0, left-ranged (a .image .now) (a .lent) (a .self) _ _ (called-trusts (a .image .now) (a .lent) (a .self) _ _ _ e n) _ _ (g .result) (g .ensures .1 .1 .1))))
 
 pub range-spec : {M : Type 1} → statement M
 range-spec =

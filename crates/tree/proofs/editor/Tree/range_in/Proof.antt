@@ -1,7 +1,7 @@
 -- `tree::editor::Tree::range_in` meets its contract. Assumes nothing.
 use mathlib.Core.Path.{refl, _∙_}
 use Rattle.tree.specs.laws.RangeCalls.{in-low, in-low-same, in-high, in-high-same, in-answer, in-output, in-roomy, ranged-refused, ranged-same, ranged-long}
-use Rattle.tree.specs.laws.RangeTurns.{ranged-ready}
+use Rattle.tree.specs.laws.RangeLeaves.{ranged-trusts}
 use Rattle.tree.specs.laws.GetSteps.{in-trusted}
 use Rattle.tree.specs.laws.CallLaws.{call-ready, call-state, call-shadowed, back-ready, back-state}
 use borrow.Author.Needs.{needs}
@@ -15,7 +15,7 @@ keyed-requires c κs = search needs
 returns : tie.Need-returns
 returns c =
     let a = c .before .before .before .before .before .before .before .before .args in
-    (in-low (a .image .now) (a .lent) (a .self) _ _ (a .lo .now) (a .hi .now) _ (c .before .keyed .ensures) (c .if1 .taken) (a .out .now), (in-low-same (a .image .now) (a .lent) (a .self) _ _ (a .lo .now) (a .hi .now) _ (c .before .keyed .ensures) (c .if1 .taken) (a .out .now), (tt, (refl, c .before .before .before .before .before .before .before .before .pre .0))))
+    (in-low (a .image .now) (a .lent) (a .self) _ _ (a .lo .now) (a .hi .now) _ (c .before .keyed .ensures) (c .if1 .taken) (a .out .now), (in-low-same (a .image .now) (a .lent) (a .self) _ _ (a .lo .now) (a .hi .now) _ (c .before .keyed .ensures) (c .if1 .taken) (a .out .now), (tt, (refl, c .before .before .before .before .before .before .before .before .pre .ready))))
 
 keyed-requires-2 : tie.Need-keyed-requires-2
 keyed-requires-2 c κs = search needs
@@ -23,7 +23,7 @@ keyed-requires-2 c κs = search needs
 returns-2 : tie.Need-returns-2
 returns-2 c =
     let a = c .before .before .before .before .before .before .before .before .before .before .args in
-    (in-high (a .image .now) (a .lent) (a .self) _ _ (a .lo .now) (a .hi .now) _ (c .before .before .before .keyed .ensures) (c .before .before .if1 .left) _ (c .before .keyed2 .ensures) (c .if2 .taken) (a .out .now), (in-high-same (a .image .now) (a .lent) (a .self) _ _ (a .lo .now) (a .hi .now) _ (c .before .before .before .keyed .ensures) (c .before .before .if1 .left) _ (c .before .keyed2 .ensures) (c .if2 .taken) (a .out .now), (tt, (refl, c .before .before .before .before .before .before .before .before .before .before .pre .0))))
+    (in-high (a .image .now) (a .lent) (a .self) _ _ (a .lo .now) (a .hi .now) _ (c .before .before .before .keyed .ensures) (c .before .before .if1 .left) _ (c .before .keyed2 .ensures) (c .if2 .taken) (a .out .now), (in-high-same (a .image .now) (a .lent) (a .self) _ _ (a .lo .now) (a .hi .now) _ (c .before .before .before .keyed .ensures) (c .before .before .if1 .left) _ (c .before .keyed2 .ensures) (c .if2 .taken) (a .out .now), (tt, (refl, c .before .before .before .before .before .before .before .before .before .before .pre .ready))))
 
 clear-marks-requires : tie.Need-clear-marks-requires
 clear-marks-requires c κs = search needs
@@ -33,7 +33,7 @@ range-way-requires c κs =
     let a = c .before .before .before .before .before .before .before .before .before .before .before .before .before .before .before .before .before .args in
     let p = c .before .before .before .before .before .before .before .before .before .before .before .before .before .before .before .before .before .pre in
     let m = c .before .before .before .before .before .clear-marks .ensures in
-    (call-ready _ _ (a .self) _ _ _ (p .0) m, (in-trusted _ _ (a .self) _ _ _ (call-state _ (a .lent .slots) (a .self) _ _ _ (p .0) m) (p .1 .0), in-roomy _ _ (a .self) _ _ _ (call-state _ (a .lent .slots) (a .self) _ _ _ (p .0) m) (p .1 .1)))
+    (call-ready _ _ (a .self) _ _ _ (p .ready) m, (in-trusted _ _ (a .self) _ _ _ (call-state _ (a .lent .slots) (a .self) _ _ _ (p .ready) m) (p .trust), in-roomy _ _ (a .self) _ _ _ (call-state _ (a .lent .slots) (a .self) _ _ _ (p .ready) m) (p .roomy)))
 
 enum-known-got : tie.Need-enum-known-got
 enum-known-got c = search needs
@@ -42,7 +42,7 @@ restore-requires : tie.Need-restore-requires
 restore-requires c κs =
     let a = c .before .before .before .before .before .before .before .before .before .before .before .before .before .before .before .before .before .before .before .before .before .before .before .before .before .before .before .before .before .args in
     let g = c .before .before .before .before .before .before .before .before .before .before .before .range-way in
-    call-shadowed _ _ (a .self) _ _ _ (c .before .before .before .before .before .before .before .before .before .before .before .before .before .before .before .before .before .before .before .before .before .before .before .before .before .before .before .before .before .pre .0) (c .before .before .before .before .before .before .before .before .before .before .before .before .before .before .before .before .before .clear-marks .ensures) _ _ (g .ensures .1 .1 .1 .1) (g .kept .1 .1 .0) (g .kept .1 .1 .1 .0)
+    call-shadowed _ _ (a .self) _ _ _ (c .before .before .before .before .before .before .before .before .before .before .before .before .before .before .before .before .before .before .before .before .before .before .before .before .before .before .before .before .before .pre .ready) (c .before .before .before .before .before .before .before .before .before .before .before .before .before .before .before .before .before .clear-marks .ensures) _ _ (g .ensures .1 .1 .1 .1) (g .kept .1 .1 .0) (g .kept .1 .1 .1 .0)
 
 enum-known-got-2 : tie.Need-enum-known-got-2
 enum-known-got-2 c = search needs
@@ -59,7 +59,7 @@ same-length-3 c = search needs
 returns-3 : tie.Need-returns-3
 returns-3 c =
     let a = c .before .before .before .before .before .before .before .before .before .before .before .before .before .before .before .before .before .before .before .before .before .before .before .before .before .before .before .before .before .before .before .before .before .before .args in
-    let p = c .before .before .before .before .before .before .before .before .before .before .before .before .before .before .before .before .before .before .before .before .before .before .before .before .before .before .before .before .before .before .before .before .before .before .pre .0 in
+    let p = c .before .before .before .before .before .before .before .before .before .before .before .before .before .before .before .before .before .before .before .before .before .before .before .before .before .before .before .before .before .before .before .before .before .before .pre .ready in
     let m = c .before .before .before .before .before .before .before .before .before .before .before .before .before .before .before .before .before .before .before .before .before .before .clear-marks .ensures in
     let g = c .before .before .before .before .before .before .before .before .before .before .before .before .before .before .before .before .range-way in
     let f = g .ensures .1 .1 .1 .1 in
@@ -78,11 +78,12 @@ same-length-6 c = search needs
 returns-4 : tie.Need-returns-4
 returns-4 c =
     let a = c .before .before .before .before .before .before .before .before .before .before .before .before .before .before .before .before .before .before .before .before .before .before .before .before .before .before .before .args in
-    let p = c .before .before .before .before .before .before .before .before .before .before .before .before .before .before .before .before .before .before .before .before .before .before .before .before .before .before .before .pre .0 in
+    let p = c .before .before .before .before .before .before .before .before .before .before .before .before .before .before .before .before .before .before .before .before .before .before .before .before .before .before .before .pre in
     let m = c .before .before .before .before .before .before .before .before .before .before .before .before .before .before .before .clear-marks .ensures in
     let g = c .before .before .before .before .before .before .before .before .before .range-way in
     let q = c .before .got2 .given .1 in
-    (ranged-same _ _ _ _ _ _ q ∙ in-answer (a .image .now) (a .lent) (a .self) _ _ (a .lo .now) (a .hi .now) _ (c .before .before .before .before .before .before .before .before .before .before .before .before .before .before .before .before .before .before .before .before .keyed .ensures) (c .before .before .before .before .before .before .before .before .before .before .before .before .before .before .before .before .before .before .before .if1 .left) _ (c .before .before .before .before .before .before .before .before .before .before .before .before .before .before .before .before .before .before .keyed2 .ensures) (c .before .before .before .before .before .before .before .before .before .before .before .before .before .before .before .before .before .if2 .left) _ _ (call-state _ (a .lent .slots) (a .self) _ _ _ p m) _ (g .ensures .0), (in-output (a .image .now) (a .lent) (a .self) _ _ (a .lo .now) (a .hi .now) _ (c .before .before .before .before .before .before .before .before .before .before .before .before .before .before .before .before .before .before .before .before .keyed .ensures) (c .before .before .before .before .before .before .before .before .before .before .before .before .before .before .before .before .before .before .before .if1 .left) _ (c .before .before .before .before .before .before .before .before .before .before .before .before .before .before .before .before .before .before .keyed2 .ensures) (c .before .before .before .before .before .before .before .before .before .before .before .before .before .before .before .before .before .if2 .left) _ _ (call-state _ (a .lent .slots) (a .self) _ _ _ p m) _ _ (g .ensures .1 .0), (ranged-long _ _ _ _ _ q (g .ensures .1 .1 .0), ranged-ready _ _ _ _ _ _ _ _ q (g .ensures .1 .1 .1 .0))))
+    let e = in-answer (a .image .now) (a .lent) (a .self) _ _ (a .lo .now) (a .hi .now) _ (c .before .before .before .before .before .before .before .before .before .before .before .before .before .before .before .before .before .before .before .before .keyed .ensures) (c .before .before .before .before .before .before .before .before .before .before .before .before .before .before .before .before .before .before .before .if1 .left) _ (c .before .before .before .before .before .before .before .before .before .before .before .before .before .before .before .before .before .before .keyed2 .ensures) (c .before .before .before .before .before .before .before .before .before .before .before .before .before .before .before .before .before .if2 .left) _ _ (call-state _ (a .lent .slots) (a .self) _ _ _ (p .ready) m) _ (g .ensures .0) in
+    (ranged-same _ _ _ _ _ _ q ∙ e, (in-output (a .image .now) (a .lent) (a .self) _ _ (a .lo .now) (a .hi .now) _ (c .before .before .before .before .before .before .before .before .before .before .before .before .before .before .before .before .before .before .before .before .keyed .ensures) (c .before .before .before .before .before .before .before .before .before .before .before .before .before .before .before .before .before .before .before .if1 .left) _ (c .before .before .before .before .before .before .before .before .before .before .before .before .before .before .before .before .before .before .keyed2 .ensures) (c .before .before .before .before .before .before .before .before .before .before .before .before .before .before .before .before .before .if2 .left) _ _ (call-state _ (a .lent .slots) (a .self) _ _ _ (p .ready) m) _ _ (g .ensures .1 .0), (ranged-long _ _ _ _ _ q (g .ensures .1 .1 .0), ranged-trusts (a .image .now) (a .lent) (a .self) _ _ p _ _ (a .lo .now) (a .hi .now) _ _ _ e (g .ensures .1 .1 .1 .0) _ _ _ q)))
 
 pub range-in-spec : {M : Type 1} → statement M
 range-in-spec =
