@@ -3,12 +3,16 @@ use crate::answers;
 use crate::words;
 use tree::refusal;
 ghost use mathlib.Core.Path.{_≡_};
+ghost use mathlib.Core.Bool.{true};
+ghost use Prim.Native.Nat.{_*_, _≤_};
+ghost use lib.ListN.{length};
 ghost use Rattle.tree.specs.Lent.{lentOf};
-ghost use Rattle.tree.specs.Workspace.{edits};
-ghost use Rattle.tree.specs.Upsert.{upsert};
-ghost use Rattle.tree.specs.Remove.{remove};
-ghost use Rattle.tree.specs.Omap.{omapPut, omapDrop};
+ghost use Rattle.tree.specs.Workspace.{stateOf, scratchHolds, edits};
+ghost use Rattle.tree.specs.Upsert.{upsertIn, upsert};
+ghost use Rattle.tree.specs.Remove.{removeIn, remove};
+ghost use Rattle.tree.specs.Omap.{omapPutIn, omapPut, omapDropIn, omapDrop};
 ghost use Rattle.tree.specs.Answers.{putValue, editedOf, editedLeaves, removedOf, removedLeaves};
+ghost use Rattle.tree.specs.internal.Edits.{Trusts, EditedCalled, RemovedCalled};
 ghost use Rattle.moachest.specs.Words.{yes, treeOf, lentNumbers, onTree, onWords};
 ghost use Rattle.moachest.specs.Answers.{editedTree, editedBack, removedTree, removedAnswer, removedBack};
 
@@ -54,7 +58,9 @@ pub extern "C" fn moachest_upsert(
     answers::leave_edited(tree, edited)
 }
 
-// The same answers as the call above, which it is today.
+// As the call above, without its tests of what is lent (1). It trusts that `tree`, `heads` and `bytes` are as open or a trusted call on them left
+// them, with the same image and numbers, and leaves them so again; and that the scratch has at least two blocks' worth of bytes.
+// Words that are too few are still refused.
 #[no_mangle]
 pub extern "C" fn moachest_upsert_trusted(
     tree: &mut [u64],
@@ -69,21 +75,32 @@ pub extern "C" fn moachest_upsert_trusted(
     key: &[u8],
     is_ghost: u64,
     value: &[u8],
-) -> u64 {
-    moachest_upsert(
-        tree,
+) -> u64
+    requires trusts { ⌜ Trusts (now image) (lentNumbers size slots mapped map) (treeOf (now tree)) (now heads) (now bytes) ⌝ }
+    requires room { ⌜ 2 * size ≤ length (now scratch) ⌝ }
+    ensures answer { λ r. ⌜ editedOf size (now (heads .exit)) (now (bytes .exit)) (editedBack r (now (tree .exit)))
+        ≡ onTree (now (tree .entry)) (λ t. upsertIn (lentOf (now (image .entry)) (lentNumbers size slots mapped map))
+        (stateOf size t (now (heads .entry)) (now (bytes .entry))) (now (key .entry)) (putValue (yes «is_ghost») (now (value .entry)))) ⌝ }
+    ensures left { λ r. ⌜ EditedCalled (now (image .entry)) (lentNumbers size slots mapped map) (treeOf (now (tree .entry)))
+        (now (heads .entry)) (now (bytes .entry)) (now (heads .exit)) (now (bytes .exit)) (editedBack r (now (tree .exit))) ⌝ }
+    ensures words { λ r. ⌜ now (tree .exit) ≡ editedTree (now (tree .entry)) (editedBack r (now (tree .exit))) ⌝ }
+{
+    if tree.len() < words::TREE_WORDS {
+        return refusal::LENT;
+    }
+    let lent = words::lent(size, slots, mapped, map);
+    let t = words::load(tree);
+    let edited = t.upsert_in(
         image,
         heads,
         bytes,
-        scratch,
-        size,
-        slots,
-        mapped,
-        map,
+        lent,
         key,
-        is_ghost,
+        is_ghost != 0,
         value,
-    )
+        scratch,
+    );
+    answers::leave_edited(tree, edited)
 }
 
 // Takes the entry of a key out. `answer` says whether it was there.
@@ -121,7 +138,9 @@ pub extern "C" fn moachest_remove(
     answers::leave_removed(tree, answer, removed)
 }
 
-// The same answers as the call above, which it is today.
+// As the call above, without its tests of what is lent (1). It trusts that `tree`, `heads` and `bytes` are as open or a trusted call on them left
+// them, with the same image and numbers, and leaves them so again; and that the scratch has at least two blocks' worth of bytes.
+// Words that are too few are still refused.
 #[no_mangle]
 pub extern "C" fn moachest_remove_trusted(
     tree: &mut [u64],
@@ -135,20 +154,29 @@ pub extern "C" fn moachest_remove_trusted(
     map: u64,
     key: &[u8],
     answer: &mut [u64],
-) -> u64 {
-    moachest_remove(
-        tree,
-        image,
-        heads,
-        bytes,
-        scratch,
-        size,
-        slots,
-        mapped,
-        map,
-        key,
-        answer,
-    )
+) -> u64
+    requires trusts { ⌜ Trusts (now image) (lentNumbers size slots mapped map) (treeOf (now tree)) (now heads) (now bytes) ⌝ }
+    requires room { ⌜ 2 * size ≤ length (now scratch) ⌝ }
+    ensures answer { λ r. ⌜ removedOf size (now (heads .exit)) (now (bytes .exit)) (removedBack r (now (tree .exit)) (now (answer .exit)))
+        ≡ onWords (now (tree .entry)) (now (answer .entry)) (λ t. removeIn
+        (lentOf (now (image .entry)) (lentNumbers size slots mapped map)) (stateOf size t (now (heads .entry)) (now (bytes .entry)))
+        (now (key .entry))) ⌝ }
+    ensures left { λ r. ⌜ RemovedCalled (now (image .entry)) (lentNumbers size slots mapped map) (treeOf (now (tree .entry)))
+        (now (heads .entry)) (now (bytes .entry)) (now (heads .exit)) (now (bytes .exit))
+        (removedBack r (now (tree .exit)) (now (answer .exit))) ⌝ }
+    ensures words { λ r. ⌜ (now (tree .exit) ≡ removedTree (now (tree .entry)) (removedBack r (now (tree .exit)) (now (answer .exit))))
+        × (now (answer .exit) ≡ removedAnswer (now (answer .entry)) (removedBack r (now (tree .exit)) (now (answer .exit)))) ⌝ }
+{
+    if tree.len() < words::TREE_WORDS {
+        return refusal::LENT;
+    }
+    if answer.len() < words::ANSWER_WORDS {
+        return refusal::LENT;
+    }
+    let lent = words::lent(size, slots, mapped, map);
+    let t = words::load(tree);
+    let removed = t.remove_in(image, heads, bytes, lent, key, scratch);
+    answers::leave_removed(tree, answer, removed)
 }
 
 // Takes the versions of an id out and puts one that maps it to an address and a length.
@@ -184,7 +212,9 @@ pub extern "C" fn moachest_omap_put(
     answers::leave_edited(tree, edited)
 }
 
-// The same answers as the call above, which it is today.
+// As the call above, without its tests of what is lent (1). It trusts that `tree`, `heads` and `bytes` are as open or a trusted call on them left
+// them, with the same image and numbers, and leaves them so again; and that the scratch has exactly `(2 * slots + 2) * size` bytes.
+// Words that are too few are still refused.
 #[no_mangle]
 pub extern "C" fn moachest_omap_put_trusted(
     tree: &mut [u64],
@@ -200,22 +230,23 @@ pub extern "C" fn moachest_omap_put_trusted(
     xid: u64,
     address: u64,
     length: u64,
-) -> u64 {
-    moachest_omap_put(
-        tree,
-        image,
-        heads,
-        bytes,
-        scratch,
-        size,
-        slots,
-        mapped,
-        map,
-        id,
-        xid,
-        address,
-        length,
-    )
+) -> u64
+    requires trusts { ⌜ Trusts (now image) (lentNumbers size slots mapped map) (treeOf (now tree)) (now heads) (now bytes) ⌝ }
+    requires room { ⌜ scratchHolds size slots (now scratch) ≡ true ⌝ }
+    ensures answer { λ r. ⌜ editedOf size (now (heads .exit)) (now (bytes .exit)) (editedBack r (now (tree .exit)))
+        ≡ onTree (now (tree .entry)) (λ t. omapPutIn (lentOf (now (image .entry)) (lentNumbers size slots mapped map))
+        (stateOf size t (now (heads .entry)) (now (bytes .entry))) id xid address length) ⌝ }
+    ensures left { λ r. ⌜ EditedCalled (now (image .entry)) (lentNumbers size slots mapped map) (treeOf (now (tree .entry)))
+        (now (heads .entry)) (now (bytes .entry)) (now (heads .exit)) (now (bytes .exit)) (editedBack r (now (tree .exit))) ⌝ }
+    ensures words { λ r. ⌜ now (tree .exit) ≡ editedTree (now (tree .entry)) (editedBack r (now (tree .exit))) ⌝ }
+{
+    if tree.len() < words::TREE_WORDS {
+        return refusal::LENT;
+    }
+    let lent = words::lent(size, slots, mapped, map);
+    let t = words::load(tree);
+    let edited = t.omap_put_in(image, heads, bytes, lent, scratch, id, xid, address, length);
+    answers::leave_edited(tree, edited)
 }
 
 // Takes the versions of an id out.
@@ -248,7 +279,9 @@ pub extern "C" fn moachest_omap_drop(
     answers::leave_edited(tree, edited)
 }
 
-// The same answers as the call above, which it is today.
+// As the call above, without its tests of what is lent (1). It trusts that `tree`, `heads` and `bytes` are as open or a trusted call on them left
+// them, with the same image and numbers, and leaves them so again; and that the scratch has exactly `(2 * slots + 2) * size` bytes.
+// Words that are too few are still refused.
 #[no_mangle]
 pub extern "C" fn moachest_omap_drop_trusted(
     tree: &mut [u64],
@@ -261,17 +294,21 @@ pub extern "C" fn moachest_omap_drop_trusted(
     mapped: u64,
     map: u64,
     id: u64,
-) -> u64 {
-    moachest_omap_drop(
-        tree,
-        image,
-        heads,
-        bytes,
-        scratch,
-        size,
-        slots,
-        mapped,
-        map,
-        id,
-    )
+) -> u64
+    requires trusts { ⌜ Trusts (now image) (lentNumbers size slots mapped map) (treeOf (now tree)) (now heads) (now bytes) ⌝ }
+    requires room { ⌜ scratchHolds size slots (now scratch) ≡ true ⌝ }
+    ensures answer { λ r. ⌜ editedOf size (now (heads .exit)) (now (bytes .exit)) (editedBack r (now (tree .exit)))
+        ≡ onTree (now (tree .entry)) (λ t. omapDropIn (lentOf (now (image .entry)) (lentNumbers size slots mapped map))
+        (stateOf size t (now (heads .entry)) (now (bytes .entry))) id) ⌝ }
+    ensures left { λ r. ⌜ EditedCalled (now (image .entry)) (lentNumbers size slots mapped map) (treeOf (now (tree .entry)))
+        (now (heads .entry)) (now (bytes .entry)) (now (heads .exit)) (now (bytes .exit)) (editedBack r (now (tree .exit))) ⌝ }
+    ensures words { λ r. ⌜ now (tree .exit) ≡ editedTree (now (tree .entry)) (editedBack r (now (tree .exit))) ⌝ }
+{
+    if tree.len() < words::TREE_WORDS {
+        return refusal::LENT;
+    }
+    let lent = words::lent(size, slots, mapped, map);
+    let t = words::load(tree);
+    let edited = t.omap_drop_in(image, heads, bytes, lent, scratch, id);
+    answers::leave_edited(tree, edited)
 }

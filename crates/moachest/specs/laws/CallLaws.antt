@@ -11,6 +11,7 @@ use Rattle.tree.specs.State.{State}
 use Rattle.tree.specs.Lookup as lookup
 use Rattle.tree.specs.Remove as removing
 use Rattle.tree.specs.Answers.{openedOf, openedIn, openedLeaves, gotMeans, gotIn, gotOutput, gotLeaves, floorMeans, flooredIn, flooredOutput, flooredLeaves, rangeMeans, rangedIn, rangedOutput, rangedLength, rangedLeaves, editedOf, editedLeaves, removedOf, removedLeaves}
+use Rattle.tree.specs.internal.Open.{OpenedTrusts}
 use Rattle.tree.specs.declared.editor.Tree.{Tree}
 use Rattle.tree.specs.declared.lent.Lent.{Lent}
 use Rattle.tree.specs.declared.lookup.Opened.{Opened}
@@ -87,11 +88,12 @@ flushed-told size t image p₀ heads bytes freed removed ids places R a a′ r g
 abbrev pub OpenCalled : (image heads bytes heads′ bytes′ w w′ : List ℕ) → (root order xid : ℕ) → Lent → ℕ → Type 0
 OpenCalled image heads bytes heads′ bytes′ w w′ root order xid l r =
     (openedOf (l .size) heads′ bytes′ (openedBack r w′) ≡ onTree w (λ t. openedIn (lentOf image l) heads bytes root order xid))
-    × (openedLeaves (l .size) (l .slots) heads′ bytes′ (openedBack r w′) × (w′ ≡ openedTree w (openedBack r w′)))
+    × (openedLeaves (l .size) (l .slots) heads′ bytes′ (openedBack r w′)
+    × (OpenedTrusts image l heads′ bytes′ (openedBack r w′) × (w′ ≡ openedTree w (openedBack r w′))))
 
 pub open-called : (image heads bytes heads′ bytes′ w w′ : List ℕ) (root order xid : ℕ) (l m : Lent) (r : ℕ) (o : Opened) → 14 ≤ length w → l ≡ m
     → (openedOf (l .size) heads′ bytes′ o ≡ openedIn (lentOf image l) heads bytes root order xid)
-    × openedLeaves (l .size) (l .slots) heads′ bytes′ o → r ≡ openedNumber o → w′ ≡ openedTree w o
+    × (openedLeaves (l .size) (l .slots) heads′ bytes′ o × OpenedTrusts image l heads′ bytes′ o) → r ≡ openedNumber o → w′ ≡ openedTree w o
     → OpenCalled image heads bytes heads′ bytes′ w w′ root order xid m r
 open-called image heads bytes heads′ bytes′ w w′ root order xid l m r o h el s er ew =
     let q : openedBack r w′ ≡ o = opened-told (l .size) heads′ bytes′ _ w w′ r o (open-numbered (lentOf image l) heads bytes root order xid) (s .0)
@@ -99,14 +101,14 @@ open-called image heads bytes heads′ bytes′ w w′ root order xid l m r o h 
     let p : onTree w (λ t. openedIn (lentOf image m) heads bytes root order xid) ≡ openedIn (lentOf image m) heads bytes root order xid =
     on-tree w (λ t. openedIn (lentOf image m) heads bytes root order xid) h in
     let z = moved {A = Opened} (λ x t b. (openedOf (x .size) heads′ bytes′ b ≡ openedIn (lentOf image x) heads bytes root order xid)
-    × openedLeaves (x .size) (x .slots) heads′ bytes′ b) {t = treeOf w} {u = treeOf w} el refl q s in
-    (z .0 ∙ sym p, (z .1, ew ∙ ap (openedTree w) (sym q)))
+    × (openedLeaves (x .size) (x .slots) heads′ bytes′ b × OpenedTrusts image x heads′ bytes′ b)) {t = treeOf w} {u = treeOf w} el refl q s in
+    (z .0 ∙ sym p, (z .1 .0, (z .1 .1, ew ∙ ap (openedTree w) (sym q))))
 
 pub open-few : (image heads bytes w : List ℕ) (root order xid : ℕ) (l : Lent)
     → onTree w (λ t. openedIn (lentOf image l) heads bytes root order xid) ≡ refused refusal.lent
     → OpenCalled image heads bytes heads bytes w w root order xid l refusal.lent
 unfolding openedOf openedBack openedTree
-open-few image heads bytes w root order xid l e = (sym e, (tt, refl))
+open-few image heads bytes w root order xid l e = (sym e, (tt, (tt, refl)))
 
 -- ---- get
 
