@@ -1,0 +1,5 @@
+-- What the contracts of the library cite.
+pub mod Words
+pub mod Answers
+-- Laws: checked by the machine, nothing to believe.
+pub mod laws
