@@ -4,3 +4,4 @@ pub mod WordLaws
 pub mod AnswerLaws
 pub mod LeaveLaws
 pub mod CallLaws
+pub mod FlushCallLaws
