@@ -5,3 +5,4 @@ pub mod AnswerLaws
 pub mod LeaveLaws
 pub mod CallLaws
 pub mod FlushCallLaws
+pub mod SizeLaws
