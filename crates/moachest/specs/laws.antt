@@ -5,3 +5,5 @@ pub mod AnswerLaws
 pub mod LeaveLaws
 pub mod CallLaws
 pub mod TrustedLaws
+pub mod FlushCallLaws
+pub mod SizeLaws
