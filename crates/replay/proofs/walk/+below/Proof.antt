@@ -2,7 +2,7 @@
 use borrow.Author.Needs.{needs}
 use mathlib.Core.Path.{_≡_}
 use lib.ListN.{length}
-use Prim.Native.Nat.{ℕ, _-_, _<_}
+use Prim.Native.Nat.{ℕ, _-_, _^_, _<_}
 use borrow.Fn.Kinds.{In}
 use borrow.Fn.PlainCycle.{Measures, is, falls, and}
 use Rattle.replay.proofs.walk.below.Reads as below
@@ -25,7 +25,7 @@ abbrev below-below : ℕ → In 4 below-kinds.ps
 below-below t = and 4 below-kinds.ps (falls 4 below-kinds.ps _<_ μ-below t) below.Pre
 
 abbrev below-Inv-loop : below-lts.InvT-loop
-below-Inv-loop image lent p ids places m b d o₀ n u₀ i₀ o u i = (length o ≡ length o₀) × (0 < d)
+below-Inv-loop image lent p ids places m b d o₀ n u₀ i₀ o u i = (length o ≡ length o₀) × (0 < d) × (n < 2 ^ 64)
 
 abbrev below-μ-loop : below-lts.MeasureT-loop
 below-μ-loop image lent p ids places m b d o₀ n u₀ i₀ o u i = n - i
@@ -240,7 +240,7 @@ below-returns-3 : (t : ℕ) → below-lts.Need-returns-3 (
 ) (below-at t) below.Post below-Inv-loop below-μ-loop
 below-returns-3 t c = search needs
 
-below-add-i : (t : ℕ) → below-lts.Need-add-i (
+below-add-next : (t : ℕ) → below-lts.Need-add-next (
   leaf-reads.Asked,
   leaf-reads.Learnt,
   bounds-of-reads.Asked,
@@ -252,7 +252,7 @@ below-add-i : (t : ℕ) → below-lts.Need-add-i (
   below-below t,
   below.Post,
 ) (below-at t) below.Post below-Inv-loop below-μ-loop
-below-add-i t c = search needs
+below-add-next t c = search needs
 
 below-loop-less : (t : ℕ) → below-lts.Need-loop-less (
   leaf-reads.Asked,
@@ -331,6 +331,7 @@ pub +below-spec : {M : Type 1} → statement M
     (below-same-length t)
     (below-returns t)
     (below-loop-holds t)
+    (below-add-next t)
     (below-bounds-of-requires t)
     (below-child-requires t)
     (below-enum-known-got t)
@@ -342,7 +343,6 @@ pub +below-spec : {M : Type 1} → statement M
     (below-below-requires t)
     (below-same-length-3 t)
     (below-returns-3 t)
-    (below-add-i t)
     (below-loop-less t)
     (below-loop-again t)
     (below-same-length-4 t)
