@@ -1,6 +1,7 @@
 // Calls on the open tree, but for flush: what is lent of image and workspace, the key and the value.
 use crate::edits;
 use crate::kind;
+use crate::limits;
 use crate::lookups;
 use crate::state::State;
 use script::words;
@@ -106,13 +107,38 @@ fn read_key(
     )
 }
 
+// The same, with room for the key and the value.
+fn with_room(
+    s: State,
+    k: u64,
+    w: &[u8],
+    image: &[u8],
+    heads: &mut [u64],
+    bytes: &mut [u8],
+    scratch: &mut [u8],
+    o: &mut [u8],
+) -> State {
+    let mut key = [0u8; limits::BYTES];
+    let mut value = [0u8; limits::BYTES];
+    read_key(
+        s,
+        k,
+        w,
+        &mut key,
+        &mut value,
+        image,
+        heads,
+        bytes,
+        scratch,
+        o,
+    )
+}
+
 // A call, on what is lent.
 fn on_tree(
     s: State,
     k: u64,
     w: &[u8],
-    key: &mut [u8],
-    value: &mut [u8],
     image: &[u8],
     heads: &mut [u64],
     bytes: &mut [u8],
@@ -131,7 +157,7 @@ fn on_tree(
     if k == kind::DROP {
         return edits::drop_id(s, w, image, heads, bytes, scratch, o);
     }
-    read_key(s, k, w, key, value, image, heads, bytes, scratch, o)
+    with_room(s, k, w, image, heads, bytes, scratch, o)
 }
 
 // A call on the open tree, or the one that opens it. Image, slots and scratch are lent as long as they are to be.
@@ -139,8 +165,6 @@ pub fn run(
     s: State,
     k: u64,
     w: &[u8],
-    key: &mut [u8],
-    value: &mut [u8],
     image: &[u8],
     heads: &mut [u64],
     work: &mut [u8],
@@ -171,8 +195,6 @@ pub fn run(
         s,
         k,
         w,
-        key,
-        value,
         &image[start..all],
         &mut heads[start..words],
         &mut work[start..held],

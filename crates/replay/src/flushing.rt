@@ -1,4 +1,5 @@
 // Flush: what is lent to it, as long as it is to be.
+use crate::limits;
 use crate::report;
 use crate::state::State;
 use flush::flush::Answer;
@@ -243,8 +244,8 @@ fn kept(bitmap: &[u8], old: &mut [u8]) {
     bytes::copy_to(bitmap, old, 0);
 }
 
-// (flush XID NEXT): a refused one leaves the bitmap, and so no block is new.
-pub fn run(
+// A refused flush leaves the bitmap, and so no block is new.
+fn reported(
     s: State,
     w: &[u8],
     image: &mut [u8],
@@ -281,4 +282,39 @@ pub fn run(
     );
     e.at = report::written(o, e.at, image, bitmap, old, e.blocks, e.size);
     e
+}
+
+// (flush XID NEXT). The blocks freed and the ids removed are told at once: nothing else reads these lists.
+pub fn run(
+    s: State,
+    w: &[u8],
+    image: &mut [u8],
+    bitmap: &mut [u8],
+    counts: &[u32],
+    free: &mut [u32],
+    heads: &mut [u64],
+    work: &[u8],
+    ids: &mut [u64],
+    places: &mut [u64],
+    old: &mut [u8],
+    o: &mut [u8],
+) -> State {
+    let mut freed = [0u64; limits::SLOTS];
+    let mut removed = [0u64; limits::SLOTS];
+    reported(
+        s,
+        w,
+        image,
+        bitmap,
+        counts,
+        free,
+        heads,
+        work,
+        &mut freed,
+        &mut removed,
+        ids,
+        places,
+        old,
+        o,
+    )
 }

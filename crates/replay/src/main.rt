@@ -38,8 +38,6 @@ fn turn(
     scratch: &mut [u8],
     ids: &[u64],
     places: &[u64],
-    key: &mut [u8],
-    value: &mut [u8],
     o: &mut [u8],
 ) -> State {
     if k == kind::PASSED {
@@ -54,7 +52,7 @@ fn turn(
     if k < kind::WALK {
         return setup::run(s, k, w, image, bitmap, counts, free, o);
     }
-    calls::run(s, k, w, key, value, image, heads, work, scratch, o)
+    calls::run(s, k, w, image, heads, work, scratch, o)
 }
 
 // A line.
@@ -69,12 +67,8 @@ fn line_of(
     heads: &mut [u64],
     work: &mut [u8],
     scratch: &mut [u8],
-    freed: &mut [u64],
-    removed: &mut [u64],
     ids: &mut [u64],
     places: &mut [u64],
-    key: &mut [u8],
-    value: &mut [u8],
     o: &mut [u8],
 ) -> State {
     if k == kind::FLUSH {
@@ -87,8 +81,6 @@ fn line_of(
             free,
             heads,
             work,
-            freed,
-            removed,
             ids,
             places,
             scratch,
@@ -108,8 +100,6 @@ fn line_of(
         scratch,
         ids,
         places,
-        key,
-        value,
         o,
     )
 }
@@ -126,12 +116,8 @@ fn step(
     heads: &mut [u64],
     work: &mut [u8],
     scratch: &mut [u8],
-    freed: &mut [u64],
-    removed: &mut [u64],
     ids: &mut [u64],
     places: &mut [u64],
-    key: &mut [u8],
-    value: &mut [u8],
     o: &mut [u8],
 ) -> State {
     if src.ended {
@@ -156,12 +142,8 @@ fn step(
         heads,
         work,
         scratch,
-        freed,
-        removed,
         ids,
         places,
-        key,
-        value,
         o,
     )
 }
@@ -186,12 +168,8 @@ fn run(
     heads: &mut [u64],
     work: &mut [u8],
     scratch: &mut [u8],
-    freed: &mut [u64],
-    removed: &mut [u64],
     ids: &mut [u64],
     places: &mut [u64],
-    key: &mut [u8],
-    value: &mut [u8],
     input: &mut [u8],
     line: &mut [u8],
     o: &mut [u8],
@@ -212,12 +190,8 @@ fn run(
             heads,
             work,
             scratch,
-            freed,
-            removed,
             ids,
             places,
-            key,
-            value,
             o,
         );
         turns = left(turns, src.ended);
@@ -225,39 +199,36 @@ fn run(
     out::flush(o, s.at);
 }
 
-fn main() {
-    let mut image = [0u8; limits::IMAGE];
+// The rest of the memory. The two largest arrays are parameters, so their lengths are known without counting.
+fn begin(image: &mut [u8; limits::IMAGE], work: &mut [u8; limits::WORK]) {
     let mut bitmap = [0u8; limits::BITMAP];
     let mut counts = [0u32; limits::CHUNKS];
     let mut free = [0u32; limits::CHUNKS];
     let mut heads = [0u64; limits::HEADS];
-    let mut work = [0u8; limits::WORK];
     let mut scratch = [0u8; limits::SCRATCH];
-    let mut freed = [0u64; limits::SLOTS];
-    let mut removed = [0u64; limits::SLOTS];
     let mut ids = [0u64; limits::SLOTS];
     let mut places = [0u64; limits::SLOTS];
-    let mut key = [0u8; limits::BYTES];
-    let mut value = [0u8; limits::BYTES];
     let mut input = [0u8; limits::INPUT];
     let mut line = [0u8; limits::LINE];
     let mut o = [0u8; limits::OUTPUT];
     run(
-        &mut image,
+        image,
         &mut bitmap,
         &mut counts,
         &mut free,
         &mut heads,
-        &mut work,
+        work,
         &mut scratch,
-        &mut freed,
-        &mut removed,
         &mut ids,
         &mut places,
-        &mut key,
-        &mut value,
         &mut input,
         &mut line,
         &mut o,
     );
+}
+
+fn main() {
+    let mut image = [0u8; limits::IMAGE];
+    let mut work = [0u8; limits::WORK];
+    begin(&mut image, &mut work);
 }

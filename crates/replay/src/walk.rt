@@ -30,6 +30,9 @@ pub enum Visit {
     At(Met),
 }
 
+// More than the entries of any node.
+const MOST_ENTRIES: u64 = 65536;
+
 // A walk's begin, with so much output waiting.
 fn begun(at: usize, shown: bool) -> Tally {
     Tally {
@@ -240,6 +243,10 @@ fn below(
     let mut u = t;
     let mut i: u64 = 0;
     while i < n {
+        // Never: a node's block has 65,536 bytes at most, and an entry takes four of them.
+        if MOST_ENTRIES < i {
+            return u;
+        }
         let next = i + 1;
         let inner = nodes::bounds_of(image, lent.size, m, b, i);
         let got = child(image, lent, p, ids, places, m, inner, i);

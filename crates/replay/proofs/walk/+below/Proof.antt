@@ -2,7 +2,7 @@
 use borrow.Author.Needs.{needs}
 use mathlib.Core.Path.{_≡_}
 use lib.ListN.{length}
-use Prim.Native.Nat.{ℕ, _-_, _^_, _<_}
+use Prim.Native.Nat.{ℕ, _-_, _<_}
 use borrow.Fn.Kinds.{In}
 use borrow.Fn.PlainCycle.{Measures, is, falls, and}
 use Rattle.replay.proofs.walk.below.Reads as below
@@ -25,7 +25,7 @@ abbrev below-below : ℕ → In 4 below-kinds.ps
 below-below t = and 4 below-kinds.ps (falls 4 below-kinds.ps _<_ μ-below t) below.Pre
 
 abbrev below-Inv-loop : below-lts.InvT-loop
-below-Inv-loop image lent p ids places m b d o₀ n u₀ i₀ o u i = (length o ≡ length o₀) × (0 < d) × (n < 2 ^ 64)
+below-Inv-loop image lent p ids places m b d o₀ n u₀ i₀ o u i = (length o ≡ length o₀) × (0 < d)
 
 abbrev below-μ-loop : below-lts.MeasureT-loop
 below-μ-loop image lent p ids places m b d o₀ n u₀ i₀ o u i = n - i
@@ -142,7 +142,7 @@ below-refused-requires : (t : ℕ) → below-lts.Need-refused-requires (
 ) (below-at t) below.Post below-Inv-loop below-μ-loop
 below-refused-requires t c κs = search needs
 
-below-same-length-2 : (t : ℕ) → below-lts.Need-same-length-2 (
+below-same-length-3 : (t : ℕ) → below-lts.Need-same-length-3 (
   leaf-reads.Asked,
   leaf-reads.Learnt,
   bounds-of-reads.Asked,
@@ -154,9 +154,9 @@ below-same-length-2 : (t : ℕ) → below-lts.Need-same-length-2 (
   below-below t,
   below.Post,
 ) (below-at t) below.Post below-Inv-loop below-μ-loop
-below-same-length-2 t c = search needs
+below-same-length-3 t c = search needs
 
-below-returns-2 : (t : ℕ) → below-lts.Need-returns-2 (
+below-returns-3 : (t : ℕ) → below-lts.Need-returns-3 (
   leaf-reads.Asked,
   leaf-reads.Learnt,
   bounds-of-reads.Asked,
@@ -168,7 +168,7 @@ below-returns-2 : (t : ℕ) → below-lts.Need-returns-2 (
   below-below t,
   below.Post,
 ) (below-at t) below.Post below-Inv-loop below-μ-loop
-below-returns-2 t c = search needs
+below-returns-3 t c = search needs
 
 below-enum-known-got-2 : (t : ℕ) → below-lts.Need-enum-known-got-2 (
   leaf-reads.Asked,
@@ -210,9 +210,9 @@ below-below-requires : (t : ℕ) → below-lts.Need-below-requires (
   below-below t,
   below.Post,
 ) (below-at t) below.Post below-Inv-loop below-μ-loop
-below-below-requires t c κs = search needs
+below-below-requires t c κs = search (needs, c .before .before .before .before .before .before .before .before .loop .inv .1, c .before .before .before .before .before .before .before .before .before .before .before .before .before .before .before .pre .0)
 
-below-same-length-3 : (t : ℕ) → below-lts.Need-same-length-3 (
+below-same-length-4 : (t : ℕ) → below-lts.Need-same-length-4 (
   leaf-reads.Asked,
   leaf-reads.Learnt,
   bounds-of-reads.Asked,
@@ -224,9 +224,9 @@ below-same-length-3 : (t : ℕ) → below-lts.Need-same-length-3 (
   below-below t,
   below.Post,
 ) (below-at t) below.Post below-Inv-loop below-μ-loop
-below-same-length-3 t c = search needs
+below-same-length-4 t c = search needs
 
-below-returns-3 : (t : ℕ) → below-lts.Need-returns-3 (
+below-returns-4 : (t : ℕ) → below-lts.Need-returns-4 (
   leaf-reads.Asked,
   leaf-reads.Learnt,
   bounds-of-reads.Asked,
@@ -238,7 +238,35 @@ below-returns-3 : (t : ℕ) → below-lts.Need-returns-3 (
   below-below t,
   below.Post,
 ) (below-at t) below.Post below-Inv-loop below-μ-loop
-below-returns-3 t c = search needs
+below-returns-4 t c = search needs
+
+below-same-length-2 : (t : ℕ) → below-lts.Need-same-length-2 (
+  leaf-reads.Asked,
+  leaf-reads.Learnt,
+  bounds-of-reads.Asked,
+  bounds-of-reads.Learnt,
+  child-reads.Asked,
+  child-reads.Learnt,
+  refused-reads.Asked,
+  refused-reads.Learnt,
+  below-below t,
+  below.Post,
+) (below-at t) below.Post below-Inv-loop below-μ-loop
+below-same-length-2 t c = search needs
+
+below-returns-2 : (t : ℕ) → below-lts.Need-returns-2 (
+  leaf-reads.Asked,
+  leaf-reads.Learnt,
+  bounds-of-reads.Asked,
+  bounds-of-reads.Learnt,
+  child-reads.Asked,
+  child-reads.Learnt,
+  refused-reads.Asked,
+  refused-reads.Learnt,
+  below-below t,
+  below.Post,
+) (below-at t) below.Post below-Inv-loop below-μ-loop
+below-returns-2 t c = search needs
 
 below-add-next : (t : ℕ) → below-lts.Need-add-next (
   leaf-reads.Asked,
@@ -282,7 +310,7 @@ below-loop-again : (t : ℕ) → below-lts.Need-loop-again (
 ) (below-at t) below.Post below-Inv-loop below-μ-loop
 below-loop-again t c = search needs
 
-below-same-length-4 : (t : ℕ) → below-lts.Need-same-length-4 (
+below-same-length-5 : (t : ℕ) → below-lts.Need-same-length-5 (
   leaf-reads.Asked,
   leaf-reads.Learnt,
   bounds-of-reads.Asked,
@@ -294,9 +322,9 @@ below-same-length-4 : (t : ℕ) → below-lts.Need-same-length-4 (
   below-below t,
   below.Post,
 ) (below-at t) below.Post below-Inv-loop below-μ-loop
-below-same-length-4 t c = search needs
+below-same-length-5 t c = search needs
 
-below-returns-4 : (t : ℕ) → below-lts.Need-returns-4 (
+below-returns-5 : (t : ℕ) → below-lts.Need-returns-5 (
   leaf-reads.Asked,
   leaf-reads.Learnt,
   bounds-of-reads.Asked,
@@ -308,7 +336,7 @@ below-returns-4 : (t : ℕ) → below-lts.Need-returns-4 (
   below-below t,
   below.Post,
 ) (below-at t) below.Post below-Inv-loop below-μ-loop
-below-returns-4 t c = search needs
+below-returns-5 t c = search needs
 
 pub +below-spec : {M : Type 1} → statement M
 +below-spec = close μ-below λ t. below-lts.spec (
@@ -331,19 +359,21 @@ pub +below-spec : {M : Type 1} → statement M
     (below-same-length t)
     (below-returns t)
     (below-loop-holds t)
+    (below-same-length-2 t)
+    (below-returns-2 t)
     (below-add-next t)
     (below-bounds-of-requires t)
     (below-child-requires t)
     (below-enum-known-got t)
     (below-refused-requires t)
-    (below-same-length-2 t)
-    (below-returns-2 t)
+    (below-same-length-3 t)
+    (below-returns-3 t)
     (below-enum-known-got-2 t)
     (below-sub-below t)
     (below-below-requires t)
-    (below-same-length-3 t)
-    (below-returns-3 t)
-    (below-loop-less t)
-    (below-loop-again t)
     (below-same-length-4 t)
     (below-returns-4 t)
+    (below-loop-less t)
+    (below-loop-again t)
+    (below-same-length-5 t)
+    (below-returns-5 t)

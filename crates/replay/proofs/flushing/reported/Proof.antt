@@ -1,7 +1,7 @@
--- `replay::flushing::run` meets its contract. Assumes nothing.
+-- `replay::flushing::reported` meets its contract. Assumes nothing.
 use borrow.Author.Needs.{needs}
-use Rattle.replay.proofs.flushing.run.Statement.{statement}
-use Rattle.replay.proofs.flushing.run.Tie as tie
+use Rattle.replay.proofs.flushing.reported.Statement.{statement}
+use Rattle.replay.proofs.flushing.reported.Tie as tie
 
 error-requires : tie.Need-error-requires
 error-requires c κs = search needs
@@ -54,8 +54,8 @@ same-length-11 c = search needs
 returns-2 : tie.Need-returns-2
 returns-2 c = search needs
 
-pub run-spec : {M : Type 1} → statement M
-run-spec =
+pub reported-spec : {M : Type 1} → statement M
+reported-spec =
     tie.close
     (tie.spec
     error-requires
