@@ -99,6 +99,24 @@ impl Tree {
         (dirty, without_id)
     }
 
+    /// Whether a call let the root's place go down from a node that does not fit as root, with its own key or
+    /// with its child's first key: document 01 cuts before, and refuses a single entry.
+    pub fn unfit_root_went_down(&self, before: &Tree) -> bool {
+        let anew = |n: usize| self.nodes[n].dead && before.nodes.get(n).is_none_or(|o| !o.dead);
+        (0..self.nodes.len()).any(|n| anew(n) && !self.only_child_fits_as_root(n))
+    }
+
+    fn only_child_fits_as_root(&self, n: usize) -> bool {
+        let mut entries = self.entries_of(n);
+        let own = self.fits_as(true, self.nodes[n].level, &entries);
+        if let Some(Val::Child(Child::Mem(m))) = self.nodes[n].vals.first() {
+            if let Some(first) = self.nodes[*m].keys.first() {
+                entries[0].0.clone_from(first);
+            }
+        }
+        own && self.fits_as(true, self.nodes[n].level, &entries)
+    }
+
     pub fn every_live_node_fits(&self) -> bool {
         (0..self.nodes.len()).all(|n| self.is_dead(n) || self.fits_in_place(n))
     }

@@ -40,12 +40,12 @@ impl Walk<'_> {
         map_reader(self.disk, self.place).map_or(Some(r), |m| attempt(|| m.address(r)))
     }
 
-    /// Whether the Rust would take this node on where it stands.
+    /// Whether the Rust would take this node on where it stands. Of a map's node it reads only the entries that it compares.
     fn rust_loads(&self, addr: u64, level: Option<u16>) -> bool {
         let entries = attempt(|| {
             let node = self.disk.node(addr)?;
             let fits = level.is_none_or(|l| node.level + 1 == l);
-            let list = node.all_entries(&self.info)?;
+            let list = if self.exact_keys { Vec::new() } else { node.all_entries(&self.info)? };
             Ok((fits, node.is_leaf(), list))
         });
         entries.is_some_and(|(fits, leaf, list)| fits && (leaf || list.iter().all(|e| e.1.as_ref().is_some_and(|v| v.len() >= 8))))
@@ -187,7 +187,7 @@ pub fn of_call(disk: &Container, trees: (&Tree, &Tree), order: Order, line: &Lin
     if after.counts() == before.counts() && matches!(line, Line::Remove(_) | Line::Drop(_)) {
         return None;
     }
-    if !after.fits_in_place(after.root_slot()) {
+    if !after.fits_in_place(after.root_slot()) || after.unfit_root_went_down(before) {
         return Some(ROOT_FITS);
     }
     let way_fits = way.map(|w| w.iter().all(|&n| after.is_dead(n) || after.fits_in_place(n)));

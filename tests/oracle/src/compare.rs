@@ -74,9 +74,11 @@ impl Judge {
         })
     }
 
-    fn differs(self, command: &str, script: &[String]) -> bool {
+    /// Whether a program goes wrong first in a call of this name.
+    fn differs_in(self, name: &str, command: &str, script: &[String]) -> bool {
         let Some(right) = self.answers(script) else { return false };
-        answers_of(command, script).is_ok_and(|other| self.difference(&right, &other).is_some())
+        let Ok(other) = answers_of(command, script) else { return false };
+        self.difference(&right, &other).is_some_and(|d| call_name(&script[d.line]) == name)
     }
 }
 
@@ -109,6 +111,11 @@ fn past_its_limits(script: &[String], d: &Difference) -> bool {
     d.other == "(error)" && (script[d.line].starts_with("(image ") || script[d.line].starts_with("(slots "))
 }
 
+/// The first word of a line, which names its call.
+fn call_name(line: &str) -> &str {
+    line.trim_start_matches('(').split([' ', ')']).next().unwrap_or("")
+}
+
 pub fn shortened(text: &str) -> String {
     if text.len() > 300 { format!("{}..", &text[..300]) } else { text.into() }
 }
@@ -116,8 +123,9 @@ pub fn shortened(text: &str) -> String {
 fn report(judge: Judge, seed: u64, command: &str, script: &[String], d: &Difference) {
     println!("seed {seed}: line {} {}", d.line + 1, shortened(&script[d.line]));
     println!("  oracle  {}\n  program {}", shortened(&d.right), shortened(&d.other));
-    // Nothing after the first difference is needed.
-    let small = shrink::script(&|lines| judge.differs(command, lines), &script[..=d.line]);
+    // Nothing after the first difference is needed. A script that differs in a call of another name shows something else.
+    let name = call_name(&script[d.line]);
+    let small = shrink::script(&|lines| judge.differs_in(name, command, lines), &script[..=d.line]);
     println!("; {} lines after shrinking", small.len());
     small.iter().for_each(|l| println!("{l}"));
     if let Some(d) = judge.answers(&small).and_then(|o| judge.difference(&o, &answers_of(command, &small).ok()?)) {

@@ -1,6 +1,7 @@
 //! Damage to nodes on the image. Only damage on whose refusal both agree stays in the script.
 
 use super::writer::{Stop, Writer};
+use crate::strict::u16_at;
 use crate::words::hex;
 
 /// A change of a few bytes in a node, with the place where it goes.
@@ -31,10 +32,37 @@ fn change(w: &mut Writer, block: &[u8]) -> (usize, Vec<u8>) {
     }
 }
 
+/// A change after which one clause of 2, 6, 8 or 9 holds, in most cases alone.
+fn clause(w: &mut Writer, block: &[u8]) -> (usize, Vec<u8>) {
+    let flags = block[32];
+    let end = block.len() - if flags & 1 != 0 { 40 } else { 0 };
+    let slot = if flags & 4 != 0 { 4 } else { 8 };
+    let first = 56 + u16_at(block, 40);
+    let Some([one, two]) = block.get(first..first + 2 * slot).map(|b| [&b[..slot], &b[slot..]]) else { return (32, vec![flags ^ 2]) };
+    match w.random.below(10) {
+        0 => (32, vec![flags ^ 1]),
+        1 => (32, vec![flags ^ 2]),
+        2 => (32, vec![flags ^ 4]),
+        3 => (42, ((end + 1).saturating_sub(first) as u16).to_le_bytes().to_vec()),
+        4 => (36, vec![0; 4]),
+        5 => (first, [two, two].concat()),
+        6 => (first, [two, one].concat()),
+        7 => (34, vec![33]),
+        8 => (first + slot / 2, vec![1 + w.random.below(7) as u8, 0]),
+        // Where the first value lies: of an index node the child, an address that is far or wraps.
+        _ => {
+            let at = end.saturating_sub(u16_at(one, slot / 2)).min(block.len() - 8);
+            let far = *w.random.pick(&[w.plan.blocks, (1 << 55) + 2, u64::MAX]);
+            (at, far.to_le_bytes().to_vec())
+        }
+    }
+}
+
 /// The lines that damage a node: sealed again in most cases, else its sum is wrong.
 fn lines(w: &mut Writer, addr: u64) -> Option<Vec<String>> {
     let mut block = w.engine.disk()?.block(addr)?.to_vec();
-    let (at, bytes) = change(w, &block.clone());
+    let one_clause = w.plan.clauses && w.random.chance(80);
+    let (at, bytes) = if one_clause { clause(w, &block.clone()) } else { change(w, &block.clone()) };
     let end = (at + bytes.len()).min(block.len());
     block[at..end].copy_from_slice(&bytes[..end - at]);
     let mut out = vec![format!("(block {addr} {})", hex(&block[..end]))];

@@ -2,7 +2,7 @@
 
 use super::plan::Plan;
 use crate::random::Random;
-use crate::strict::compare;
+use crate::strict::{compare, u64_at};
 use crate::words::{Key, Order, Value};
 
 fn pair(a: u64, b: u64) -> Key {
@@ -69,6 +69,24 @@ pub fn wanted(r: &mut Random, p: &Plan) -> Key {
         _ => {}
     }
     k
+}
+
+/// The least key above another of the tree, or the least of all.
+pub fn just_above(p: &Plan, before: Option<&Key>) -> Option<Key> {
+    match (p.order, p.fixed, before) {
+        (Order::Pair, _, None) => Some(vec![0; 16]),
+        (Order::Pair, _, Some(k)) => Some(pair(u64_at(k, 0), u64_at(k, 8).checked_add(1)?)),
+        (Order::Byte, Some((length, _)), None) => Some(vec![0; length]),
+        (Order::Byte, None, None) => Some(Vec::new()),
+        (Order::Byte, None, Some(k)) => Some([k.as_slice(), &[0]].concat()),
+        (Order::Byte, Some(_), Some(k)) => {
+            let kept = k.iter().rposition(|&x| x != 255)?;
+            let mut next = k.clone();
+            next[kept] += 1;
+            next[kept + 1..].fill(0);
+            Some(next)
+        }
+    }
 }
 
 pub fn value(r: &mut Random, p: &Plan) -> Value {

@@ -7,7 +7,7 @@ use super::plan::Plan;
 use super::writer::{Stop, Writer};
 use crate::random::Random;
 use crate::strict::compare;
-use crate::words::{hex, Key, Value};
+use crate::words::{hex, Key, Order, Value};
 use std::cmp::Ordering;
 
 /// A node that has its place already: what its parent needs to know, and its own text.
@@ -68,10 +68,13 @@ impl Tree<'_> {
     /// An index key for a child: its first key or, from another writer, one above the child before it.
     fn index_key(&mut self, before: Option<&Key>, first: &Key) -> Key {
         let cmp = compare(self.w.plan.order);
-        if self.exact_keys || self.w.random.chance(60) {
+        if self.exact_keys || self.w.random.chance(if self.w.plan.low_keys { 20 } else { 60 }) {
             return first.clone();
         }
-        let k = entries::key(&mut self.w.random, &self.w.plan);
+        let k = match self.w.plan.low_keys {
+            true => entries::just_above(&self.w.plan, before).unwrap_or_else(|| first.clone()),
+            false => entries::key(&mut self.w.random, &self.w.plan),
+        };
         let above = before.is_none_or(|b| cmp(b, &k) == Ordering::Less);
         if above && cmp(&k, first) != Ordering::Greater { k } else { first.clone() }
     }
@@ -81,7 +84,8 @@ impl Tree<'_> {
         let (mut up, mut tops): (Vec<(Key, Value)>, Vec<Key>) = (Vec::new(), Vec::new());
         let mut at = 0;
         while at < list.len() {
-            let n = share(&mut self.w.random, &self.w.plan, &list[at..], if level > 0 { 2 } else { 1 });
+            let single = level > 0 && self.w.plan.chains && self.w.random.chance(60);
+            let n = if single { 1 } else { share(&mut self.w.random, &self.w.plan, &list[at..], if level > 0 { 2 } else { 1 }) };
             let placed = self.write(level, false, &list[at..at + n], greatest[at + n - 1].clone())?;
             let key = self.index_key(tops.last(), &placed.first);
             up.push((key, Some(placed.id.to_le_bytes().to_vec())));
@@ -108,17 +112,35 @@ fn addresses(w: &mut Writer) -> Vec<u64> {
     list
 }
 
-/// Lays a tree out on the image.
+/// Lays a tree of drawn entries out on the image.
 pub fn plant(w: &mut Writer, root_id: u64, exact_keys: bool) -> Result<LaidOut, Stop> {
     let list = entries::rising(&mut w.random, &w.plan);
-    let (key, value) = longest(&list);
     let addresses = addresses(w);
+    of_entries(w, root_id, exact_keys, list, addresses)
+}
+
+/// Lays an object map out at the addresses given: a physical pair tree of 16 and 16 bytes in the tree's stead.
+pub fn plant_map(w: &mut Writer, list: Vec<(Key, Value)>, addresses: Vec<u64>) -> Result<LaidOut, Stop> {
+    let tree = w.plan.clone();
+    w.plan.order = Order::Pair;
+    w.plan.fixed = Some((16, 16));
+    w.plan.is_virtual = false;
+    // The Rust finds a mapping only where every index key is its child's first key.
+    let exact_keys = !w.plan.whole_ground;
+    let map = of_entries(w, 0, exact_keys, list, addresses);
+    w.plan = tree;
+    map
+}
+
+fn of_entries(w: &mut Writer, root_id: u64, exact_keys: bool, list: Vec<(Key, Value)>, addresses: Vec<u64>) -> Result<LaidOut, Stop> {
+    let (key, value) = longest(&list);
     let counts = (list.len() as u64, 1, key, value);
     let mut t = Tree { w, addresses, nodes: Vec::new(), root_id, exact_keys, counts };
     let mut greatest: Vec<Key> = list.iter().map(|e| e.0.clone()).collect();
     let (mut level, mut list) = (0, list);
     let grow = t.w.random.chance(70) && list.len() > 1;
-    while !fits_root(&t.w.plan, &list) || (level == 0 && grow) {
+    let levels = if t.w.plan.chains { 1 + t.w.random.length(3) as u16 } else { 0 };
+    while !fits_root(&t.w.plan, &list) || (level == 0 && grow) || (level < levels && !list.is_empty()) {
         (list, greatest) = t.level(level, &list, &greatest)?;
         level += 1;
         // The whole tree need not be fuller than the image allows.

@@ -22,6 +22,8 @@ struct Subject {
     map: Option<u64>,
     /// Addresses where nodes of it have stood.
     addresses: Vec<u64>,
+    /// Addresses of the nodes of a map that was laid out, or the map's root.
+    map_addresses: Vec<u64>,
 }
 
 const ROOT_ID: u64 = 1000;
@@ -67,12 +69,16 @@ fn plant(w: &mut Writer) -> Result<Subject, Stop> {
     };
     let addresses = nodes.nodes.iter().map(|n| n.1).collect();
     if !w.plan.is_virtual {
-        return Ok(Subject { root: nodes.root, map: None, addresses });
+        return Ok(Subject { root: nodes.root, map: None, addresses, map_addresses: Vec::new() });
+    }
+    if let Some(others) = w.plan.map_entries {
+        let (map, map_addresses) = mapping::laid_out(w, &nodes.nodes, others)?;
+        return Ok(Subject { root: nodes.root, map: Some(map), addresses, map_addresses });
     }
     let map = mapping::begin(w, 0)?;
     let moved: Vec<u64> = nodes.nodes.iter().flat_map(|n| [n.0, n.1]).collect();
     let map = mapping::update(w, map, &[], &moved)?;
-    Ok(Subject { root: nodes.root, map: Some(map), addresses })
+    Ok(Subject { root: nodes.root, map: Some(map), addresses, map_addresses: vec![map] })
 }
 
 fn empty(w: &mut Writer) -> Result<laid_out::LaidOut, Stop> {
@@ -121,6 +127,9 @@ fn round(w: &mut Writer, tree: &mut Subject) -> Result<(), Stop> {
     if w.plan.shape == Shape::Damage && w.random.chance(50) {
         damage::some(w, &tree.addresses.clone(), &open)?;
     }
+    if w.plan.map_damage && w.random.chance(40) {
+        damage::some(w, &tree.map_addresses.clone(), &open)?;
+    }
     odd_open(w, tree)?;
     w.need(open.clone())?;
     if w.random.chance(10) {
@@ -145,7 +154,9 @@ fn round(w: &mut Writer, tree: &mut Subject) -> Result<(), Stop> {
     tree.root = flushed.root;
     tree.addresses.extend(w.engine.written());
     if let Some(map) = tree.map {
-        tree.map = Some(mapping::update(w, map, &flushed.removed, &flushed.moved)?);
+        let map = mapping::update(w, map, &flushed.removed, &flushed.moved)?;
+        tree.map = Some(map);
+        tree.map_addresses.push(map);
         encrypt(w, tree, &flushed.moved)?;
     }
     Ok(())

@@ -38,6 +38,16 @@ pub struct Plan {
     pub entries: usize,
     /// Nothing is left out: the script is for document 01 alone.
     pub whole_ground: bool,
+    /// Index keys of laid-out trees lie as low as they can.
+    pub low_keys: bool,
+    /// Laid-out index nodes have single children, and there are more levels than the entries need.
+    pub chains: bool,
+    /// The map of a virtual tree is laid out too, with so many mappings of other ids.
+    pub map_entries: Option<u64>,
+    /// Nodes of the map are damaged.
+    pub map_damage: bool,
+    /// Damage is mostly one clause of a refusal alone.
+    pub clauses: bool,
 }
 
 fn size(r: &mut Random) -> usize {
@@ -107,6 +117,12 @@ impl Plan {
             longest_value: number("longest-value", *r.pick(&[0, 8, 24, 60, size as u64 / 4, size as u64 / 2]))? as usize,
             whole_ground: is_whole_ground(options),
             entries: number("entries", *r.pick(&[3, 15, small, size as u64 / 10]))? as usize,
+            // Never drawn, so that a seed gives the script that it always gave.
+            low_keys: number("low-keys", 0)? != 0,
+            chains: number("chains", 0)? != 0,
+            map_entries: option("map-entries").map(|_| number("map-entries", 0)).transpose()?,
+            map_damage: number("map-damage", 0)? != 0,
+            clauses: number("clauses", 0)? != 0,
         })
     }
 }

@@ -158,9 +158,12 @@ impl Tree {
         self.form.fits(slot == self.root, n.level, &n.lengths())
     }
 
+    /// The tightest of the bounds of all nodes above, also where keys are not nested.
     pub fn child_bounds(&self, slot: usize, i: usize, above: &Bounds) -> Bounds {
-        let keys = &self.nodes[slot].keys;
-        (Some(keys[i].clone()), keys.get(i + 1).cloned().or_else(|| above.1.clone()))
+        let (keys, less) = (&self.nodes[slot].keys, |a: &Key, b: &Key| self.order(a, b) == Ordering::Less);
+        let lower = above.0.clone().filter(|l| less(&keys[i], l)).unwrap_or_else(|| keys[i].clone());
+        let upper = above.1.clone().filter(|u| keys.get(i + 1).is_none_or(|k| less(u, k))).or_else(|| keys.get(i + 1).cloned());
+        (Some(lower), upper)
     }
 
     /// The slot of a child, loaded if it is not.
