@@ -1,6 +1,7 @@
 // The calls of the library beside the Rust's own editor, on open trees of the same entries: both are asked the same, in turns, and the best
 // pass of each counts. Ratios are Rattle to Rust: above 1 the proved code is the faster.
 mod ours;
+mod through;
 mod tree;
 
 use ours::Ours;
@@ -10,12 +11,12 @@ use tree::{Kind, Theirs, Trees};
 
 pub type Key = Vec<u8>;
 
-const PASSES: usize = 60;
+pub const PASSES: usize = 60;
 const SAMPLE: usize = 512;
 const NEW: usize = 32;
 
 // Each of two passes, the best of many, in turns.
-fn turns(passes: usize, mut a: impl FnMut() -> Duration, mut b: impl FnMut() -> Duration) -> (Duration, Duration) {
+pub fn turns(passes: usize, mut a: impl FnMut() -> Duration, mut b: impl FnMut() -> Duration) -> (Duration, Duration) {
     let mut best = (Duration::MAX, Duration::MAX);
     for _ in 0..passes {
         best = (best.0.min(a()), best.1.min(b()));
@@ -42,13 +43,13 @@ pub fn clock() -> Duration {
     Duration::new(t.seconds as u64, t.nanos as u32)
 }
 
-fn timed(f: impl FnOnce()) -> Duration {
+pub fn timed(f: impl FnOnce()) -> Duration {
     let t = clock();
     f();
     clock() - t
 }
 
-fn say(name: &str, count: usize, (theirs, ours): (Duration, Duration)) {
+pub fn say(name: &str, count: usize, (theirs, ours): (Duration, Duration)) {
     let each = |t: Duration| t.as_secs_f64() * 1e6 / count as f64;
     println!("  {name:22} Rust {:9.3} us, Rattle {:9.3} us, ratio {:6.2}", each(theirs), each(ours), each(theirs) / each(ours));
 }
@@ -154,6 +155,7 @@ fn main() {
             lookups(&t, &mut theirs, &mut ours, nodes <= 1000);
             edits(&t, &mut theirs, &mut ours, nodes <= 1000);
             drop((theirs, ours));
+            through::run(&t, slots);
             flushes(&mut t, slots, 100.min(nodes * 3 / 4));
         }
     }

@@ -18,7 +18,7 @@ macro_rules! lookups {
         key: *const u8, key_len: usize, out: *mut u8, out_len: usize, answer: *mut u64, answer_len: usize,
     ) -> u64;)* } };
 }
-lookups!(moachest_get, moachest_get_trusted, moachest_floor, moachest_floor_trusted);
+lookups!(moachest_get, moachest_get_trusted, moachest_floor_trusted);
 
 macro_rules! edits {
     ($($name:ident ( $($arg:ident : $t:ty),* )),* $(,)?) => { extern "C" { $(fn $name(
@@ -29,9 +29,7 @@ macro_rules! edits {
 edits!(
     moachest_upsert(key: *const u8, key_len: usize, is_ghost: u64, value: *const u8, value_len: usize),
     moachest_upsert_trusted(key: *const u8, key_len: usize, is_ghost: u64, value: *const u8, value_len: usize),
-    moachest_remove(key: *const u8, key_len: usize, answer: *mut u64, answer_len: usize),
     moachest_remove_trusted(key: *const u8, key_len: usize, answer: *mut u64, answer_len: usize),
-    moachest_omap_put(id: u64, xid: u64, address: u64, length: u64),
     moachest_omap_put_trusted(id: u64, xid: u64, address: u64, length: u64),
 );
 
@@ -124,7 +122,7 @@ macro_rules! lookup {
         }
     )* } };
 }
-lookup!(get_checked moachest_get, get moachest_get_trusted, floor_checked moachest_floor, floor moachest_floor_trusted);
+lookup!(get_checked moachest_get, get moachest_get_trusted, floor moachest_floor_trusted);
 
 macro_rules! edit {
     ($name:ident $call:ident ( $($arg:ident : $t:ty),* ) $($pass:expr),*) => { impl Ours {
@@ -144,9 +142,7 @@ macro_rules! edit {
 edit!(upsert moachest_upsert_trusted(key: &[u8], value: &[u8]) key.as_ptr(), key.len(), 0, value.as_ptr(), value.len());
 edit!(upsert_checked moachest_upsert(key: &[u8], value: &[u8]) key.as_ptr(), key.len(), 0, value.as_ptr(), value.len());
 edit!(remove moachest_remove_trusted(key: &[u8]) key.as_ptr(), key.len(), [0u64; 8].as_mut_ptr(), 8);
-edit!(remove_checked moachest_remove(key: &[u8]) key.as_ptr(), key.len(), [0u64; 8].as_mut_ptr(), 8);
 edit!(put moachest_omap_put_trusted(id: u64, xid: u64, address: u64, length: u64) id, xid, address, length);
-edit!(put_checked moachest_omap_put(id: u64, xid: u64, address: u64, length: u64) id, xid, address, length);
 
 impl Ours {
     // Loads every node between two keys; how many entries there are.
