@@ -1,0 +1,2 @@
+-- What the proofs share: tests taken back to what they say.
+mod Laws
