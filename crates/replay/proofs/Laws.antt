@@ -1,5 +1,5 @@
 -- What the program tests, taken back to what the crates below require. Assumes nothing.
-use mathlib.Core.Path.{_≡_, sym, ap, _∙_}
+use mathlib.Core.Path.{_≡_, refl, sym, ap, _∙_}
 use mathlib.Core.List.{List}
 use mathlib.Core.Bool.{Bool, true, false, not}
 use Prim.Native.Nat.{ℕ, _-_, _/_, _≤_}
@@ -32,6 +32,10 @@ sized t a b k v = record { least = a; most = b; key = omega arith; value = omega
 pub no-records : (l : List ℕ) → recordsLength 0 l ≤ length l
 unfolding recordsLength
 no-records l = search needs
+
+pub none-used : (l : List ℕ) → 0 ≡ recordsLength 0 l
+unfolding recordsLength
+none-used l = refl
 
 -- ---- a node's areas
 

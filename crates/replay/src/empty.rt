@@ -65,7 +65,7 @@ fn pack_none(block: &mut [u8], b: NodeBuild) -> bool {
         return false;
     }
     let none = [0u8; 8];
-    if !fit::fits(&none, 0, info, b.root, b.level) {
+    if !fit::fits(&none, 0, 0, info, b.root, b.level) {
         return false;
     }
     let heads = [0u64; 9];

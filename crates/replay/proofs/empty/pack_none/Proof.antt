@@ -2,7 +2,7 @@
 use borrow.Author.Needs.{needs}
 use Rattle.replay.proofs.empty.pack_none.Statement.{statement}
 use Rattle.replay.proofs.empty.pack_none.Tie as tie
-use Rattle.replay.proofs.Laws.{sized, no-records, held}
+use Rattle.replay.proofs.Laws.{sized, no-records, none-used, held}
 
 ruleset laws = (needs, sized, no-records, held)
 
@@ -25,7 +25,7 @@ slice-aggregate-fits : tie.Need-slice-aggregate-fits
 slice-aggregate-fits c = search laws
 
 fits-requires : tie.Need-fits-requires
-fits-requires c κs = (search laws, no-records _, search laws)
+fits-requires c κs = ((search laws, no-records _, search laws), none-used _)
 
 returns-6 : tie.Need-returns-6
 returns-6 c = search laws
