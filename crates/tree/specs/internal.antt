@@ -23,4 +23,5 @@ pub mod Upserting
 pub mod Removing
 pub mod Kids
 pub mod Loaded
+pub mod Still
 pub mod Block

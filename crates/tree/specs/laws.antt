@@ -114,3 +114,5 @@ pub mod NodeSlots
 pub mod BlockLaws
 pub mod LoadedLaws
 pub mod LoadedCalls
+pub mod StillLaws
+pub mod StillSteps

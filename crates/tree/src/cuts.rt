@@ -98,7 +98,7 @@ impl Tree {
     }
 
     // Whether the node of a slot needs no cut: it is dead, or it fits.
-    fn fits_at(self, heads: &[u64], bytes: &[u8], size: usize, slots: usize, n: usize) -> bool
+    pub fn fits_at(self, heads: &[u64], bytes: &[u8], size: usize, slots: usize, n: usize) -> bool
         requires { ⌜ Ready size slots (self .used) (now heads) (now bytes) ⌝ }
         requires { ⌜ Sized (self .info) × (n < self .used) ⌝ }
         ensures { λ r. ⌜ r ≡ staysWhole (stateOf size self (now (heads .entry)) (now (bytes .entry))) n ⌝ }

@@ -20,6 +20,7 @@ pub mod map;
 pub mod omap;
 pub mod range;
 pub mod remove;
+pub mod still;
 pub mod undo;
 pub mod upsert;
 pub mod way;

@@ -8,6 +8,7 @@ use crate::editor::Loaded;
 use crate::editor::Tree;
 use crate::lent;
 use crate::lent::Lent;
+use crate::still::Still;
 use crate::undo;
 use crate::way::Went;
 use crate::writers;
@@ -37,7 +38,7 @@ ghost use Rattle.tree.specs.internal.Edits.{Trusts, ReadyEdited, ReadyRe
 ghost use Rattle.tree.specs.internal.Removing.{deadPut, childDropped, DropFits, DropRoom, Emptied, takenOn, shrunkAt, removedAt, OnWay, SameUsed, Handed};
 
 // A tree's numbers with other counts.
-fn recounted(info: BTreeInfo, keys: u64, nodes: u64) -> BTreeInfo
+pub fn recounted(info: BTreeInfo, keys: u64, nodes: u64) -> BTreeInfo
     ensures { λ r. ⌜ r ≡ withCounts info keys nodes ⌝ }
 {
     BTreeInfo {
@@ -254,7 +255,7 @@ impl Tree {
     }
 
     // An index root with one child.
-    fn has_only_child(self, heads: &[u64], bytes: &[u8], size: usize, slots: usize) -> bool
+    pub fn has_only_child(self, heads: &[u64], bytes: &[u8], size: usize, slots: usize) -> bool
         requires { ⌜ Ready size slots (self .used) (now heads) (now bytes) ⌝ }
         ensures { λ r. ⌜ r ≡ hasOnlyChild (stateOf size self (now (heads .entry)) (now (bytes .entry))) ⌝ }
     {
@@ -483,8 +484,8 @@ impl Tree {
         }
     }
 
-    // remove on slots that are trusted: 12; the edit. Refused, every slot is as it was.
-    pub fn remove_in(
+    // remove on slots that are trusted, whatever it changes.
+    fn remove_down(
         self,
         image: &[u8],
         heads: &mut [u64],
@@ -514,6 +515,31 @@ impl Tree {
             }
             Removed::Yes(t) => Removed::Yes(t),
             Removed::No(t) => Removed::No(t),
+        }
+    }
+
+    // remove on slots that are trusted: 12; the edit. Refused, every slot is as it was.
+    pub fn remove_in(
+        self,
+        image: &[u8],
+        heads: &mut [u64],
+        bytes: &mut [u8],
+        lent: Lent,
+        key: &[u8],
+        scratch: &mut [u8],
+    ) -> Removed
+        requires trusts { ⌜ Trusts (now image) lent self (now heads) (now bytes) ⌝ }
+        requires room { ⌜ 2 * lent .size ≤ length (now scratch) ⌝ }
+        ensures answer { λ r. ⌜ removedOf (lent .size) (now (heads .exit)) (now (bytes .exit)) r
+            ≡ removeIn (lentOf (now (image .entry)) lent) (stateOf (lent .size) self (now (heads .entry)) (now (bytes .entry)))
+            (now (key .entry)) ⌝ }
+        ensures left { λ r. ⌜ RemovedCalled (now (image .entry)) lent self (now (heads .entry)) (now (bytes .entry))
+            (now (heads .exit)) (now (bytes .exit)) r ⌝ }
+    {
+        let still = self.remove_still(heads, bytes, lent, key);
+        match still {
+            Still::Yes(t) => Removed::Yes(t),
+            Still::Not => self.remove_down(image, heads, bytes, lent, key, scratch),
         }
     }
 

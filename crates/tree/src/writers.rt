@@ -11,7 +11,7 @@ ghost use Rattle.node.specs.Bytes.{splice};
 ghost use Rattle.node.specs.Records.{recordsLength, markLength, valueOf};
 ghost use Rattle.node.specs.Slot.{headAt, headWords, insertAt, removeAt, withKey, withValue};
 ghost use Rattle.tree.specs.Workspace.{slotBytes};
-ghost use Rattle.tree.specs.internal.Bank.{nodeIn, live, Ready, Put};
+ghost use Rattle.tree.specs.internal.Bank.{nodeIn, live, Ready, Wrote, Put};
 ghost use Rattle.tree.specs.internal.Undo.{Follows};
 ghost use Rattle.tree.specs.internal.Writers.{recounted, edited};
 
@@ -109,7 +109,33 @@ pub fn insert_at(
     recount(heads, n, h.count + 1, more as u64, dirty);
 }
 
-// Entry i of slot n, which starts at byte `at`, taken out.
+// Entry i of slot n, which starts at byte `at`, taken out. The slot is saved, or need not be.
+pub fn take_at(
+    heads: &mut [u64],
+    bytes: &mut [u8],
+    size: usize,
+    slots: usize,
+    used: usize,
+    n: usize,
+    i: u64,
+    at: usize,
+    dirty: bool,
+)
+    requires ready { ⌜ Ready size slots used (now heads) (now bytes) ⌝ }
+    requires place { ⌜ (n < used) × (i < live (headAt (now heads) n) .count)
+        × (at ≡ recordsLength i (slotBytes size (now bytes) n)) ⌝ }
+    ensures { λ _. ⌜ Wrote size (now (heads .entry)) (now (bytes .entry)) (now (heads .exit)) (now (bytes .exit)) n
+        (edited dirty (nodeIn size (now (heads .entry)) (now (bytes .entry)) n)
+        (removeAt i (nodeIn size (now (heads .entry)) (now (bytes .entry)) n .entries))) ⌝ }
+{
+    let h = bank::live_at(heads, n);
+    let a = n * (bank::SLOT_BLOCKS * size);
+    let e = a + bank::SLOT_BLOCKS * size;
+    let more = slot::remove(&mut bytes[a..e], h.count, i, h.used as usize, at);
+    recount(heads, n, h.count - 1, more as u64, dirty);
+}
+
+// Entry i of slot n, which starts at byte `at`, taken out of a slot that is saved first.
 pub fn remove_at(
     heads: &mut [u64],
     bytes: &mut [u8],
@@ -130,11 +156,7 @@ pub fn remove_at(
     ensures follows { λ _. ⌜ Follows size slots used (now (heads .entry)) (now (bytes .entry)) (now (heads .exit)) (now (bytes .exit)) ⌝ }
 {
     undo::save(heads, bytes, size, slots, used, n);
-    let h = bank::live_at(heads, n);
-    let a = n * (bank::SLOT_BLOCKS * size);
-    let e = a + bank::SLOT_BLOCKS * size;
-    let more = slot::remove(&mut bytes[a..e], h.count, i, h.used as usize, at);
-    recount(heads, n, h.count - 1, more as u64, dirty);
+    take_at(heads, bytes, size, slots, used, n, i, at, dirty);
 }
 
 // Entry i of slot n, which starts at byte `at`, with another key.

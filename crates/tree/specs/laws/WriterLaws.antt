@@ -78,24 +78,18 @@ unfolding recounted
 edited-words true count used h e = live-words (recounted true count used h) ∙ dirty-words h count used (sym (live-words h) ∙ e)
 edited-words false count used h e = live-words (recounted false count used h) ∙ same-words h count used (sym (live-words h) ∙ e)
 
--- ---- a slot saved, then written
+-- ---- a slot written
 
-module _ (size slots used n : ℕ) (h0 b0 h1 b1 : List ℕ) (r : Ready size slots used h0 b0) (hn : n < used) (s : Saved size slots used h0 b0 h1 b1 n)
-    (el : length h1 ≡ length h0) (eb : length b1 ≡ length b0) where
-  again : Ready size slots used h1 b1
-  again = saved-ready size slots used n h0 b0 h1 b1 s r el eb
+module _ (size slots used n : ℕ) (h1 b1 : List ℕ) (again : Ready size slots used h1 b1) (hn : n < used) where
+  pub slot-words : (n + 1) * 9 ≤ length h1
+  slot-words = omega (arith, again .words, again .within)
 
-  below : n < slots
-  below = omega (arith, r .within)
+  pub slot-part : n * (4 * size) + 4 * size ≤ length b1
+  slot-part = ready-part size slots used h1 b1 n again hn
 
-  pub writer-words : (n + 1) * 9 ≤ length h1
-  writer-words = omega (arith, again .words, below)
-
-  pub writer-part : n * (4 * size) + 4 * size ≤ length b1
-  writer-part = ready-part size slots used h1 b1 n again hn
-
-  pub writer-end : n * (4 * size) + 4 * size < 2 ^ 32
-  writer-end = let p : n * (4 * size) ≤ 4096 * (4 * size) = mul-le-mul-right (4 * size) (omega (arith, r .many, below)) in omega (arith, r .most)
+  pub slot-end : n * (4 * size) + 4 * size < 2 ^ 32
+  slot-end =
+      let p : n * (4 * size) ≤ 4096 * (4 * size) = mul-le-mul-right (4 * size) (omega (arith, again .many, again .within)) in omega (arith, again .most)
 
   module _ (h : Head) (eh : h ≡ live (headAt h1 n)) (k : ℕ) (ek : k ≡ 4 * size) where
     abbrev l : List ℕ
@@ -104,54 +98,42 @@ module _ (size slots used n : ℕ) (h0 b0 h1 b1 : List ℕ) (r : Ready size slot
     is : l ≡ slotBytes size b1 n
     is = part-is size b1 n k ek
 
-    as-before : h ≡ live (headAt h0 n)
-    as-before = eh ∙ ap live (s .words n below)
-
     held : Lies size h l
     held = rw (eh, is) (again .lies n hn)
 
-    pub writer-long : length l ≡ 4 * size
-    writer-long = ap length is ∙ part-long size b1 n writer-part
+    pub slot-long : length l ≡ 4 * size
+    slot-long = ap length is ∙ part-long size b1 n slot-part
 
-    pub writer-used : h .used ≡ recordsLength (h .count) l
-    writer-used = held .used
+    pub slot-taken : h .used ≡ recordsLength (h .count) l
+    slot-taken = held .used
 
-    pub writer-within : recordsLength (h .count) l ≤ length l
-    writer-within = omega (arith, held .room, writer-long)
+    pub slot-within : recordsLength (h .count) l ≤ length l
+    slot-within = omega (arith, held .room, slot-long)
 
-    pub writer-at : (i at : ℕ) → at ≡ recordsLength i (slotBytes size b0 n) → at ≡ recordsLength i l
-    writer-at i at q = q ∙ ap (recordsLength i) (sym (is ∙ s .parts n below))
+    pub slot-at : (i at : ℕ) → at ≡ recordsLength i (slotBytes size b1 n) → at ≡ recordsLength i l
+    slot-at i at q = q ∙ ap (recordsLength i) (sym is)
 
-    pub writer-upto : (i : ℕ) → i ≤ live (headAt h0 n) .count → i ≤ h .count
-    writer-upto i q = rw as-before q
+    pub slot-index : (i : ℕ) → i < live (headAt h1 n) .count → i < h .count
+    slot-index i q = rw eh q
 
-    pub writer-index : (i : ℕ) → i < live (headAt h0 n) .count → i < h .count
-    writer-index i q = rw as-before q
+    pub slot-count : h .count < 2 ^ 32
+    slot-count = omega (arith, held .room, records-least (h .count) l, again .most)
 
-    pub writer-room : (more : ℕ) → live (headAt h0 n) .used + more ≤ 4 * size → h .used + more ≤ length l
-    writer-room more q = omega (arith, ap (λ (x : Head). x .used) as-before, writer-long)
-
-    pub writer-most : (more : ℕ) → live (headAt h0 n) .used + more ≤ 4 * size → h .used + more ≤ 4 * size
-    writer-most more q = omega (arith, ap (λ (x : Head). x .used) as-before)
-
-    pub writer-count : h .count < 2 ^ 32
-    writer-count = omega (arith, held .room, records-least (h .count) l, again .most)
-
-    pub writer-small : h .used ≤ 4 * size
-    writer-small = omega (arith, held .room, held .used)
+    pub slot-small : h .used ≤ 4 * size
+    slot-small = omega (arith, held .room, held .used)
 
     entries-are : entriesOf (h .count) l ≡ nodeIn size h1 b1 n .entries
     unfolding nodeIn
     entries-are = rw (eh, is) (sym (live-entries (headAt h1 n) (slotBytes size b1 n)))
 
     -- other records in the slot
-    module _ (dirty : Bool) (count more : ℕ) (f : List Entry → List Entry) (d h2 b2 : List ℕ) (alive : nodeIn size h0 b0 n .dead ≡ false)
+    module _ (dirty : Bool) (count more : ℕ) (f : List Entry → List Entry) (d h2 b2 : List ℕ) (alive : nodeIn size h1 b1 n .dead ≡ false)
         (em : recordsLength count d ≡ more) (hm : more ≤ 4 * size) (ee : entriesOf count d ≡ f (entriesOf (h .count) l)) (ed : length d ≡ k)
         (e2 : b2 ≡ take (n * (4 * size)) b1 ++ (d ++ drop k (drop (n * (4 * size)) b1)))
         (eh2 : h2 ≡ splice h1 (n * 9) (headWords (recounted dirty count more (headAt h1 n)))) where
       lives : eqb (headAt h1 n .dead) 1 ≡ false
       unfolding nodeIn nodeOf
-      lives = ap (λ (x : Head). eqb (x .dead) 1) (s .words n below) ∙ alive
+      lives = alive
 
       whole : b2 ≡ splice b1 (n * (4 * size)) d
       whole = part-given size b1 b2 d n k ek ed e2
@@ -160,10 +142,10 @@ module _ (size slots used n : ℕ) (h0 b0 h1 b1 : List ℕ) (r : Ready size slot
       wide = ed ∙ ek
 
       there : slotBytes size b2 n ≡ d
-      there = ap (λ (x : List ℕ). slotBytes size x n) whole ∙ part-same size b1 d n wide writer-part
+      there = ap (λ (x : List ℕ). slotBytes size x n) whole ∙ part-same size b1 d n wide slot-part
 
       words : headAt h2 n ≡ recounted dirty count more (headAt h1 n)
-      words = ap (λ (x : List ℕ). headAt x n) eh2 ∙ head-same h1 n (recounted dirty count more (headAt h1 n)) writer-words
+      words = ap (λ (x : List ℕ). headAt x n) eh2 ∙ head-same h1 n (recounted dirty count more (headAt h1 n)) slot-words
 
       is-edited : nodeIn size h2 b2 n ≡ edited dirty (nodeIn size h1 b1 n) (f (nodeIn size h1 b1 n .entries))
       unfolding nodeIn
@@ -171,8 +153,8 @@ module _ (size slots used n : ℕ) (h0 b0 h1 b1 : List ℕ) (r : Ready size slot
           rw (there, words) (edited-node dirty count more (headAt h1 n) (slotBytes size b1 n) d lives)
           ∙ ap (edited dirty (nodeIn size h1 b1 n)) (ee ∙ ap f entries-are)
 
-      wrote : Wrote size h1 b1 h2 b2 n (edited dirty (nodeIn size h1 b1 n) (f (nodeIn size h1 b1 n .entries)))
-      wrote =
+      pub slot-wrote : Wrote size h1 b1 h2 b2 n (edited dirty (nodeIn size h1 b1 n) (f (nodeIn size h1 b1 n .entries)))
+      slot-wrote =
           record {
             node = is-edited;
             lies =
@@ -185,11 +167,79 @@ module _ (size slots used n : ℕ) (h0 b0 h1 b1 : List ℕ) (r : Ready size slot
                       edited-words dirty count more (headAt h1 n) (again .lies n hn .holds);
                 });
             words = λ j e. ap (λ (x : List ℕ). headAt x j) eh2
-                ∙ head-other h1 n j (recounted dirty count more (headAt h1 n)) writer-words (λ z. e (sym z));
-            parts = λ j e. ap (λ (x : List ℕ). slotBytes size x j) whole ∙ part-other size b1 d n wide writer-part j e;
+                ∙ head-other h1 n j (recounted dirty count more (headAt h1 n)) slot-words (λ z. e (sym z));
+            parts = λ j e. ap (λ (x : List ℕ). slotBytes size x j) whole ∙ part-other size b1 d n wide slot-part j e;
             after = λ j e. ap (λ (x : List ℕ). getD x j 0) eh2
-                ∙ word-after h1 n (recounted dirty count more (headAt h1 n)) j e (omega (arith, writer-words));
+                ∙ word-after h1 n (recounted dirty count more (headAt h1 n)) j e (omega (arith, slot-words));
           }
+
+-- ---- a slot saved, then written
+
+module _ (size slots used n : ℕ) (h0 b0 h1 b1 : List ℕ) (r : Ready size slots used h0 b0) (hn : n < used) (s : Saved size slots used h0 b0 h1 b1 n)
+    (el : length h1 ≡ length h0) (eb : length b1 ≡ length b0) where
+  again : Ready size slots used h1 b1
+  again = saved-ready size slots used n h0 b0 h1 b1 s r el eb
+
+  below : n < slots
+  below = omega (arith, r .within)
+
+  pub saved-start : (i at : ℕ) → at ≡ recordsLength i (slotBytes size b0 n) → at ≡ recordsLength i (slotBytes size b1 n)
+  saved-start i at q = q ∙ ap (recordsLength i) (sym (s .parts n below))
+
+  pub writer-words : (n + 1) * 9 ≤ length h1
+  writer-words = slot-words size slots used n h1 b1 again hn
+
+  pub writer-part : n * (4 * size) + 4 * size ≤ length b1
+  writer-part = slot-part size slots used n h1 b1 again hn
+
+  pub writer-end : n * (4 * size) + 4 * size < 2 ^ 32
+  writer-end = slot-end size slots used n h1 b1 again hn
+
+  module _ (h : Head) (eh : h ≡ live (headAt h1 n)) (k : ℕ) (ek : k ≡ 4 * size) where
+    as-before : h ≡ live (headAt h0 n)
+    as-before = eh ∙ ap live (s .words n below)
+
+    pub writer-long : length (take k (drop (n * (4 * size)) b1)) ≡ 4 * size
+    writer-long = slot-long size slots used n h1 b1 again hn h eh k ek
+
+    pub writer-used : h .used ≡ recordsLength (h .count) (take k (drop (n * (4 * size)) b1))
+    writer-used = slot-taken size slots used n h1 b1 again hn h eh k ek
+
+    pub writer-within : recordsLength (h .count) (take k (drop (n * (4 * size)) b1)) ≤ length (take k (drop (n * (4 * size)) b1))
+    writer-within = slot-within size slots used n h1 b1 again hn h eh k ek
+
+    pub writer-at : (i at : ℕ) → at ≡ recordsLength i (slotBytes size b0 n) → at ≡ recordsLength i (take k (drop (n * (4 * size)) b1))
+    writer-at i at q = slot-at size slots used n h1 b1 again hn h eh k ek i at (q ∙ ap (recordsLength i) (sym (s .parts n below)))
+
+    pub writer-upto : (i : ℕ) → i ≤ live (headAt h0 n) .count → i ≤ h .count
+    writer-upto i q = rw as-before q
+
+    pub writer-index : (i : ℕ) → i < live (headAt h0 n) .count → i < h .count
+    writer-index i q = rw as-before q
+
+    pub writer-room : (more : ℕ) → live (headAt h0 n) .used + more ≤ 4 * size → h .used + more ≤ length (take k (drop (n * (4 * size)) b1))
+    writer-room more q = omega (arith, ap (λ (x : Head). x .used) as-before, writer-long)
+
+    pub writer-most : (more : ℕ) → live (headAt h0 n) .used + more ≤ 4 * size → h .used + more ≤ 4 * size
+    writer-most more q = omega (arith, ap (λ (x : Head). x .used) as-before)
+
+    pub writer-count : h .count < 2 ^ 32
+    writer-count = slot-count size slots used n h1 b1 again hn h eh k ek
+
+    pub writer-small : h .used ≤ 4 * size
+    writer-small = slot-small size slots used n h1 b1 again hn h eh k ek
+
+    -- other records in the slot
+    module _ (dirty : Bool) (count more : ℕ) (f : List Entry → List Entry) (d h2 b2 : List ℕ) (alive : nodeIn size h0 b0 n .dead ≡ false)
+        (em : recordsLength count d ≡ more) (hm : more ≤ 4 * size) (ee : entriesOf count d ≡ f (entriesOf (h .count) (take k (drop (n * (4 * size)) b1))))
+        (ed : length d ≡ k) (e2 : b2 ≡ take (n * (4 * size)) b1 ++ (d ++ drop k (drop (n * (4 * size)) b1)))
+        (eh2 : h2 ≡ splice h1 (n * 9) (headWords (recounted dirty count more (headAt h1 n)))) where
+      still-lives : nodeIn size h1 b1 n .dead ≡ false
+      unfolding nodeIn nodeOf
+      still-lives = ap (λ (x : Head). eqb (x .dead) 1) (s .words n below) ∙ alive
+
+      wrote : Wrote size h1 b1 h2 b2 n (edited dirty (nodeIn size h1 b1 n) (f (nodeIn size h1 b1 n .entries)))
+      wrote = slot-wrote size slots used n h1 b1 again hn h eh k ek dirty count more f d h2 b2 still-lives em hm ee ed e2 eh2
 
       pub edit-put : Put size slots h0 b0 h2 b2 n (edited dirty (nodeIn size h0 b0 n) (f (nodeIn size h0 b0 n .entries)))
       edit-put =

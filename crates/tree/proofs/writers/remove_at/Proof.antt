@@ -1,113 +1,49 @@
--- `tree::writers::remove_at` meets its contract. Assumes nothing.
-use borrow.Author.Needs.{needs}
-use Prim.Native.Nat.{_+_, _-_, _*_}
-use mathlib.Core.Path.{_≡_, refl}
+use mathlib.Core.Path.{refl}
 use native.Mathlib.Omega.{arith}
-use Rattle.node.specs.Slot.{removeAt}
-use Rattle.tree.specs.laws.WriterLaws.{writer-words, writer-part, writer-end, writer-used, writer-within, writer-at, writer-index, writer-small, index-alive, edit-put, edit-follows}
+use Rattle.node.specs.Slot.{MemNode, removeAt}
+use Rattle.tree.specs.internal.Writers.{edited}
+use Rattle.tree.specs.laws.UndoLaws.{saved-ready, saved-index, saved-put-of, saved-follows}
+use Rattle.tree.specs.laws.WriterLaws.{saved-start}
+use borrow.Author.Needs.{needs}
 use Rattle.tree.proofs.writers.remove_at.Statement.{statement}
 use Rattle.tree.proofs.writers.remove_at.Tie as tie
+use Rattle.tree.proofs.writers.remove_at.Reads as reads
+use Rattle.tree.proofs.writers.remove_at.Lts as lts
+use Rattle.tree.proofs.undo.save.Reads as save-reads
+use Rattle.tree.proofs.writers.take_at.Reads as take-at-reads
 
+-- src/writers.rt:158:5
 save-requires : tie.Need-save-requires
 save-requires c κs = search needs
 
-live-at-requires : tie.Need-live-at-requires
-live-at-requires c κs = search needs
-
-mul-a : tie.Need-mul-a
-mul-a c = search needs
-
-mul-a-2 : tie.Need-mul-a-2
-mul-a-2 c =
-    let a = c .before .before .before .before .before .before .before .before .before .before .before .args in
+-- src/writers.rt:159:5
+take-at-requires : tie.Need-take-at-requires
+take-at-requires c κs =
     let p = c .before .before .before .before .before .before .before .before .before .before .before .pre in
-    let s = c .before .before .before .before .before .before .save in
-    omega (arith, writer-end _ _ _ _ _ _ _ _ (p .0) (p .1 .0) (s .ensures) (s .kept .0) (s .kept .1 .0))
-
-mul-e : tie.Need-mul-e
-mul-e c = search needs
-
-add-e : tie.Need-add-e
-add-e c =
-    let a = c .before .before .before .before .before .before .before .before .before .before .before .args in
-    let p = c .before .before .before .before .before .before .before .before .before .before .before .pre in
-    let s = c .before .before .before .before .before .before .save in
-    omega (arith, writer-end _ _ _ _ _ _ _ _ (p .0) (p .1 .0) (s .ensures) (s .kept .0) (s .kept .1 .0))
-
-sub-remove : tie.Need-sub-remove
-sub-remove c = search needs
-
-part-remove-start : tie.Need-part-remove-start
-part-remove-start c = search needs
-
-part-remove-end : tie.Need-part-remove-end
-part-remove-end c =
-    let a = c .before .before .before .before .before .before .before .before .before .before .before .args in
-    let p = c .before .before .before .before .before .before .before .before .before .before .before .pre in
-    let s = c .before .before .before .before .before .before .save in
-    omega (arith, writer-part _ _ _ _ _ _ _ _ (p .0) (p .1 .0) (s .ensures) (s .kept .0) (s .kept .1 .0))
-
-remove-requires : tie.Need-remove-requires
-remove-requires c κs =
-    let a = c .before .before .before .before .before .before .before .before .before .before .before .before .args in
-    let p = c .before .before .before .before .before .before .before .before .before .before .before .before .pre in
-    let s = c .before .before .before .before .before .before .before .save in
-    let k = a .n * (4 * a .size) + 4 * a .size - a .n * (4 * a .size) in
-    let ek : k ≡ 4 * a .size = omega arith in (
-      (writer-used _ _ _ _ _ _ _ _ (p .0) (p .1 .0) (s .ensures) (s .kept .0) (s .kept .1 .0) _ (c .before .live-at .ensures) k ek, writer-at _ _ _ _ _ _ _ _ (p .0) (p .1 .0) (s .ensures) (s .kept .0) (s .kept .1 .0) _ (c .before .live-at .ensures) k ek _ _ (p .1 .2), writer-index _ _ _ _ _ _ _ _ (p .0) (p .1 .0) (s .ensures) (s .kept .0) (s .kept .1 .0) _ (c .before .live-at .ensures) k ek _ (p .1 .1)),
-      writer-within _ _ _ _ _ _ _ _ (p .0) (p .1 .0) (s .ensures) (s .kept .0) (s .kept .1 .0) _ (c .before .live-at .ensures) k ek,
+    let s = c .before .before .before .before .before .before .save in (
+      saved-ready _ _ _ _ _ _ _ _ (s .ensures) (p .0) (s .kept .0) (s .kept .1 .0),
+      (p .1 .0, saved-index _ _ _ _ _ _ _ _ (s .ensures) _ (omega (arith, p .0 .within, p .1 .0)) (p .1 .1), saved-start _ _ _ _ _ _ _ _ (p .0) (p .1 .0) (s .ensures) (s .kept .0) (s .kept .1 .0) _ _ (p .1 .2)),
     )
 
-sub-recount : tie.Need-sub-recount
-sub-recount c =
-    let a = c .before .before .before .before .before .before .before .before .before .before .before .before .before .before .before .before .before .args in
-    let p = c .before .before .before .before .before .before .before .before .before .before .before .before .before .before .before .before .before .pre in
-    let s = c .before .before .before .before .before .before .before .before .before .before .before .before .save in
-    let k = a .n * (4 * a .size) + 4 * a .size - a .n * (4 * a .size) in
-    let ek : k ≡ 4 * a .size = omega arith in
-    omega (arith, writer-index _ _ _ _ _ _ _ _ (p .0) (p .1 .0) (s .ensures) (s .kept .0) (s .kept .1 .0) _ (c .before .before .before .before .before .before .live-at .ensures) k ek _ (p .1 .1))
-
-recount-requires : tie.Need-recount-requires
-recount-requires c κs =
-    let a = c .before .before .before .before .before .before .before .before .before .before .before .before .before .before .before .before .before .args in
-    let p = c .before .before .before .before .before .before .before .before .before .before .before .before .before .before .before .before .before .pre in
-    let s = c .before .before .before .before .before .before .before .before .before .before .before .before .save in
-    writer-words _ _ _ _ _ _ _ _ (p .0) (p .1 .0) (s .ensures) (s .kept .0) (s .kept .1 .0)
-
+-- src/writers.rt:139:1
 same-length : tie.Need-same-length
 same-length c = search needs
 
+-- src/writers.rt:139:1
 same-length-2 : tie.Need-same-length-2
 same-length-2 c = search needs
 
+-- src/writers.rt:139:1
 returns : tie.Need-returns
 returns c =
-    let a = c .before .before .before .before .before .before .before .before .before .before .before .before .before .before .before .before .before .before .before .before .args in
-    let p = c .before .before .before .before .before .before .before .before .before .before .before .before .before .before .before .before .before .before .before .before .pre in
-    let s = c .before .before .before .before .before .before .before .before .before .before .before .before .before .before .before .save in
-    let k = a .n * (4 * a .size) + 4 * a .size - a .n * (4 * a .size) in
-    let ek : k ≡ 4 * a .size = omega arith in
-    let q = c .before .before .before .before .before .before .before .remove .ensures in (
-      edit-put _ _ _ _ _ _ _ _ (p .0) (p .1 .0) (s .ensures) (s .kept .0) (s .kept .1 .0) _ (c .before .before .before .before .before .before .before .before .before .live-at .ensures) k ek _ _ _ (removeAt (a .i)) _ _ _ (index-alive _ _ _ _ _ (p .1 .1)) (q .0 .1) (omega (arith, q .0 .0, writer-small _ _ _ _ _ _ _ _ (p .0) (p .1 .0) (s .ensures) (s .kept .0) (s .kept .1 .0) _ (c .before .before .before .before .before .before .before .before .before .live-at .ensures) k ek)) (q .1) (search needs) refl (c .before .before .recount .ensures),
-      edit-follows _ _ _ _ _ _ _ _ (p .0) (p .1 .0) (s .ensures) (s .kept .0) (s .kept .1 .0) _ (c .before .before .before .before .before .before .before .before .before .live-at .ensures) k ek _ _ _ (removeAt (a .i)) _ _ _ (index-alive _ _ _ _ _ (p .1 .1)) (q .0 .1) (omega (arith, q .0 .0, writer-small _ _ _ _ _ _ _ _ (p .0) (p .1 .0) (s .ensures) (s .kept .0) (s .kept .1 .0) _ (c .before .before .before .before .before .before .before .before .before .live-at .ensures) k ek)) (q .1) (search needs) refl (c .before .before .recount .ensures),
+    let a = c .before .before .before .before .before .before .before .before .before .before .before .before .before .before .before .before .args in
+    let p = c .before .before .before .before .before .before .before .before .before .before .before .before .before .before .before .before .pre in
+    let s = c .before .before .before .before .before .before .before .before .before .before .before .save .ensures in
+    let w = c .before .before .before .before .take-at .ensures in (
+      saved-put-of _ _ _ _ _ _ _ _ s _ _ _ w (λ (m : MemNode). edited (a .dirty) m (removeAt (a .i) (m .entries))) (omega (arith, p .0 .within, p .1 .0)) refl,
+      saved-follows _ _ _ _ _ _ _ _ s _ _ _ w (p .1 .0) (p .0 .within),
     )
 
 pub remove-at-spec : {M : Type 1} → statement M
 remove-at-spec =
-    tie.close
-    (tie.spec
-    save-requires
-    live-at-requires
-    mul-a
-    mul-a-2
-    mul-e
-    add-e
-    sub-remove
-    part-remove-start
-    part-remove-end
-    remove-requires
-    sub-recount
-    recount-requires
-    same-length
-    same-length-2
-    returns)
+    tie.close (tie.spec save-requires take-at-requires same-length same-length-2 returns)
