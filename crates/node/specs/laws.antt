@@ -19,6 +19,7 @@ pub mod AcceptedLaws
 pub mod HeadLaws
 pub mod SlotLaws
 pub mod LikeLaws
+pub mod IdLaws
 pub mod RelinkLaws
 pub mod FindLaws
 pub mod StandLaws

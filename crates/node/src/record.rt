@@ -28,7 +28,7 @@ pub struct Record {
 }
 
 // The bytes that a value of this mark takes.
-fn mark_length(mark: u64) -> usize
+pub fn mark_length(mark: u64) -> usize
     requires { ⌜ mark < 2 ^ 16 ⌝ }
     ensures { λ r. ⌜ (r ≡ markLength mark) × (r < 2 ^ 16) ⌝ }
 {

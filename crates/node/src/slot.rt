@@ -14,7 +14,7 @@ ghost use Rattle.node.specs.Entry.{valueLength};
 ghost use Rattle.node.specs.Records.{markLength, valueOf, recordLength, entryOf, recordsLength, entriesOf};
 ghost use Rattle.node.specs.Slot.{insertAt, removeAt, withKey, withValue, recordsHold, isChild, valueMeans};
 ghost use Rattle.node.specs.Order.{pair};
-ghost use Rattle.node.specs.internal.SlotSteps.{childOf, foundIn, lastIn};
+ghost use Rattle.node.specs.internal.SlotSteps.{childOf, pairId, idBelow, foundIn, lastIn};
 
 // Where a key's place is among n records: the entries before it, its offset, and whether the entry there has the key.
 pub struct Found {
@@ -29,12 +29,21 @@ pub struct Last {
     pub at: usize,
 }
 
-// A record's key length and mark, and how long a record is that has them.
+// A record's key length and mark, the length of a value that has the mark, and how long a record is that has both.
 pub struct Like {
     pub klen: u64,
     pub mark: u64,
+    pub vlen: usize,
     pub len: usize,
 }
+
+// What a walk over records begins with: a record of no key and no value.
+const BARE: Like = Like {
+    klen: 0,
+    mark: 0,
+    vlen: 0,
+    len: 4,
+};
 
 // Where record i starts.
 pub fn offset_of(slot: &[u8], n: u64, i: u64) -> usize
@@ -43,8 +52,10 @@ pub fn offset_of(slot: &[u8], n: u64, i: u64) -> usize
 {
     let mut k = 0;
     let mut at = 0;
+    let mut like = BARE;
     while k < i {
-        at = record::next(slot, at);
+        like = like_at(slot, at, like);
+        at += like.len;
         k += 1;
     }
     at
@@ -97,25 +108,57 @@ pub fn value_of(slot: &[u8], at: usize) -> Val
     Val::Child(Child::Mem(x))
 }
 
-// The length of the record at an offset. Where records follow each other that have one head, none waits for the length of the one before.
+// The length of the record at an offset. Where records follow each other that have one mark, none waits for the choice by
+// the mark; where they have one head, none waits for the length of the one before.
 fn like_at(slot: &[u8], at: usize, last: Like) -> Like
-    requires { ⌜ at + recordLength (drop at (now slot)) ≤ length (now slot) ⌝ }
-    requires { ⌜ last .len ≡ 4 + last .klen + markLength (last .mark) ⌝ }
-    ensures { λ r. ⌜ (r .len ≡ recordLength (drop at (now (slot .entry)))) × (r .len ≡ 4 + r .klen + markLength (r .mark))
+    requires lies { ⌜ at + recordLength (drop at (now slot)) ≤ length (now slot) ⌝ }
+    requires like { ⌜ (last .vlen ≡ markLength (last .mark)) × (last .len ≡ 4 + last .klen + last .vlen) ⌝ }
+    ensures long { λ r. ⌜ (r .len ≡ recordLength (drop at (now (slot .entry))))
         × (at + r .len ≤ length (now (slot .entry))) ⌝ }
+    ensures like { λ r. ⌜ (r .vlen ≡ markLength (r .mark)) × (r .len ≡ 4 + r .klen + r .vlen) ⌝ }
 {
     let klen = bytes::u16_at(slot, at);
     let mark = bytes::u16_at(slot, at + 2);
-    if klen == last.klen {
-        if mark == last.mark {
-            return last;
-        }
+    if mark != last.mark {
+        let vlen = record::mark_length(mark);
+        return Like {
+            klen: klen,
+            mark: mark,
+            vlen: vlen,
+            len: 4 + klen as usize + vlen,
+        };
     }
-    Like {
-        klen: klen,
-        mark: mark,
-        len: record::next(slot, at) - at,
+    if klen != last.klen {
+        return Like {
+            klen: klen,
+            mark: mark,
+            vlen: last.vlen,
+            len: 4 + klen as usize + last.vlen,
+        };
     }
+    last
+}
+
+// The id of a pair key; of other keys 0, which no id is below.
+fn id_of(key: &[u8]) -> u64
+    ensures { λ r. ⌜ r ≡ pairId (now (key .entry)) ⌝ }
+{
+    if key.len() != 16 {
+        return 0;
+    }
+    bytes::u64_at(key, 0)
+}
+
+// Whether the key of the record at an offset is a pair whose id is below an id. It then stands before every key of that id:
+// so it is with nearly every record that a search in pair order passes, and few keys need the dear comparison.
+fn id_below(slot: &[u8], at: usize, id: u64) -> bool
+    requires { ⌜ at + recordLength (drop at (now slot)) ≤ length (now slot) ⌝ }
+    ensures { λ r. ⌜ r ≡ idBelow (entryOf (drop at (now (slot .entry))) .key) id ⌝ }
+{
+    if bytes::u16_at(slot, at) != 16 {
+        return false;
+    }
+    bytes::u64_at(slot, at + 4) < id
 }
 
 // The place of a key in pair order, whose records mostly have one length.
@@ -124,23 +167,22 @@ fn below_pair(slot: &[u8], n: u64, key: &[u8]) -> Found
     ensures { λ r. ⌜ r ≡ foundIn pair (now (key .entry)) n (now (slot .entry)) ⌝ }
 {
     let order = Order { code: Order::PAIR };
+    let id = id_of(key);
     let mut i = 0;
     let mut at = 0;
-    let mut like = Like {
-        klen: 0,
-        mark: 0,
-        len: 4,
-    };
+    let mut like = BARE;
     while i < n {
-        let k = key_of(slot, at);
-        let lower = order.less(k, key);
-        if !lower {
-            let above = order.less(key, k);
-            return Found {
-                index: i,
-                at: at,
-                found: !above,
-            };
+        if !id_below(slot, at, id) {
+            let k = key_of(slot, at);
+            let lower = order.less(k, key);
+            if !lower {
+                let above = order.less(key, k);
+                return Found {
+                    index: i,
+                    at: at,
+                    found: !above,
+                };
+            }
         }
         like = like_at(slot, at, like);
         at += like.len;
@@ -159,18 +201,17 @@ fn not_above_pair(slot: &[u8], n: u64, key: &[u8]) -> Last
     ensures { λ r. ⌜ r ≡ lastIn pair (now (key .entry)) n (now (slot .entry)) ⌝ }
 {
     let order = Order { code: Order::PAIR };
+    let id = id_of(key);
     let mut i = 0;
     let mut at = 0;
     let mut last = 0;
-    let mut like = Like {
-        klen: 0,
-        mark: 0,
-        len: 4,
-    };
+    let mut like = BARE;
     while i < n {
-        let k = key_of(slot, at);
-        if order.less(key, k) {
-            return Last { count: i, at: last };
+        if !id_below(slot, at, id) {
+            let k = key_of(slot, at);
+            if order.less(key, k) {
+                return Last { count: i, at: last };
+            }
         }
         last = at;
         like = like_at(slot, at, like);
@@ -198,6 +239,7 @@ fn below_any(slot: &[u8], n: u64, order: Order, key: &[u8]) -> Found
 {
     let mut i = 0;
     let mut at = 0;
+    let mut like = BARE;
     while i < n {
         let k = key_of(slot, at);
         let lower = order.less(k, key);
@@ -209,7 +251,8 @@ fn below_any(slot: &[u8], n: u64, order: Order, key: &[u8]) -> Found
                 found: !above,
             };
         }
-        at = record::next(slot, at);
+        like = like_at(slot, at, like);
+        at += like.len;
         i += 1;
     }
     Found {
@@ -238,13 +281,15 @@ fn not_above_any(slot: &[u8], n: u64, order: Order, key: &[u8]) -> Last
     let mut i = 0;
     let mut at = 0;
     let mut last = 0;
+    let mut like = BARE;
     while i < n {
         let k = key_of(slot, at);
         if order.less(key, k) {
             return Last { count: i, at: last };
         }
         last = at;
-        at = record::next(slot, at);
+        like = like_at(slot, at, like);
+        at += like.len;
         i += 1;
     }
     Last { count: i, at: last }

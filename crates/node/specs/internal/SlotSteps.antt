@@ -5,8 +5,8 @@ use mathlib.Core.List.{List}
 use mathlib.Core.Bool.{Bool, true, cond, _&&_}
 use Prim.Native.Nat.{ℕ, _+_, _-_, _≤_}
 use lib.ListN.{length, drop}
-use lib.Dec.{leb, eqb}
-use Rattle.seal.specs.Bytes.{u16At}
+use lib.Dec.{leb, ltb, eqb}
+use Rattle.seal.specs.Bytes.{u16At, u64At}
 use Rattle.node.specs.Entry.{Val, disk, mem, riseAfter, rising, every}
 use Rattle.node.specs.Records.{markLength, recordLength, entryOf, entriesOf, recordsLength}
 use Rattle.node.specs.Fit.{padded, keysLength, valuesLength}
@@ -41,6 +41,14 @@ longerOf t l s =
       keys = s .keys + padded t (recordAt l (s .at) .klen);
       values = s .values + padded t (recordAt l (s .at) .vlen);
     }
+
+-- the id of a pair key; of other keys 0, which no id is below
+unfoldable pub pairId : List ℕ → ℕ
+pairId k = cond (eqb (length k) 16) (u64At k 0) 0
+
+-- a pair key whose id is below an id
+unfoldable pub idBelow : List ℕ → ℕ → Bool
+idBelow k id = eqb (length k) 16 && ltb (u64At k 0) id
 
 -- the place of a key among the n records of a slot, where it lies, and whether the key is there
 unfoldable pub foundIn : ℕ → List ℕ → ℕ → List ℕ → Found

@@ -103,21 +103,25 @@ module _ (l : List ℕ) (n : ℕ) where
     pub place-start : 0 + placeOf o k (drop 0 es) ≡ placeOf o k es
     place-start = zero-add (placeOf o k es)
 
-    pub place-next : (i at : ℕ) (kb : List ℕ) (t : Bool) → i < n → at ≡ recordsLength i l → kb ≡ entryOf (drop at l) .key → t ≡ less o kb k
-        → not t ≡ false → i + placeOf o k (drop i es) ≡ placeOf o k es → i + 1 + placeOf o k (drop (i + 1) es) ≡ placeOf o k es
+    -- past an entry whose key is below k
+    pub place-past : (i at : ℕ) → i < n → at ≡ recordsLength i l → less o (entryOf (drop at l) .key) k ≡ true
+        → i + placeOf o k (drop i es) ≡ placeOf o k es → i + 1 + placeOf o k (drop (i + 1) es) ≡ placeOf o k es
     unfolding placeOf
-    place-next i at kb t h p e q r v =
-        let x : less o (entryOf (drop at l) .key) k ≡ true = ap (λ (y : List ℕ). less o y k) (sym e) ∙ sym q ∙ not-false t r in
+    place-past i at h p x v =
         let y : placeOf o k (drop i es) ≡ suc (placeOf o k (drop (i + 1) es)) = ap (placeOf o k) (entries-head i n at l h p) ∙ rw x in
         omega arith
 
-    pub there-next : (i at : ℕ) (kb : List ℕ) (t : Bool) → i < n → at ≡ recordsLength i l → kb ≡ entryOf (drop at l) .key → t ≡ less o kb k
-        → not t ≡ false → isThere o k (drop i es) ≡ isThere o k es → isThere o k (drop (i + 1) es) ≡ isThere o k es
+    pub there-past : (i at : ℕ) → i < n → at ≡ recordsLength i l → less o (entryOf (drop at l) .key) k ≡ true
+        → isThere o k (drop i es) ≡ isThere o k es → isThere o k (drop (i + 1) es) ≡ isThere o k es
     unfolding isThere
-    there-next i at kb t h p e q r v =
-        let x : less o (entryOf (drop at l) .key) k ≡ true = ap (λ (y : List ℕ). less o y k) (sym e) ∙ sym q ∙ not-false t r in
+    there-past i at h p x v =
         let y : isThere o k (drop i es) ≡ isThere o k (drop (i + 1) es) = ap (isThere o k) (entries-head i n at l h p) ∙ rw x in
         sym y ∙ v
+
+    -- that it is below k, as the comparison tells
+    pub key-lower : (at : ℕ) (kb : List ℕ) (t : Bool) → kb ≡ entryOf (drop at l) .key → t ≡ less o kb k → not t ≡ false
+        → less o (entryOf (drop at l) .key) k ≡ true
+    key-lower at kb t e q r = ap (λ (y : List ℕ). less o y k) (sym e) ∙ sym q ∙ not-false t r
 
     found-at : (i at : ℕ) (f : Bool) → at ≡ recordsLength i l → i ≡ placeOf o k es → f ≡ isThere o k es
         → _≡_ {A = Found} (record { index = i; at = at; found = f }) (foundIn o k n l)
@@ -148,13 +152,18 @@ module _ (l : List ℕ) (n : ℕ) where
     pub last-start : 0 + notAbove o k (drop 0 es) ≡ notAbove o k es
     last-start = zero-add (notAbove o k es)
 
-    pub last-next : (i at : ℕ) (kb : List ℕ) (t : Bool) → i < n → at ≡ recordsLength i l → kb ≡ entryOf (drop at l) .key → t ≡ less o k kb
-        → t ≡ false → i + notAbove o k (drop i es) ≡ notAbove o k es → i + 1 + notAbove o k (drop (i + 1) es) ≡ notAbove o k es
+    -- past an entry whose key is not above k
+    pub last-past : (i at : ℕ) → i < n → at ≡ recordsLength i l → less o k (entryOf (drop at l) .key) ≡ false
+        → i + notAbove o k (drop i es) ≡ notAbove o k es → i + 1 + notAbove o k (drop (i + 1) es) ≡ notAbove o k es
     unfolding notAbove
-    last-next i at kb t h p e q r v =
-        let x : less o k (entryOf (drop at l) .key) ≡ false = ap (less o k) (sym e) ∙ sym q ∙ r in
+    last-past i at h p x v =
         let y : notAbove o k (drop i es) ≡ suc (notAbove o k (drop (i + 1) es)) = ap (notAbove o k) (entries-head i n at l h p) ∙ rw x in
         omega arith
+
+    -- that it is not above k, as the comparison tells
+    pub key-not-above : (at : ℕ) (kb : List ℕ) (t : Bool) → kb ≡ entryOf (drop at l) .key → t ≡ less o k kb → t ≡ false
+        → less o k (entryOf (drop at l) .key) ≡ false
+    key-not-above at kb t e q r = ap (less o k) (sym e) ∙ sym q ∙ r
 
     last-at : (i at : ℕ) → at ≡ recordsLength (i - 1) l → i ≡ notAbove o k es → _≡_ {A = Last} (record { count = i; at = at }) (lastIn o k n l)
     unfolding lastIn

@@ -1,7 +1,7 @@
 -- Records that have one head have one length. Assumes nothing.
 use mathlib.Core.Path.{_≡_, refl, sym, ap, _∙_}
 use mathlib.Core.List.{List}
-use Prim.Native.Nat.{ℕ, _+_, _-_, _≤_}
+use Prim.Native.Nat.{ℕ, _+_, _≤_, _<_, _^_}
 use native.Mathlib.Omega.{arith}
 use lib.ListN.{length, drop}
 use Rattle.seal.specs.Bytes.{u16At}
@@ -20,36 +20,41 @@ head-length l at klen mark p q =
     let m : u16At (drop at l) 2 ≡ mark = record-mark l at ∙ sym q in
     rw (k, m)
 
+-- the length of a record by its head, and the value's length by its mark
+pub like-length : (l : List ℕ) (at klen mark vlen : ℕ) → klen ≡ u16At l at → mark ≡ u16At l (at + 2) → vlen ≡ markLength mark
+    → 4 + klen + vlen ≡ recordLength (drop at l)
+like-length l at klen mark vlen p q e = let h = head-length l at klen mark p q in omega arith
+
+-- so long it is within the list
+pub like-room : (l : List ℕ) (at klen mark vlen : ℕ) → klen ≡ u16At l at → mark ≡ u16At l (at + 2) → vlen ≡ markLength mark
+    → at + recordLength (drop at l) ≤ length l → at + (4 + klen + vlen) ≤ length l
+like-room l at klen mark vlen p q e h = let r = like-length l at klen mark vlen p q e in omega arith
+
+pub like-fits : (l : List ℕ) (at klen mark vlen : ℕ) → klen ≡ u16At l at → mark ≡ u16At l (at + 2) → vlen ≡ markLength mark
+    → at + recordLength (drop at l) ≤ length l → length l < 2 ^ 64 → 4 + klen + vlen < 2 ^ 64
+like-fits l at klen mark vlen p q e h s = let r = like-room l at klen mark vlen p q e h in omega arith
+
+-- the mark of the record before
+pub like-mark : (mark m vlen : ℕ) → mark ≡ m → vlen ≡ markLength m → vlen ≡ markLength mark
+like-mark mark m vlen b e = e ∙ ap markLength (sym b)
+
 -- the head of the record before
-pub like-same : (l : List ℕ) (at klen mark k m len : ℕ) → klen ≡ u16At l at → mark ≡ u16At l (at + 2) → klen ≡ k → mark ≡ m
-    → len ≡ 4 + k + markLength m → len ≡ recordLength (drop at l)
-like-same l at klen mark k m len p q a b e =
-    e ∙ sym (head-length l at k m (sym a ∙ p) (sym b ∙ q))
+pub like-same : (l : List ℕ) (at klen mark k m vlen len : ℕ) → klen ≡ u16At l at → mark ≡ u16At l (at + 2) → klen ≡ k → mark ≡ m
+    → vlen ≡ markLength m → len ≡ 4 + k + vlen → len ≡ recordLength (drop at l)
+like-same l at klen mark k m vlen len p q a b v e = e ∙ like-length l at k m vlen (sym a ∙ p) (sym b ∙ q) v
 
--- another head
-pub like-new : (l : List ℕ) (at klen mark next : ℕ) → klen ≡ u16At l at → mark ≡ u16At l (at + 2) → next ≡ at + recordLength (drop at l)
-    → next - at ≡ 4 + klen + markLength mark
-like-new l at klen mark next p q e = let h = head-length l at klen mark p q in omega arith
-
-pub like-long : (l : List ℕ) (at next : ℕ) → next ≡ at + recordLength (drop at l) → next - at ≡ recordLength (drop at l)
-like-long l at next e = omega arith
+pub same-room : (l : List ℕ) (at klen mark k m vlen len : ℕ) → klen ≡ u16At l at → mark ≡ u16At l (at + 2) → klen ≡ k → mark ≡ m
+    → vlen ≡ markLength m → len ≡ 4 + k + vlen → at + recordLength (drop at l) ≤ length l → at + len ≤ length l
+same-room l at klen mark k m vlen len p q a b v e h = let r = like-same l at klen mark k m vlen len p q a b v e in omega arith
 
 -- the next record starts after it
 pub like-next : (l : List ℕ) (i at len : ℕ) → at ≡ recordsLength i l → len ≡ recordLength (drop at l) → at + len ≡ recordsLength (i + 1) l
 like-next l i at len p e = at-next l i at (at + len) p (ap (λ (x : ℕ). at + x) e)
 
--- so long is a record of no key and no value
-pub like-start : 4 ≡ 4 + 0 + markLength 0
+-- a record of no key and no value
+pub like-start : 0 ≡ markLength 0
 unfolding markLength
 like-start = refl
-
-pub same-room : (l : List ℕ) (at klen mark k m len : ℕ) → klen ≡ u16At l at → mark ≡ u16At l (at + 2) → klen ≡ k → mark ≡ m
-    → len ≡ 4 + k + markLength m → at + recordLength (drop at l) ≤ length l → at + len ≤ length l
-same-room l at klen mark k m len p q a b e h = let r = like-same l at klen mark k m len p q a b e in omega arith
-
-pub new-room : (l : List ℕ) (at next : ℕ) → next ≡ at + recordLength (drop at l) → at + recordLength (drop at l) ≤ length l
-    → at + (next - at) ≤ length l
-new-room l at next e h = omega arith
 
 -- ---- pair order
 

@@ -2,21 +2,22 @@
 use Prim.Native.Nat.{_+_, _-_, _≤_}
 use mathlib.Core.Path.{_≡_}
 use lib.ListN.{drop}
-use borrow.Author.Needs.{needs}
-use Rattle.node.specs.laws.SlotLaws.{at-start, at-lies, at-next}
-use Rattle.node.specs.laws.FindLaws.{place-start, place-next, there-next, found-here, found-none}
-use Rattle.node.specs.Records.{recordsLength, entriesOf}
+use Rattle.node.specs.laws.SlotLaws.{at-start, at-lies}
+use Rattle.node.specs.laws.LikeLaws.{like-start, like-next}
+use Rattle.node.specs.laws.FindLaws.{place-start, place-past, there-past, key-lower, found-here, found-none}
+use Rattle.node.specs.Records.{markLength, recordsLength, entriesOf}
 use Rattle.node.specs.Find.{placeOf, isThere}
+use borrow.Author.Needs.{needs}
 use Rattle.node.proofs.slot.below_any.Statement.{statement}
 use Rattle.node.proofs.slot.below_any.Tie as tie
 
-ruleset laws = (needs, at-start, at-lies, at-next, place-start, place-next, there-next, found-here, found-none)
+ruleset laws = (needs, at-start, at-lies, like-start, like-next, place-start, place-past, there-past, key-lower, found-here, found-none)
 
 abbrev Inv-loop : tie.InvT-loop
-Inv-loop slot n order key i₀ at₀ i at = (i ≤ n) × (at ≡ recordsLength i slot) × (i + placeOf (order .code) key (drop i (entriesOf n slot)) ≡ placeOf (order .code) key (entriesOf n slot)) × (isThere (order .code) key (drop i (entriesOf n slot)) ≡ isThere (order .code) key (entriesOf n slot))
+Inv-loop slot n order key i₀ at₀ like₀ i at like = (i ≤ n) × (at ≡ recordsLength i slot) × (i + placeOf (order .code) key (drop i (entriesOf n slot)) ≡ placeOf (order .code) key (entriesOf n slot)) × (isThere (order .code) key (drop i (entriesOf n slot)) ≡ isThere (order .code) key (entriesOf n slot)) × (like .vlen ≡ markLength (like .mark)) × (like .len ≡ 4 + like .klen + like .vlen)
 
 abbrev μ-loop : tie.MeasureT-loop
-μ-loop slot n order key i₀ at₀ i at = n - i
+μ-loop slot n order key i₀ at₀ like₀ i at like = n - i
 
 loop-holds : tie.Need-loop-holds Inv-loop μ-loop
 loop-holds c = search laws
@@ -33,8 +34,11 @@ less-requires-2 c κs = search laws
 returns : tie.Need-returns Inv-loop μ-loop
 returns c = search laws
 
-next-requires : tie.Need-next-requires Inv-loop μ-loop
-next-requires c κs = search laws
+like-at-requires : tie.Need-like-at-requires Inv-loop μ-loop
+like-at-requires c κs = search laws
+
+add-at : tie.Need-add-at Inv-loop μ-loop
+add-at c = search laws
 
 add-i : tie.Need-add-i Inv-loop μ-loop
 add-i c = search laws
@@ -59,7 +63,8 @@ below-any-spec =
     less-requires
     less-requires-2
     returns
-    next-requires
+    like-at-requires
+    add-at
     add-i
     loop-less
     loop-again

@@ -2,21 +2,22 @@
 use Prim.Native.Nat.{_+_, _-_, _≤_}
 use mathlib.Core.Path.{_≡_}
 use lib.ListN.{drop}
-use borrow.Author.Needs.{needs}
-use Rattle.node.specs.laws.SlotLaws.{at-start, at-lies, at-next}
-use Rattle.node.specs.laws.FindLaws.{last-start, last-first, last-kept, last-next, last-here, last-none}
-use Rattle.node.specs.Records.{recordsLength, entriesOf}
+use Rattle.node.specs.laws.SlotLaws.{at-start, at-lies}
+use Rattle.node.specs.laws.LikeLaws.{like-start, like-next}
+use Rattle.node.specs.laws.FindLaws.{last-start, last-first, last-kept, last-past, key-not-above, last-here, last-none}
+use Rattle.node.specs.Records.{markLength, recordsLength, entriesOf}
 use Rattle.node.specs.Find.{notAbove}
+use borrow.Author.Needs.{needs}
 use Rattle.node.proofs.slot.not_above_any.Statement.{statement}
 use Rattle.node.proofs.slot.not_above_any.Tie as tie
 
-ruleset laws = (needs, at-start, at-lies, at-next, last-start, last-first, last-kept, last-next, last-here, last-none)
+ruleset laws = (needs, at-start, at-lies, like-start, like-next, last-start, last-first, last-kept, last-past, key-not-above, last-here, last-none)
 
 abbrev Inv-loop : tie.InvT-loop
-Inv-loop slot n order key i₀ at₀ last₀ i at last = (i ≤ n) × (at ≡ recordsLength i slot) × (last ≡ recordsLength (i - 1) slot) × (i + notAbove (order .code) key (drop i (entriesOf n slot)) ≡ notAbove (order .code) key (entriesOf n slot))
+Inv-loop slot n order key i₀ at₀ last₀ like₀ i at last like = (i ≤ n) × (at ≡ recordsLength i slot) × (last ≡ recordsLength (i - 1) slot) × (i + notAbove (order .code) key (drop i (entriesOf n slot)) ≡ notAbove (order .code) key (entriesOf n slot)) × (like .vlen ≡ markLength (like .mark)) × (like .len ≡ 4 + like .klen + like .vlen)
 
 abbrev μ-loop : tie.MeasureT-loop
-μ-loop slot n order key i₀ at₀ last₀ i at last = n - i
+μ-loop slot n order key i₀ at₀ last₀ like₀ i at last like = n - i
 
 loop-holds : tie.Need-loop-holds Inv-loop μ-loop
 loop-holds c = search laws
@@ -30,8 +31,11 @@ less-requires c κs = search laws
 returns : tie.Need-returns Inv-loop μ-loop
 returns c = search laws
 
-next-requires : tie.Need-next-requires Inv-loop μ-loop
-next-requires c κs = search laws
+like-at-requires : tie.Need-like-at-requires Inv-loop μ-loop
+like-at-requires c κs = search laws
+
+add-at : tie.Need-add-at Inv-loop μ-loop
+add-at c = search laws
 
 add-i : tie.Need-add-i Inv-loop μ-loop
 add-i c = search laws
@@ -55,7 +59,8 @@ not-above-any-spec =
     key-of-requires
     less-requires
     returns
-    next-requires
+    like-at-requires
+    add-at
     add-i
     loop-less
     loop-again
