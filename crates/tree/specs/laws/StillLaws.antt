@@ -1,18 +1,18 @@
 -- Laws of a remove that changes an entry of its leaf and nothing else: what it looks at makes it the remove. Assumes nothing.
 use mathlib.Core.Path.{_≡_, refl, sym, ap, subst, _∙_}
 use mathlib.Core.List.{List, [], _∷_, _++_}
-use mathlib.Core.Bool.{Bool, true, false, cond, _&&_, _||_, not}
+use mathlib.Core.Bool.{Bool, true, false, cond, _&&_}
 use Prim.Native.Nat.{ℕ, zero, suc, _+_, _-_, _≤_, _<_}
 use native.Mathlib.Omega.{arith}
 use lib.ListN.{length, getD, set, take, drop}
 use lib.Dec.{leb, ltb, eqb}
-use borrow.Author.Tests.{eqb-true, eqb-false, ltb-true, ltb-false, lt-ltb, le-leb}
+use borrow.Author.Tests.{eqb-true, eqb-false, lt-ltb, le-leb}
 use Rattle.node.specs.laws.TestLaws.{by-test, never}
 use Rattle.node.specs.Result.{Result, ok, _>>=_, _>>_, check}
 use Rattle.node.specs.Order.{sameKey}
 use Rattle.node.specs.Refusals as refusal
-use Rattle.node.specs.Entry.{Entry, Val, ghost, mem}
-use Rattle.node.specs.Find.{keyAt, valAt, wayIndex, placeOf, isThere}
+use Rattle.node.specs.Entry.{Entry, mem}
+use Rattle.node.specs.Find.{keyAt, wayIndex, placeOf, isThere}
 use Rattle.node.specs.Fit.{keysLength, valuesLength, roomOf, fits}
 use Rattle.node.specs.Slot.{MemNode, removeAt}
 use Rattle.node.specs.declared.info.BTreeInfo.{BTreeInfo}
@@ -20,13 +20,13 @@ use Rattle.node.specs.laws.FitLaws.{sums-less}
 use Rattle.tree.specs.Lent.{Lent}
 use Rattle.tree.specs.State.{State, noNode, nodeAt, putNode, withNodes, withInfo, withCounts, withEntries, changed, markedDirty}
 use Rattle.tree.specs.Load as load
-use Rattle.tree.specs.Lookup.{Step, Way, wayFrom, way, leafOf, above}
+use Rattle.tree.specs.Lookup.{Step, wayFrom, way, leafOf, above}
 use Rattle.tree.specs.Edit.{markWay, markDirty, touch, setIndexKey, indexKeys, cutNode, cuts}
 use Rattle.tree.specs.Remove.{Dropped, dropNode, dropEmptied, leveledRoot, hasOnlyChild, handDown, takeFromLeaf, shrunkOn, removeOn, removed}
 use Rattle.tree.specs.internal.Cutting.{staysWhole}
 use Rattle.tree.specs.internal.Index.{keyDiffers}
-use Rattle.tree.specs.internal.Still.{Settled, GoesOn, StillTo, StaysAbove}
-use Rattle.tree.specs.laws.StateLaws.{at-put-same, at-put-other, at-used, val-used}
+use Rattle.tree.specs.internal.Still.{Settled, StillTo, StaysAbove}
+use Rattle.tree.specs.laws.StateLaws.{at-put-same, at-put-other, val-used}
 use Rattle.tree.specs.laws.NamedLaws.{live-used}
 use Rattle.tree.specs.laws.IndexLaws.{index-same}
 use Rattle.tree.specs.laws.StepLaws.{fits-like}
@@ -282,7 +282,9 @@ still-way (suc d) s k m n st live lv h =
           apart = λ e. let z : 0 ≡ suc d = sym (w .low) ∙ ap (λ (j : ℕ). nodeAt s j .level) (sym e) ∙ lv in omega arith;
           settled = h .on .settled;
           same = rw (w .first) (h .on .same);
-          filled = let u : i < length es = val-used es i (mem c) (λ z. let y : _≡_ {A = ℕ} 0 1 = cc in absurd (omega arith)) (h .on .child) in omega arith;
+          filled =
+              let u : i < length es = val-used es i (mem c) (λ z. let y : _≡_ {A = ℕ} 0 1 = cc in absurd (omega arith)) (h .on .child) in
+              omega arith;
         },
         w .quiet,
       );
@@ -294,7 +296,9 @@ still-way (suc d) s k m n st live lv h =
 
 -- the tree after: leaf m without entry i, a key less
 abbrev pub taken : State → ℕ → ℕ → State
-taken s m i = withInfo (putNode s m (withEntries (nodeAt s m) (removeAt i (nodeAt s m .entries)))) (withCounts (s .info) (s .info .«key_count» - 1) (s .info .«node_count»))
+taken s m i =
+    withInfo (putNode s m (withEntries (nodeAt s m) (removeAt i (nodeAt s m .entries))))
+    (withCounts (s .info) (s .info .«key_count» - 1) (s .info .«node_count»))
 
 module _ (s : State) (m i : ℕ) (used : m < length (s .nodes)) where
   put-lacks : Lacks s (putNode s m (withEntries (nodeAt s m) (removeAt i (nodeAt s m .entries)))) m (removeAt i (nodeAt s m .entries))
@@ -312,7 +316,8 @@ module _ (s : State) (m i : ℕ) (used : m < length (s .nodes)) where
         root = unfold putNode withNodes withInfo in refl;
         other = λ n h. (unfold withInfo nodeAt in at-put-other s m (withEntries (nodeAt s m) (removeAt i (nodeAt s m .entries))) n h);
         here = (unfold withInfo nodeAt in at-put-same s m (withEntries (nodeAt s m) (removeAt i (nodeAt s m .entries))) used);
-        fitting = λ b level es. (unfold withInfo withCounts in fits-like (s .info) (withCounts (s .info) (s .info .«key_count» - 1) (s .info .«node_count»))
+        fitting = λ b level es. (unfold withInfo withCounts in
+            fits-like (s .info) (withCounts (s .info) (s .info .«key_count» - 1) (s .info .«node_count»))
             (record { flags = refl; node = refl; key = refl; val = refl }) b level es);
       }
 
@@ -358,7 +363,8 @@ module _ (l : Lent) (s : State) (k : List ℕ) (m i : ℕ) (st : Stands all all 
   abbrev after : Dropped → Result State
   after d =
       check refusal.count (ltb 0 (s .info .«key_count») && leb (d .nodes) (s .info .«node_count»))
-      >> cuts l [] ps (indexKeys ps (leveledRoot (withInfo (d .state) (withCounts (s .info) (s .info .«key_count» - 1) (s .info .«node_count» - d .nodes)))))
+      >> cuts l [] ps
+      (indexKeys ps (leveledRoot (withInfo (d .state) (withCounts (s .info) (s .info .«key_count» - 1) (s .info .«node_count» - d .nodes)))))
 
   shrunk : shrunkOn l k (record { state = s; steps = ps }) ≡ ok (taken s m i)
   unfolding shrunkOn
@@ -373,7 +379,8 @@ module _ (l : Lent) (s : State) (k : List ℕ) (m i : ℕ) (st : Stands all all 
   is-removed =
       rw (w .goes l load.unbounded, w .last, there, shrunk)
       (ap (λ (r : Result State). r >>= λ t. ok (record { state = t; present = true }))
-      (hands-still s (taken s m i) m i (a .later) some (taken-lacks s m i used) (nodeAt (taken s m i) (taken s m i .root) .level) l (w .low) (a .more)))
+      (hands-still s (taken s m i) m i (a .later) some (taken-lacks s m i used) (nodeAt (taken s m i) (taken s m i .root) .level) l (w .low)
+      (a .more)))
 
 -- a key's way that stays, and an entry of its leaf that can be taken out alone
 pub still-removed : (l : Lent) (s : State) (k : List ℕ) (m i : ℕ) → Stands all all s → StaysAbove s m i

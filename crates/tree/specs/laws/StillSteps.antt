@@ -1,6 +1,6 @@
 -- Laws of the steps of a remove that changes an entry of its leaf alone: the way looked at, the entry taken. Assumes nothing.
 use mathlib.Core.Path.{_≡_, refl, sym, ap, subst, _∙_}
-use mathlib.Core.List.{List, []}
+use mathlib.Core.List.{List}
 use mathlib.Core.Bool.{Bool, true, false, not}
 use Prim.Native.Nat.{ℕ, suc, _+_, _-_, _≤_, _<_}
 use native.Mathlib.Omega.{arith}
@@ -25,8 +25,8 @@ use Rattle.tree.specs.internal.Bank.{nodeIn, live, Ready, Wrote, Put}
 use Rattle.tree.specs.internal.Cutting.{staysWhole}
 use Rattle.tree.specs.internal.Kids.{slotsOf, kidMeans}
 use Rattle.tree.specs.internal.Loaded.{TakenOf}
-use Rattle.tree.specs.internal.Still.{Settled, GoesOn, StillOf, StillTo, Stilling, StillIn, StillLeaf, StaysAbove, StillRemoved}
-use Rattle.tree.specs.laws.StandLaws.{Stands, all, stands-of}
+use Rattle.tree.specs.internal.Still.{Settled, StillOf, StillTo, Stilling, StillIn, StillLeaf, StaysAbove, StillRemoved}
+use Rattle.tree.specs.laws.StandLaws.{stands-of}
 use Rattle.tree.specs.laws.LoadedLaws.{taken-lies, taken-is, taken-of}
 use Rattle.tree.specs.laws.BankLaws.{live-entries}
 use Rattle.tree.specs.laws.SlotSteps.{slot-room}
@@ -133,10 +133,12 @@ module _ (size : ℕ) (t : Tree) (h b : List ℕ) where
           key-found size t h b slots n r hn x ex l el i (y .at) inside start k ekey
           ∙ ap (λ (z : List Entry). keyAt (nodeAt s n .entries) (wayIndex (t .order) key z)) (sym entries-are)
 
-      pub still-on : not e ≡ false → (j : ℕ) → j ≡ y .count - 1 → StillOf (stateOf size t h b) key n (record { loaded = kid .loaded; index = j; slot = kid .slot })
+      pub still-on : not e ≡ false → (j : ℕ) → j ≡ y .count - 1
+          → StillOf (stateOf size t h b) key n (record { loaded = kid .loaded; index = j; slot = kid .slot })
       still-on u j ej =
-          let q′ : TakenOf (t .order) key (nodeAt s n .entries) (record { loaded = kid .loaded; index = j; slot = kid .slot }) = taken-of size t h b key n
-          hn x ex l el (record { loaded = kid .loaded; index = j; slot = kid .slot }) (taken-is (t .order) key l (x .count) still-room z y ey j ej kid ek) in
+          let v : Taken = record { loaded = kid .loaded; index = j; slot = kid .slot } in
+          let q′ : TakenOf (t .order) key (nodeAt s n .entries) v = taken-of size t h b key n hn x ex l el v
+          (taken-is (t .order) key l (x .count) still-room z y ey j ej kid ek) in
           record {
             on = λ g.
                 record {
@@ -207,7 +209,8 @@ module _ (size : ℕ) (t : Tree) (h b : List ℕ) where
     put = put-of size slots h b h′ b′ n (edited false (nodeIn size h b n) (removeAt (f .index) (nodeIn size h b n .entries))) w
 
     pub still-ready : Ready size slots (t .used) h′ b′
-    still-ready = put-ready size slots h b h′ b′ n (edited false (nodeIn size h b n) (removeAt (f .index) (nodeIn size h b n .entries))) put (t .used) r eh eb
+    still-ready =
+        put-ready size slots h b h′ b′ n (edited false (nodeIn size h b n) (removeAt (f .index) (nodeIn size h b n .entries))) put (t .used) r eh eb
 
     module _ (i : BTreeInfo) (ei : i ≡ withCounts (t .info) (t .info .«key_count» - 1) (t .info .«node_count»)) where
       abbrev u : Tree
@@ -222,10 +225,19 @@ module _ (size : ℕ) (t : Tree) (h b : List ℕ) where
           ap (λ (y : BTreeInfo). withInfo (stateOf size t h′ b′) y) ei ∙ ap (λ (y : State). withInfo y x) e
           ∙ ap (λ (y : MemNode). withInfo (putNode s n (withEntries y (removeAt (f .index) (y .entries)))) x) (sym (node-in size t h b n hn))
 
-      pub still-answer : (l : Lent) → ok (record {
-        state = stateOf size (record { root = t .root; used = t .used; info = i; «by_id» = t .«by_id»; subtype = t .subtype; order = t .order; xid = t .xid }) h′ b′;
-        present = true;
-      }) ≡ removed l (stateOf size t h b) key
+      pub still-answer : (l : Lent)
+          → ok (record {
+            state = stateOf size (record {
+              root = t .root;
+              used = t .used;
+              info = i;
+              «by_id» = t .«by_id»;
+              subtype = t .subtype;
+              order = t .order;
+              xid = t .xid;
+            }) h′ b′;
+            present = true;
+          }) ≡ removed l (stateOf size t h b) key
       still-answer l =
           ap yes after-is
           ∙ sym (still-removed l s key n (f .index) (stands-of s st) a (sym (ff .there) ∙ found) (ff .place) (q .leads hn))

@@ -89,7 +89,8 @@ module _ (size slots used n : ℕ) (h1 b1 : List ℕ) (again : Ready size slots 
 
   pub slot-end : n * (4 * size) + 4 * size < 2 ^ 32
   slot-end =
-      let p : n * (4 * size) ≤ 4096 * (4 * size) = mul-le-mul-right (4 * size) (omega (arith, again .many, again .within)) in omega (arith, again .most)
+      let p : n * (4 * size) ≤ 4096 * (4 * size) = mul-le-mul-right (4 * size) (omega (arith, again .many, again .within)) in
+      omega (arith, again .most)
 
   module _ (h : Head) (eh : h ≡ live (headAt h1 n)) (k : ℕ) (ek : k ≡ 4 * size) where
     abbrev l : List ℕ
@@ -231,8 +232,9 @@ module _ (size slots used n : ℕ) (h0 b0 h1 b1 : List ℕ) (r : Ready size slot
 
     -- other records in the slot
     module _ (dirty : Bool) (count more : ℕ) (f : List Entry → List Entry) (d h2 b2 : List ℕ) (alive : nodeIn size h0 b0 n .dead ≡ false)
-        (em : recordsLength count d ≡ more) (hm : more ≤ 4 * size) (ee : entriesOf count d ≡ f (entriesOf (h .count) (take k (drop (n * (4 * size)) b1))))
-        (ed : length d ≡ k) (e2 : b2 ≡ take (n * (4 * size)) b1 ++ (d ++ drop k (drop (n * (4 * size)) b1)))
+        (em : recordsLength count d ≡ more) (hm : more ≤ 4 * size)
+        (ee : entriesOf count d ≡ f (entriesOf (h .count) (take k (drop (n * (4 * size)) b1)))) (ed : length d ≡ k)
+        (e2 : b2 ≡ take (n * (4 * size)) b1 ++ (d ++ drop k (drop (n * (4 * size)) b1)))
         (eh2 : h2 ≡ splice h1 (n * 9) (headWords (recounted dirty count more (headAt h1 n)))) where
       still-lives : nodeIn size h1 b1 n .dead ≡ false
       unfolding nodeIn nodeOf

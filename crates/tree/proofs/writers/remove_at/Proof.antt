@@ -1,3 +1,4 @@
+-- `tree::writers::remove_at` meets its contract. Assumes nothing.
 use mathlib.Core.Path.{refl}
 use native.Mathlib.Omega.{arith}
 use Rattle.node.specs.Slot.{MemNode, removeAt}
@@ -7,16 +8,10 @@ use Rattle.tree.specs.laws.WriterLaws.{saved-start}
 use borrow.Author.Needs.{needs}
 use Rattle.tree.proofs.writers.remove_at.Statement.{statement}
 use Rattle.tree.proofs.writers.remove_at.Tie as tie
-use Rattle.tree.proofs.writers.remove_at.Reads as reads
-use Rattle.tree.proofs.writers.remove_at.Lts as lts
-use Rattle.tree.proofs.undo.save.Reads as save-reads
-use Rattle.tree.proofs.writers.take_at.Reads as take-at-reads
 
--- src/writers.rt:158:5
 save-requires : tie.Need-save-requires
 save-requires c κs = search needs
 
--- src/writers.rt:159:5
 take-at-requires : tie.Need-take-at-requires
 take-at-requires c κs =
     let p = c .before .before .before .before .before .before .before .before .before .before .before .pre in
@@ -25,15 +20,12 @@ take-at-requires c κs =
       (p .1 .0, saved-index _ _ _ _ _ _ _ _ (s .ensures) _ (omega (arith, p .0 .within, p .1 .0)) (p .1 .1), saved-start _ _ _ _ _ _ _ _ (p .0) (p .1 .0) (s .ensures) (s .kept .0) (s .kept .1 .0) _ _ (p .1 .2)),
     )
 
--- src/writers.rt:139:1
 same-length : tie.Need-same-length
 same-length c = search needs
 
--- src/writers.rt:139:1
 same-length-2 : tie.Need-same-length-2
 same-length-2 c = search needs
 
--- src/writers.rt:139:1
 returns : tie.Need-returns
 returns c =
     let a = c .before .before .before .before .before .before .before .before .before .before .before .before .before .before .before .before .args in

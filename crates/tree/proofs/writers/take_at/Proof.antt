@@ -1,3 +1,4 @@
+-- `tree::writers::take_at` meets its contract. Assumes nothing.
 use Prim.Native.Nat.{_+_, _-_, _*_}
 use mathlib.Core.Path.{_≡_, refl}
 use native.Mathlib.Omega.{arith}
@@ -6,45 +7,31 @@ use Rattle.tree.specs.laws.WriterLaws.{index-alive, slot-part, slot-end,
 use borrow.Author.Needs.{needs}
 use Rattle.tree.proofs.writers.take_at.Statement.{statement}
 use Rattle.tree.proofs.writers.take_at.Tie as tie
-use Rattle.tree.proofs.writers.take_at.Reads as reads
-use Rattle.tree.proofs.writers.take_at.Lts as lts
-use Rattle.node.proofs.slot.remove.Reads as remove-reads
-use Rattle.tree.proofs.bank.live_at.Reads as live-at-reads
-use Rattle.tree.proofs.writers.recount.Reads as recount-reads
 
--- src/writers.rt:131:9
 live-at-requires : tie.Need-live-at-requires
 live-at-requires c κs = search needs
 
--- src/writers.rt:132:18
 mul-a : tie.Need-mul-a
 mul-a c = search needs
 
--- src/writers.rt:132:13
 mul-a-2 : tie.Need-mul-a-2
 mul-a-2 c = omega (arith, slot-end _ _ _ _ _ _ (c .before .before .before .before .pre .0) (c .before .before .before .before .pre .1 .0))
 
--- src/writers.rt:133:17
 mul-e : tie.Need-mul-e
 mul-e c = search needs
 
--- src/writers.rt:133:13
 add-e : tie.Need-add-e
 add-e c = omega (arith, slot-end _ _ _ _ _ _ (c .before .before .before .before .pre .0) (c .before .before .before .before .pre .1 .0))
 
--- src/writers.rt:134:29
 sub-remove : tie.Need-sub-remove
 sub-remove c = search needs
 
--- src/writers.rt:134:29
 part-remove-start : tie.Need-part-remove-start
 part-remove-start c = search needs
 
--- src/writers.rt:134:29
 part-remove-end : tie.Need-part-remove-end
 part-remove-end c = omega (arith, slot-part _ _ _ _ _ _ (c .before .before .before .before .pre .0) (c .before .before .before .before .pre .1 .0))
 
--- src/writers.rt:134:9
 remove-requires : tie.Need-remove-requires
 remove-requires c κs =
     let a = c .before .before .before .before .before .args in
@@ -56,7 +43,6 @@ remove-requires c κs =
       slot-within _ _ _ _ _ _ (p .0) (p .1 .0) _ e k ek,
     )
 
--- src/writers.rt:135:23
 sub-recount : tie.Need-sub-recount
 sub-recount c =
     let a = c .before .before .before .before .before .before .before .before .before .before .args in
@@ -65,19 +51,15 @@ sub-recount c =
     let ek : k ≡ 4 * a .size = omega arith in
     omega (arith, slot-index _ _ _ _ _ _ (p .0) (p .1 .0) _ (c .before .before .before .before .before .before .live-at .ensures) k ek _ (p .1 .1))
 
--- src/writers.rt:135:5
 recount-requires : tie.Need-recount-requires
 recount-requires c κs = search needs
 
--- src/writers.rt:113:1
 same-length : tie.Need-same-length
 same-length c = search needs
 
--- src/writers.rt:113:1
 same-length-2 : tie.Need-same-length-2
 same-length-2 c = search needs
 
--- src/writers.rt:113:1
 returns : tie.Need-returns
 returns c =
     let a = c .before .before .before .before .before .before .before .before .before .before .before .before .before .args in

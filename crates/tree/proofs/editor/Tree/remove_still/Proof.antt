@@ -1,3 +1,4 @@
+-- `tree::editor::Tree::remove_still` meets its contract. Assumes nothing.
 use native.Mathlib.Omega.{arith}
 use borrow.Author.Tests.{not-false}
 use Rattle.tree.specs.laws.StillSteps.{still-answer, still-ready, leaf-keyed, above-keys}
@@ -5,87 +6,62 @@ use Rattle.tree.specs.laws.StillSteps.{root-used}
 use borrow.Author.Needs.{needs}
 use Rattle.tree.proofs.editor.Tree.remove_still.Statement.{statement}
 use Rattle.tree.proofs.editor.Tree.remove_still.Tie as tie
-use Rattle.tree.proofs.editor.Tree.remove_still.Reads as reads
-use Rattle.tree.proofs.editor.Tree.remove_still.Lts as lts
-use Rattle.tree.proofs.editor.Tree.found_at.Reads as found-at-reads
-use Rattle.tree.proofs.editor.Tree.still_above.Reads as still-above-reads
-use Rattle.tree.proofs.editor.Tree.still_leaf_of.Reads as still-leaf-of-reads
-use Rattle.tree.proofs.remove.recounted.Reads as recounted-reads
-use Rattle.tree.proofs.writers.take_at.Reads as take-at-reads
 
 ruleset laws = (needs, root-used)
 
--- src/still.rt:191:13
 still-leaf-of-requires : tie.Need-still-leaf-of-requires
 still-leaf-of-requires c κs = search needs
 
--- src/still.rt:193:13
 same-length : tie.Need-same-length
 same-length c = search needs
 
--- src/still.rt:193:13
 same-length-2 : tie.Need-same-length-2
 same-length-2 c = search needs
 
--- src/still.rt:193:13
 returns : tie.Need-returns
 returns c = search needs
 
--- src/still.rt:195:13
 found-at-requires : tie.Need-found-at-requires
 found-at-requires c κs = search needs
 
--- src/still.rt:197:13
 same-length-3 : tie.Need-same-length-3
 same-length-3 c = search needs
 
--- src/still.rt:197:13
 same-length-4 : tie.Need-same-length-4
 same-length-4 c = search needs
 
--- src/still.rt:197:13
 returns-2 : tie.Need-returns-2
 returns-2 c = search needs
 
--- src/still.rt:199:13
 still-above-requires : tie.Need-still-above-requires
 still-above-requires c κs = search laws
 
--- src/still.rt:200:13
 same-length-5 : tie.Need-same-length-5
 same-length-5 c = search needs
 
--- src/still.rt:200:13
 same-length-6 : tie.Need-same-length-6
 same-length-6 c = search needs
 
--- src/still.rt:200:13
 returns-3 : tie.Need-returns-3
 returns-3 c = search needs
 
--- src/still.rt:202:9
 take-at-requires : tie.Need-take-at-requires
 take-at-requires c κs =
     let f = c .before .before .before .before .before .before .before .before .found-at .ensures in
     (c .before .before .before .before .before .before .before .before .before .before .before .before .before .before .before .before .before .before .before .pre .0, (omega (arith, c .before .before .before .before .before .before .before .before .before .before .before .if1 .left), f .within (not-false _ (c .before .before .before .before .before .before .if2 .left)), f .start))
 
--- src/still.rt:214:45
 sub-recounted : tie.Need-sub-recounted
 sub-recounted c = omega (arith, above-keys _ _ _ _ _ _ (c .before .before .before .before .before .before .before .before .before .before .still-above .ensures (not-false _ (c .before .before .before .before .before .before .before .before .before .if3 .left))))
 
--- src/still.rt:214:9
 recounted-requires : tie.Need-recounted-requires
 recounted-requires c κs = search needs
 
--- src/still.rt:179:5
 same-length-7 : tie.Need-same-length-7
 same-length-7 c = search needs
 
--- src/still.rt:179:5
 same-length-8 : tie.Need-same-length-8
 same-length-8 c = search needs
 
--- src/still.rt:179:5
 returns-4 : tie.Need-returns-4
 returns-4 c =
     let p = c .before .before .before .before .before .before .before .before .before .before .before .before .before .before .before .before .before .before .before .before .before .before .before .before .before .before .before .pre in

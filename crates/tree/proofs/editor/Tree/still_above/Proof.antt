@@ -1,43 +1,32 @@
+-- `tree::editor::Tree::still_above` meets its contract. Assumes nothing.
 use Rattle.tree.specs.laws.StillSteps.{above-not, above-is}
 use borrow.Author.Needs.{needs}
 use Rattle.tree.proofs.editor.Tree.still_above.Statement.{statement}
 use Rattle.tree.proofs.editor.Tree.still_above.Tie as tie
-use Rattle.tree.proofs.editor.Tree.still_above.Reads as reads
-use Rattle.tree.proofs.editor.Tree.still_above.Lts as lts
-use Rattle.tree.proofs.editor.Tree.has_only_child.Reads as has-only-child-reads
-use Rattle.tree.proofs.still.dirty_at.Reads as dirty-at-reads
 
 ruleset laws = (needs, above-not, above-is)
 
--- src/still.rt:163:13
 returns : tie.Need-returns
 returns c = λ q. search laws
 
--- src/still.rt:165:13
 dirty-at-requires : tie.Need-dirty-at-requires
 dirty-at-requires c κs = search needs
 
--- src/still.rt:166:13
 returns-2 : tie.Need-returns-2
 returns-2 c = λ q. search laws
 
--- src/still.rt:168:13
 dirty-at-requires-2 : tie.Need-dirty-at-requires-2
 dirty-at-requires-2 c κs = search needs
 
--- src/still.rt:169:13
 returns-3 : tie.Need-returns-3
 returns-3 c = λ q. search laws
 
--- src/still.rt:172:13
 returns-4 : tie.Need-returns-4
 returns-4 c = λ q. search laws
 
--- src/still.rt:174:13
 has-only-child-requires : tie.Need-has-only-child-requires
 has-only-child-requires c κs = search needs
 
--- src/still.rt:150:5
 returns-5 : tie.Need-returns-5
 returns-5 c = λ q. search laws
 

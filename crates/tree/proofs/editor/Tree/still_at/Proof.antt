@@ -1,3 +1,4 @@
+-- `tree::editor::Tree::still_at` meets its contract. Assumes nothing.
 use native.Mathlib.Omega.{arith}
 use Rattle.tree.specs.laws.SlotSteps.{slot-room}
 use Rattle.tree.specs.laws.StillSteps.{settled-then, still-none, still-room, still-lies, still-on}
@@ -5,73 +6,48 @@ use Rattle.tree.specs.laws.SlotSteps.{ready-part, ready-most, ready-few}
 use borrow.Author.Needs.{needs}
 use Rattle.tree.proofs.editor.Tree.still_at.Statement.{statement}
 use Rattle.tree.proofs.editor.Tree.still_at.Tie as tie
-use Rattle.tree.proofs.editor.Tree.still_at.Reads as reads
-use Rattle.tree.proofs.editor.Tree.still_at.Lts as lts
-use Rattle.node.proofs.order.same.Reads as same-reads
-use Rattle.node.proofs.slot.key_of.Reads as key-of-reads
-use Rattle.node.proofs.slot.not_above.Reads as not-above-reads
-use Rattle.tree.proofs.bank.live_at.Reads as live-at-reads
-use Rattle.tree.proofs.bank.slot_of.Reads as slot-of-reads
-use Rattle.tree.proofs.editor.Tree.key_at.Reads as key-at-reads
-use Rattle.tree.proofs.editor.Tree.settled.Reads as settled-reads
-use Rattle.tree.proofs.floor.last_index.Reads as last-index-reads
-use Rattle.tree.proofs.kids.kid_of.Reads as kid-of-reads
 
 ruleset laws = (needs, settled-then, still-none, still-room, still-lies, still-on, ready-part, ready-most, ready-few)
 
--- src/still.rt:75:13
 returns : tie.Need-returns
 returns c = search laws
 
--- src/still.rt:77:13
 settled-requires : tie.Need-settled-requires
 settled-requires c κs = search needs
 
--- src/still.rt:78:13
 returns-2 : tie.Need-returns-2
 returns-2 c = search laws
 
--- src/still.rt:80:13
 live-at-requires : tie.Need-live-at-requires
 live-at-requires c κs = search needs
 
--- src/still.rt:82:13
 returns-3 : tie.Need-returns-3
 returns-3 c = search laws
 
--- src/still.rt:84:13
 slot-of-requires : tie.Need-slot-of-requires
 slot-of-requires c κs = search laws
 
--- src/still.rt:85:13
 not-above-requires : tie.Need-not-above-requires
 not-above-requires c κs = slot-room _ _ _ _ _ _ (c .before .before .before .before .before .before .before .before .before .before .before .pre .0) (omega (arith, c .before .before .before .before .before .before .if1 .left)) _ (c .slot-of .ensures) _ (c .before .before .before .live-at .ensures)
 
--- src/still.rt:86:13
 kid-of-requires : tie.Need-kid-of-requires
 kid-of-requires c κs = search laws
 
--- src/still.rt:87:13
 key-at-requires : tie.Need-key-at-requires
 key-at-requires c κs = c .before .before .before .before .before .before .before .before .before .before .before .before .before .pre .0
 
--- src/still.rt:88:25
 key-of-requires : tie.Need-key-of-requires
 key-of-requires c κs = still-lies _ _ _ _ _ _ _ (c .before .before .before .before .before .before .before .before .before .before .before .before .before .before .pre .0) (omega (arith, c .before .before .before .before .before .before .before .before .before .if1 .left)) (settled-then _ _ _ _ _ _ (c .before .before .before .before .before .before .before .before .settled .ensures) (c .before .before .before .before .before .before .before .if2 .left)) _ (c .before .before .before .before .before .before .live-at .ensures) (c .before .before .before .before .if3 .left) _ (c .before .before .before .slot-of .ensures) _ (c .before .before .not-above .ensures)
 
--- src/still.rt:88:13
 same-requires : tie.Need-same-requires
 same-requires c κs = search needs
 
--- src/still.rt:89:13
 returns-4 : tie.Need-returns-4
 returns-4 c = search laws
 
--- src/still.rt:93:20
 last-index-requires : tie.Need-last-index-requires
 last-index-requires c κs = search needs
 
--- src/still.rt:56:5
 returns-5 : tie.Need-returns-5
 returns-5 c = still-on _ _ _ _ _ _ _ (c .before .before .before .before .before .before .before .before .before .before .before .before .before .before .before .before .before .before .pre .0) (omega (arith, c .before .before .before .before .before .before .before .before .before .before .before .before .before .if1 .left)) (settled-then _ _ _ _ _ _ (c .before .before .before .before .before .before .before .before .before .before .before .before .settled .ensures) (c .before .before .before .before .before .before .before .before .before .before .before .if2 .left)) _ (c .before .before .before .before .before .before .before .before .before .before .live-at .ensures) (c .before .before .before .before .before .before .before .before .if3 .left) _ (c .before .before .before .before .before .before .before .slot-of .ensures) _ (c .before .before .before .before .before .before .not-above .ensures) _ (c .before .before .before .before .before .kid-of .ensures .0) _ _ (c .before .before .before .key-of .ensures) (c .before .before .before .before .key-at .ensures) _ (c .before .before .same .ensures) (c .before .if4 .left) _ (c .last-index .ensures)
 
