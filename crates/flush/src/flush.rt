@@ -14,12 +14,11 @@ ghost use mathlib.Core.Bool.{true, cond, not, _&&_};
 ghost use Prim.Native.Nat.{ℕ, _+_, _*_, _/_, _≤_, _<_, _^_};
 ghost use lib.ListN.{length};
 ghost use lib.Dec.{eqb};
-ghost use Rattle.tree.specs.Format.{headAt, marked, Sized};
+ghost use Rattle.tree.specs.Format.{marked, Sized};
 ghost use Rattle.tree.specs.Lent.{lentOf};
 ghost use Rattle.tree.specs.Trust.{trusted};
 ghost use Rattle.tree.specs.Workspace.{stateOf};
 ghost use Rattle.tree.specs.internal.Bank.{Ready};
-ghost use Rattle.tree.specs.internal.Block.{wordsOf};
 ghost use Rattle.flush.specs.Space.{spaceOf, usable, spaceHolds, Held};
 ghost use Rattle.flush.specs.Flush.{typeOf, writeNode, writeFrom, sumFrom, fill, listsHold, flushIn};
 ghost use Rattle.flush.specs.Answers.{listsOf, flushedOf, flushedMeans, flushedIn, flushedLeaves};
@@ -73,14 +72,14 @@ fn push_if(list: &mut [u64], end: usize, mark: u64, x: u64) -> usize
     end + 1
 }
 
-// The mark of a dead slot's block.
-fn dead_place(dead: u64, placed: u64) -> u64
-    ensures { λ r. ⌜ ((x : ℕ) → marked r x ≡ cond (eqb dead 1) (marked placed x) []) ⌝ }
+// The mark of the block that a slot leaves, as a dead one does and a dirty one that is written.
+fn left_place(leaves: bool, placed: u64) -> u64
+    ensures { λ r. ⌜ ((x : ℕ) → marked r x ≡ cond leaves (marked placed x) []) × (r ≡ 1 → placed ≡ 1) ⌝ }
 {
-    if dead != 1 {
-        return 0;
+    if leaves {
+        return placed;
     }
-    placed
+    0
 }
 
 // The mark of a dead slot's id, in a virtual tree.
@@ -113,7 +112,7 @@ fn dead_reports(
     let mut n: usize = 0;
     while n < t.used {
         let h = block::words_at(heads, n);
-        f = push_if(freed, f, dead_place(h.dead, h.placed), h.block);
+        f = push_if(freed, f, left_place(h.dead == 1, h.placed), h.block);
         r = push_if(removed, r, dead_name(h.dead, t.by_id, h.named), h.id);
         n += 1;
     }
@@ -332,7 +331,8 @@ fn write_at(
     let new = fresh(t.by_id, h.named);
     let id = id_after(new, w.next, h.id);
     let oid = block_id(t.by_id, id, a as u64);
-    let f = push_if(freed, w.freed, h.placed, h.block);
+    let left = left_place(h.dirty == 1, h.placed);
+    let f = push_if(freed, w.freed, left, h.block);
     pack_at(t, image, heads, bytes, size, slots, n, a, oid, xid);
     block::rewrite(heads, n, a as u64, named_after(t.by_id, h.named), id);
     let moves = bank::one_if(t.by_id);
@@ -406,18 +406,6 @@ fn write_node(
     )
 }
 
-// How many records the walk goes through: none at the depth where it ends.
-fn kids_at(heads: &[u64], n: usize, d: u64) -> u64
-    requires { ⌜ (n + 1) * 9 ≤ length (now heads) ⌝ }
-    ensures { λ r. ⌜ r ≡ cond (eqb d 0) 0 (wordsOf (headAt (now (heads .entry)) n) .count) ⌝ }
-{
-    if d == 0 {
-        return 0;
-    }
-    let h = block::words_at(heads, n);
-    h.count
-}
-
 // Children before parent and left to right, the depth falling with the level.
 fn write_from(
     t: Tree,
@@ -453,12 +441,31 @@ fn write_from(
     ensures spaced { λ _. ⌜ Spaced size (length (now (image .entry)) / size)
         (spaceOf (now (bitmap .exit)) (now (counts .entry)) (now (free .exit))) ⌝ }
 {
-    let count = kids_at(heads, n, d);
+    if d == 0 {
+        return write_node(
+            t,
+            image,
+            bitmap,
+            counts,
+            free,
+            heads,
+            bytes,
+            freed,
+            ids,
+            places,
+            size,
+            slots,
+            xid,
+            n,
+            w,
+        );
+    }
+    let h = block::words_at(heads, n);
     let part = bank::slot_of(bytes, size, n);
     let mut v = w;
     let mut i: u64 = 0;
     let mut at: usize = 0;
-    while i < count {
+    while i < h.count {
         let kid = kids::kid_of(part, at);
         at = kid.next;
         i += 1;

@@ -96,8 +96,9 @@ flushing-same i i′ p ns ns′ n n′ f f′ r m m′ a a′ e1 e2 e3 e4 e5 e6 
 
 module _ (size slots xid n a : ℕ) (t : Tree) (image image′ heads heads′ bytes fs fs′ is is′ ps ps′ : List ℕ) (w : code.Flushing)
     (st : Standing size slots t heads bytes) (hd : Dirty size t heads bytes n) (h : Words) (eh : h ≡ wordsOf (headAt heads n))
-    (new id nm oid f m k m′ : ℕ) (en : new ≡ cond (t .«by_id» && not (eqb (h .named) 1)) 1 0) (ei : id ≡ cond (eqb new 1) (w .next) (h .id))
-    (eo : oid ≡ cond (t .«by_id») id a) (pf : Pushed (w .freed) (marked (h .placed) (h .block)) fs fs′ f)
+    (new id nm oid left f m k m′ : ℕ) (en : new ≡ cond (t .«by_id» && not (eqb (h .named) 1)) 1 0) (ei : id ≡ cond (eqb new 1) (w .next) (h .id))
+    (eo : oid ≡ cond (t .«by_id») id a) (el : (x : ℕ) → marked left x ≡ cond (eqb (h .dirty) 1) (marked (h .placed) x) [])
+    (pf : Pushed (w .freed) (marked left (h .block)) fs fs′ f)
     (em : image′ ≡ packedAt (stateOf size t heads bytes) xid n a oid image) (ek : nm ≡ cond (t .«by_id») 1 (h .named))
     (ew : heads′ ≡ splice heads (n * 9) (headWords (writtenHead (headAt heads n) a nm id)))
     (ev : k ≡ cond (t .«by_id») 1 0) (pi : Pushed (w .moved) (marked k oid) is is′ m) (pp : Pushed (w .moved) (marked k a) ps ps′ m′) where
@@ -120,6 +121,12 @@ module _ (size slots xid n a : ℕ) (t : Tree) (image image′ heads heads′ by
   block-is : nodeIn size heads bytes n .block ≡ marked (h .placed) (h .block)
   unfolding nodeIn nodeOf wordsOf
   block-is = rw eh
+
+  left-is : nodeIn size heads bytes n .block ≡ marked left (h .block)
+  unfolding nodeIn nodeOf wordsOf
+  left-is =
+      let d : eqb (h .dirty) 1 ≡ true = ap (λ (x : Words). eqb (x .dirty) 1) eh ∙ hd .dirty in
+      block-is ∙ sym (el (h .block) ∙ rw d)
 
   id-is : nodeIn size heads bytes n .id ≡ marked (h .named) (h .id)
   unfolding nodeIn nodeOf wordsOf
@@ -156,7 +163,7 @@ module _ (size slots xid n a : ℕ) (t : Tree) (image image′ heads heads′ by
       (em ∙ ap (λ (o : ℕ). packedAt (stateOf size t heads bytes) xid n a o image) oid-is)
       (nodes-are ∙ ap₂ (λ (y : MemNode) (l : List ℕ). set (nodesOf size heads bytes (t .used)) n (rewritten y a l)) (sym node-is) list-is)
       (ap (λ (x : ℕ). w .next + x) new-is)
-      (pf .numbers ∙ ap (λ (l : List ℕ). numbersOf (w .freed) fs ++ l) (sym (ap (λ (y : MemNode). y .block) node-is ∙ block-is)))
+      (pf .numbers ∙ ap (λ (l : List ℕ). numbersOf (w .freed) fs ++ l) (sym (ap (λ (y : MemNode). y .block) node-is ∙ left-is)))
       (pairs-push (t .«by_id») (w .moved) m m′ k oid a is is′ ps ps′ ev pi pp
       ∙ ap (λ (o : ℕ). pairsOf (w .moved) is ps ++ cond (t .«by_id») ((o, a) ∷ []) []) oid-is)
       (add-one (w .allocated))
@@ -203,3 +210,10 @@ module _ (size n : ℕ) (t : Tree) (heads bytes fs is ps : List ℕ) (w : code.F
       by-test (eqb (headAt heads n .named) 1)
       (λ q. let y = rw q at (r .next) in let x = rw q at z in omega arith)
       (λ q. let y = rw q at (r .next) in let x = rw q at z in omega arith)
+
+  -- room for one more, and for as many as are moved: a wrong count is refused for what it says, not for its size
+  pub room-allocated : (k : ℕ) → k ≡ cond (t .«by_id») 1 0 → (w .allocated + 1 < 2 ^ 64) × (w .allocated + k < 2 ^ 64)
+  room-allocated k e =
+      by-test (t .«by_id»)
+      (λ q. let z = rw q at e in (r .allocated, omega (arith, r .allocated)))
+      (λ q. let z = rw q at e in (r .allocated, omega (arith, r .allocated)))

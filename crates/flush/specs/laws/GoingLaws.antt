@@ -1,20 +1,18 @@
 -- Laws of the walk over a node's children, then the node. Assumes nothing.
 use mathlib.Core.Path.{_≡_, refl, sym, ap, _∙_}
 use mathlib.Core.List.{List, [], _∷_}
-use mathlib.Core.Bool.{true, false, cond, not}
+use mathlib.Core.Bool.{true, false, not}
 use Prim.Native.Nat.{ℕ, suc, _+_, _-_, _≤_, _<_}
 use native.Mathlib.Omega.{arith}
 use lib.ListN.{length, getD, drop, drop-of-length-le}
 use lib.Seq.{getD-drop}
-use lib.Dec.{eqb}
-use borrow.Author.Tests.{eq-eqb, ne-eqb, eqb-true, eqb-false, not-true, not-false}
+use borrow.Author.Tests.{not-true, not-false}
 use Rattle.tree.specs.Format.{Entry, Val, ghost, leaf, disk, mem, valAt, MemNode, headAt, recordLength, recordsLength, entryOf, entriesOf}
 use Rattle.tree.specs.State.{State, nodeAt}
 use Rattle.tree.specs.Workspace.{slotBytes, stateOf}
 use Rattle.tree.specs.internal.Bank.{nodeIn, live, Ready}
 use Rattle.tree.specs.internal.Block.{wordsOf}
 use Rattle.tree.specs.internal.Kids.{slotsOf, kidMeans}
-use Rattle.tree.specs.laws.NodeLaws.{by-test}
 use Rattle.tree.specs.laws.NodeSlots.{at-next, entries-head, length-entries}
 use Rattle.tree.specs.laws.BankLaws.{live-entries}
 use Rattle.tree.specs.laws.SlotSteps.{slot-room}
@@ -62,55 +60,45 @@ unfolding writeKids
 kids-out f e es w q =
     by-val (e .value) (λ p. rw p) (λ b p. rw p) (λ r p. rw p) (λ c p. absurd (no-slot (e .value) c q p))
 
--- ---- how many records
+-- ---- a leaf
 
-pub kids-end : (d x : ℕ) → d ≡ 0 → _≡_ {A = ℕ} 0 (cond (eqb d 0) 0 x)
-kids-end d x e = rw (eq-eqb d 0 e)
+leaf-is : (d : ℕ) (s : State) (xid n : ℕ) (w : Flushing) → d ≡ 0 → writeNode s xid n w ≡ writeFrom d s xid n w
+unfolding writeFrom
+leaf-is d s xid n w e = rw e
 
-pub kids-deep : (d : ℕ) (h w : Words) → (d ≡ 0 → ⊥) → h ≡ w → h .count ≡ cond (eqb d 0) 0 (w .count)
-kids-deep d h w n e = rw (ne-eqb d 0 n, e)
+pub leaf-fits : (a b c d : ℕ) (s : State) (xid n : ℕ) (w : Flushing) → d ≡ 0 → Fitting a b c (writeFrom d s xid n w)
+    → Fitting a b c (writeNode s xid n w)
+leaf-fits a b c d s xid n w e f = rw (leaf-is d s xid n w e) f
 
-module _ (size slots n d : ℕ) (t : Tree) (heads bytes part : List ℕ) (count : ℕ) (ec : count ≡ cond (eqb d 0) 0 (wordsOf (headAt heads n) .count))
-    (is : part ≡ slotBytes size bytes n) where
-  pub deep-some : (i : ℕ) → i < count → 1 ≤ d
-  deep-some i h = by-test (eqb d 0)
-      (λ q. let z : count ≡ 0 = ec ∙ rw q in absurd (omega arith))
-      (λ q. let z : d ≡ 0 → ⊥ = eqb-false d 0 q in omega arith)
+pub leaf-wrote : (d : ℕ) (s : State) (xid n : ℕ) (w : Flushing) → d ≡ 0 → (x : Flushing) → x ≡ writeNode s xid n w → x ≡ writeFrom d s xid n w
+leaf-wrote d s xid n w e x q = q ∙ leaf-is d s xid n w e
 
-  module _ (r : Ready size slots (t .used) heads bytes) (hn : n < t .used) where
-    pub kids-room : recordsLength count part ≤ length part
-    unfolding wordsOf recordsLength
-    kids-room =
-        let z = slot-room size slots (t .used) n heads bytes r hn part is (live (headAt heads n)) refl in
-        by-test (eqb d 0)
-        (λ q. rw (ec, q) (omega arith))
-        (λ q. rw (ec, q) z)
+-- ---- the records of a node that is no leaf
 
-    node-records : (d ≡ 0 → ⊥) → nodeAt (stateOf size t heads bytes) n .entries ≡ entriesOf count part
-    unfolding nodeIn wordsOf
-    node-records z =
-        ap (λ (m : MemNode). m .entries) (node-in size t heads bytes n hn) ∙ live-entries (headAt heads n) (slotBytes size bytes n)
-        ∙ rw (ec, ne-eqb d 0 z, is)
+pub kids-count : (h w : Words) → h ≡ w → h .count ≡ w .count
+kids-count h w e = ap (λ (x : Words). x .count) e
 
-    whole-flat : (xid : ℕ) (w : Flushing) → d ≡ 0 → writeNode (stateOf size t heads bytes) xid n (writeKids
-        (writeFrom (d - 1) (stateOf size t heads bytes) xid) (entriesOf count part) w) ≡ writeFrom d (stateOf size t heads bytes) xid n w
-    unfolding writeFrom writeKids entriesOf
-    whole-flat xid w z = let c : count ≡ 0 = ec ∙ rw (eq-eqb d 0 z) in rw (c, z)
+module _ (size slots n d : ℕ) (t : Tree) (heads bytes part : List ℕ) (count : ℕ) (nz : d ≡ 0 → ⊥) (ec : count ≡ wordsOf (headAt heads n) .count)
+    (is : part ≡ slotBytes size bytes n) (r : Ready size slots (t .used) heads bytes) (hn : n < t .used) where
+  pub kids-room : recordsLength count part ≤ length part
+  unfolding wordsOf
+  kids-room = rw ec (slot-room size slots (t .used) n heads bytes r hn part is (live (headAt heads n)) refl)
 
-    whole-deep : (xid : ℕ) (w : Flushing) (e : ℕ) → d ≡ suc e → writeNode (stateOf size t heads bytes) xid n (writeKids
-        (writeFrom (d - 1) (stateOf size t heads bytes) xid) (entriesOf count part) w) ≡ writeFrom d (stateOf size t heads bytes) xid n w
-    unfolding writeFrom
-    whole-deep xid w e z =
-        let y : d ≡ 0 → ⊥ = λ q. omega arith in
-        let k : suc e - 1 ≡ e = omega arith in
-        rw (← node-records y, z, k)
+  node-records : nodeAt (stateOf size t heads bytes) n .entries ≡ entriesOf count part
+  unfolding nodeIn wordsOf
+  node-records =
+      ap (λ (m : MemNode). m .entries) (node-in size t heads bytes n hn) ∙ live-entries (headAt heads n) (slotBytes size bytes n)
+      ∙ rw (ec, is)
 
-    -- children first, then the node
-    whole-is : (xid : ℕ) (w : Flushing) → writeNode (stateOf size t heads bytes) xid n (writeKids (writeFrom (d - 1) (stateOf size t heads bytes) xid)
-        (entriesOf count part) w) ≡ writeFrom d (stateOf size t heads bytes) xid n w
-    whole-is xid w = by-test (eqb d 0)
-        (λ q. whole-flat xid w (eqb-true d 0 q))
-        (λ q. let z : d ≡ 0 → ⊥ = eqb-false d 0 q in let y : d ≡ suc (d - 1) = omega arith in whole-deep xid w (d - 1) y)
+  whole-deep : (xid : ℕ) (w : Flushing) (e : ℕ) → d ≡ suc e → writeNode (stateOf size t heads bytes) xid n (writeKids
+      (writeFrom (d - 1) (stateOf size t heads bytes) xid) (entriesOf count part) w) ≡ writeFrom d (stateOf size t heads bytes) xid n w
+  unfolding writeFrom
+  whole-deep xid w e z = let k : suc e - 1 ≡ e = omega arith in rw (← node-records, z, k)
+
+  -- children first, then the node
+  whole-is : (xid : ℕ) (w : Flushing) → writeNode (stateOf size t heads bytes) xid n (writeKids (writeFrom (d - 1) (stateOf size t heads bytes) xid)
+      (entriesOf count part) w) ≡ writeFrom d (stateOf size t heads bytes) xid n w
+  whole-is xid w = let y : d ≡ suc (d - 1) = omega (arith, nz) in whole-deep xid w (d - 1) y
 
 -- ---- the loop
 
@@ -186,14 +174,12 @@ module _ (size slots blocks xid n d : ℕ) (t : Tree) (part cs bytes image₀ bm
           spaced = sp;
         }
 
-        module _ (ec : count ≡ cond (eqb d 0) 0 (wordsOf (headAt heads₀ n) .count)) (ep : part ≡ slotBytes size bytes n)
+        module _ (nz : d ≡ 0 → ⊥) (ec : count ≡ wordsOf (headAt heads₀ n) .count) (ep : part ≡ slotBytes size bytes n)
             (r : Ready size slots (t .used) heads₀ bytes) (hn : n < t .used) where
           entries-are : nodeIn size heads bytes n .entries ≡ entriesOf count part
           entries-are =
-              let z : 1 ≤ d = deep-some size slots n d t heads₀ bytes part count ec ep i hi in
-              let y : d ≡ 0 → ⊥ = λ q. omega arith in
               sym (ap (λ (m : MemNode). m .entries) (node-in size t heads bytes n hn)) ∙ g .left .alike .entries n
-              ∙ node-records size slots n d t heads₀ bytes part count ec ep r hn y
+              ∙ node-records size slots n d t heads₀ bytes part count nz ec ep r hn
 
           pub go-alive : Alive size t heads bytes (k .slot)
           unfolding valAt
@@ -217,11 +203,11 @@ module _ (size slots blocks xid n d : ℕ) (t : Tree) (part cs bytes image₀ bm
               grows-kids (writeFrom (d - 1) s₀ xid) (grows-from (d - 1) s₀ xid) (drop (i + 1) (entriesOf count part)) u in
               let p′ : Grows u x = rw on-is at p in
               let o : Grows u (writeNode s₀ xid n x) = grows-on u x (writeNode s₀ xid n x) p′ (grows-node s₀ xid n x) in
-              let f′ : Fitting a b c (writeNode s₀ xid n x) = rw (whole-is size slots n d t heads₀ bytes part count ec ep r hn xid start) f in
+              let f′ : Fitting a b c (writeNode s₀ xid n x) = rw (whole-is size slots n d t heads₀ bytes part count nz ec ep r hn xid start) f in
               rw child-is (fitting-less a b c u (writeNode s₀ xid n x) o f′)
 
     -- the end of the loop, and the node
-    module _ (ec : count ≡ cond (eqb d 0) 0 (wordsOf (headAt heads₀ n) .count)) (ep : part ≡ slotBytes size bytes n)
+    module _ (nz : d ≡ 0 → ⊥) (ec : count ≡ wordsOf (headAt heads₀ n) .count) (ep : part ≡ slotBytes size bytes n)
         (r : Ready size slots (t .used) heads₀ bytes) (al : Alive size t heads₀ bytes n) (hi : count ≤ i) where
       kids-are : now ≡ writeKids (writeFrom (d - 1) s₀ xid) (entriesOf count part) start
       unfolding writeKids
@@ -231,7 +217,7 @@ module _ (size slots blocks xid n d : ℕ) (t : Tree) (part cs bytes image₀ bm
 
       end-is : writeNode (stateOf size t heads bytes) xid n now ≡ writeFrom d s₀ xid n start
       end-is = node-alike size t heads₀ heads bytes xid n now ∙ ap (writeNode s₀ xid n) kids-are
-          ∙ whole-is size slots n d t heads₀ bytes part count ec ep r (al .used) xid start
+          ∙ whole-is size slots n d t heads₀ bytes part count nz ec ep r (al .used) xid start
 
       pub end-alive : Alive size t heads bytes n
       end-alive = record {

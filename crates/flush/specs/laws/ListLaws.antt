@@ -120,12 +120,12 @@ pairs-end e r r′ k x y l l′ m m′ p q =
 
 -- ---- dead nodes
 
-pub place-none : (dead placed : ℕ) → (dead ≡ 1 → ⊥) → (x : ℕ) → marked 0 x ≡ cond (eqb dead 1) (marked placed x) []
+pub place-kept : (b : Bool) (placed : ℕ) → b ≡ false → (x : ℕ) → marked 0 x ≡ cond b (marked placed x) []
 unfolding marked
-place-none dead placed d x = rw (ne-eqb dead 1 d)
+place-kept b placed e x = rw e
 
-pub place-dead : (dead placed : ℕ) → dead ≡ 1 → (x : ℕ) → marked placed x ≡ cond (eqb dead 1) (marked placed x) []
-place-dead dead placed d x = rw (eq-eqb dead 1 d)
+pub place-left : (b : Bool) (placed : ℕ) → b ≡ true → (x : ℕ) → marked placed x ≡ cond b (marked placed x) []
+place-left b placed e x = rw e
 
 pub name-none : (dead named : ℕ) (b : Bool) → (dead ≡ 1 → ⊥) → (x : ℕ) → marked 0 x ≡ cond (eqb dead 1 && b) (marked named x) []
 unfolding marked

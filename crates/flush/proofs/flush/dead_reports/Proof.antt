@@ -27,8 +27,8 @@ loop-holds c = search laws
 words-at-requires : tie.Need-words-at-requires Inv-loop μ-loop
 words-at-requires c κs = search laws
 
-dead-place-requires : tie.Need-dead-place-requires Inv-loop μ-loop
-dead-place-requires c κs = search laws
+left-place-requires : tie.Need-left-place-requires Inv-loop μ-loop
+left-place-requires c κs = search laws
 
 push-if-requires : tie.Need-push-if-requires Inv-loop μ-loop
 push-if-requires c κs = search laws
@@ -52,8 +52,8 @@ loop-again c = (
   search laws,
   search laws,
   search laws,
-  places-next _ _ _ _ _ _ _ _ _ (c .before .before .before .before .before .before .before .before .before .before .before .if1 .taken) (c .before .before .before .before .before .before .before .before .before .before .words-at .ensures) (c .before .before .before .before .before .before .before .before .dead-place .ensures) (c .before .before .before .before .before .before .before .push-if .ensures) (c .before .before .before .before .before .before .before .before .before .before .before .before .before .loop .inv .5),
-  names-next _ _ _ _ _ _ _ _ _ _ (c .before .before .before .before .before .before .before .before .before .before .before .if1 .taken) (c .before .before .before .before .before .before .before .before .before .before .words-at .ensures) (c .before .before .before .dead-name .ensures) (c .before .before .push-if2 .ensures) (c .before .before .before .before .before .before .before .before .before .before .before .before .before .loop .inv .6),
+  places-next _ _ _ _ _ _ _ _ _ (c .before .before .before .before .before .before .before .before .before .before .before .before .if1 .taken) (c .before .before .before .before .before .before .before .before .before .before .before .words-at .ensures) (c .before .before .before .before .before .before .before .before .left-place .ensures .0) (c .before .before .before .before .before .before .before .push-if .ensures) (c .before .before .before .before .before .before .before .before .before .before .before .before .before .before .loop .inv .5),
+  names-next _ _ _ _ _ _ _ _ _ _ (c .before .before .before .before .before .before .before .before .before .before .before .before .if1 .taken) (c .before .before .before .before .before .before .before .before .before .before .before .words-at .ensures) (c .before .before .before .dead-name .ensures) (c .before .before .push-if2 .ensures) (c .before .before .before .before .before .before .before .before .before .before .before .before .before .before .loop .inv .6),
   search laws,
   search laws,
 )
@@ -75,7 +75,7 @@ dead-reports-spec =
     μ-loop
     loop-holds
     words-at-requires
-    dead-place-requires
+    left-place-requires
     push-if-requires
     dead-name-requires
     push-if-requires-2
