@@ -24,10 +24,6 @@ use Rattle.moachest.specs.Words.{treeOf, stored}
 
 -- ---- open
 
-unfoldable pub openedNumber : Opened → ℕ
-openedNumber (opening.Refused x) = x
-openedNumber (opening.Open t) = 0
-
 unfoldable pub openedTree : List ℕ → Opened → List ℕ
 openedTree w (opening.Refused x) = w
 openedTree w (opening.Open t) = stored w t
@@ -36,12 +32,6 @@ unfoldable pub openedBack : ℕ → List ℕ → Opened
 openedBack r w = cond (eqb r 0) (opening.Open (treeOf w)) (opening.Refused r)
 
 -- ---- get: 0 none, 1 a ghost, 2 a value and its length
-
-unfoldable pub gotNumber : Got → ℕ
-gotNumber (getting.Refused x) = x
-gotNumber (getting.None t) = 0
-gotNumber (getting.Ghost t) = 0
-gotNumber (getting.Value t n) = 0
 
 unfoldable pub gotTree : List ℕ → Got → List ℕ
 gotTree w (getting.Refused x) = w
@@ -64,11 +54,6 @@ gotBack r w a =
 
 -- ---- floor: 0 none, 1 an entry and its record's length
 
-unfoldable pub flooredNumber : Floor → ℕ
-flooredNumber (flooring.Refused x) = x
-flooredNumber (flooring.None t) = 0
-flooredNumber (flooring.Record t n) = 0
-
 unfoldable pub flooredTree : List ℕ → Floor → List ℕ
 flooredTree w (flooring.Refused x) = w
 flooredTree w (flooring.None t) = stored w t
@@ -85,10 +70,6 @@ flooredBack r w a =
 
 -- ---- range: how many entries, and the bytes of their records
 
-unfoldable pub rangedNumber : Ranged → ℕ
-rangedNumber (ranging.Refused x) = x
-rangedNumber (ranging.Done t count long) = 0
-
 unfoldable pub rangedTree : List ℕ → Ranged → List ℕ
 rangedTree w (ranging.Refused x) = w
 rangedTree w (ranging.Done t count long) = stored w t
@@ -102,10 +83,6 @@ rangedBack r w a = cond (eqb r 0) (ranging.Done (treeOf w) (getD a 0 0) (getD a 
 
 -- ---- upsert, omap_put, omap_drop
 
-unfoldable pub editedNumber : Edited → ℕ
-editedNumber (editing.Refused x) = x
-editedNumber (editing.Done t) = 0
-
 unfoldable pub editedTree : List ℕ → Edited → List ℕ
 editedTree w (editing.Refused x) = w
 editedTree w (editing.Done t) = stored w t
@@ -114,11 +91,6 @@ unfoldable pub editedBack : ℕ → List ℕ → Edited
 editedBack r w = cond (eqb r 0) (editing.Done (treeOf w)) (editing.Refused r)
 
 -- ---- remove: 1 where the key was there, else 0
-
-unfoldable pub removedNumber : Removed → ℕ
-removedNumber (taking.Refused x) = x
-removedNumber (taking.Yes t) = 0
-removedNumber (taking.No t) = 0
 
 unfoldable pub removedTree : List ℕ → Removed → List ℕ
 removedTree w (taking.Refused x) = w
@@ -147,10 +119,6 @@ flushedWords f =
     ∷ f .fill
     ∷ f .done .next
     ∷ []
-
-unfoldable pub flushedNumber : Answer → ℕ
-flushedNumber (flushing.Refused x) = x
-flushedNumber (flushing.Done f) = 0
 
 unfoldable pub flushedAnswer : List ℕ → Answer → List ℕ
 flushedAnswer a (flushing.Refused x) = a

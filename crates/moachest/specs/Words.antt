@@ -65,19 +65,6 @@ wordsOf t =
     ∷ t .xid
     ∷ []
 
--- words 2 to 9 alone
-unfoldable pub infoWords : BTreeInfo → List ℕ
-infoWords i =
-    i .flags
-    ∷ i .«node_size»
-    ∷ i .«key_size»
-    ∷ i .«val_size»
-    ∷ i .«longest_key»
-    ∷ i .«longest_val»
-    ∷ i .«key_count»
-    ∷ i .«node_count»
-    ∷ []
-
 -- words with a tree stored at their start
 unfoldable pub stored : List ℕ → Tree → List ℕ
 stored w t = splice w 0 (wordsOf t)

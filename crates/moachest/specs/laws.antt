@@ -7,3 +7,4 @@ pub mod CallLaws
 pub mod TrustedLaws
 pub mod FlushCallLaws
 pub mod SizeLaws
+pub mod WrongExportsRuledOut

@@ -12,7 +12,8 @@ ghost use mathlib.Core.Path.{_≡_};
 ghost use Prim.Native.Nat.{_≤_};
 ghost use lib.ListN.{length};
 ghost use Rattle.seal.specs.Bytes.{splice};
-ghost use Rattle.moachest.specs.Answers.{openedNumber, openedTree, gotNumber, gotTree, gotAnswer, flooredNumber, flooredTree, flooredAnswer, rangedNumber, rangedTree, rangedAnswer, editedNumber, editedTree, removedNumber, removedTree, removedAnswer, flushedWords, flushedNumber, flushedAnswer};
+ghost use Rattle.moachest.specs.Answers.{openedTree, gotTree, gotAnswer, flooredTree, flooredAnswer, rangedTree, rangedAnswer, editedTree, removedTree, removedAnswer, flushedWords, flushedAnswer};
+ghost use Rattle.moachest.specs.internal.Returned.{openedNumber, gotNumber, flooredNumber, rangedNumber, editedNumber, removedNumber, flushedNumber};
 
 const ACCEPTED: u64 = 0;
 

@@ -7,7 +7,8 @@ ghost use mathlib.Core.List.{[], _∷_};
 ghost use Prim.Native.Nat.{_+_, _≤_, _<_};
 ghost use lib.ListN.{length, getD, set};
 ghost use Rattle.seal.specs.Bytes.{splice};
-ghost use Rattle.moachest.specs.Words.{infoOf, infoWords, treeOf, stored, lentNumbers};
+ghost use Rattle.moachest.specs.Words.{infoOf, treeOf, stored, lentNumbers};
+ghost use Rattle.moachest.specs.internal.Stored.{infoWords};
 
 pub const TREE_WORDS: usize = 14;
 

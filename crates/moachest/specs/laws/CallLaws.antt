@@ -28,7 +28,8 @@ use Rattle.flush.specs.Space.{Space}
 use Rattle.flush.specs.Flush.{Flushed}
 use Rattle.flush.specs.Answers.{flushedMeans}
 use Rattle.flush.specs.declared.flush.Answer.{Answer}
-use Rattle.moachest.specs.Answers.{openedNumber, openedTree, openedBack, gotNumber, gotTree, gotAnswer, gotBack, flooredNumber, flooredTree, flooredAnswer, flooredBack, rangedNumber, rangedTree, rangedAnswer, rangedBack, editedNumber, editedTree, editedBack, removedNumber, removedTree, removedAnswer, removedBack, flushedNumber, flushedAnswer, flushedBack}
+use Rattle.moachest.specs.Answers.{openedTree, openedBack, gotTree, gotAnswer, gotBack, flooredTree, flooredAnswer, flooredBack, rangedTree, rangedAnswer, rangedBack, editedTree, editedBack, removedTree, removedAnswer, removedBack, flushedAnswer, flushedBack}
+use Rattle.moachest.specs.internal.Returned.{openedNumber, gotNumber, flooredNumber, rangedNumber, editedNumber, removedNumber, flushedNumber}
 use Rattle.moachest.specs.laws.RefusalLaws.{Numbered, open-numbered, get-numbered, floor-numbered, range-numbered, upsert-numbered, put-numbered, drop-numbered, remove-numbered}
 use Rattle.moachest.specs.laws.WordLaws.{on-tree, on-words}
 use Rattle.moachest.specs.laws.AnswerLaws.{opened-back, got-back, floored-back, ranged-back, edited-back, removed-back, flushed-back}

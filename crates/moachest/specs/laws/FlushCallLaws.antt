@@ -18,7 +18,8 @@ use Rattle.flush.specs.Answers.{listsOf, flushedMeans, flushedIn, flushedLeaves
 use Rattle.flush.specs.declared.flush.Answer.{Answer}
 use Rattle.flush.specs.internal.Calls.{FlushCalled}
 use Rattle.moachest.specs.Words.{treeOf, onWords}
-use Rattle.moachest.specs.Answers.{flushedNumber, flushedAnswer, flushedBack}
+use Rattle.moachest.specs.Answers.{flushedAnswer, flushedBack}
+use Rattle.moachest.specs.internal.Returned.{flushedNumber}
 use Rattle.moachest.specs.laws.RefusalLaws.{flush-numbered, flush-in-numbered}
 use Rattle.moachest.specs.laws.WordLaws.{on-words}
 use Rattle.moachest.specs.laws.CallLaws.{moved, flushed-told}

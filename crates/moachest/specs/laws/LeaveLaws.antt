@@ -25,8 +25,10 @@ use Rattle.tree.specs.declared.edited.Removed.the-variants as taking
 use Rattle.flush.specs.declared.flush.Flushed.{Flushed}
 use Rattle.flush.specs.declared.flush.Answer.{Answer}
 use Rattle.flush.specs.declared.flush.Answer.the-variants as flushing
-use Rattle.moachest.specs.Words.{yes, mark, infoOf, infoWords, treeOf, wordsOf, stored}
-use Rattle.moachest.specs.Answers.{openedNumber, openedTree, gotNumber, gotTree, gotAnswer, flooredNumber, flooredTree, flooredAnswer, rangedNumber, rangedTree, rangedAnswer, editedNumber, editedTree, removedNumber, removedTree, removedAnswer, flushedWords, flushedNumber, flushedAnswer}
+use Rattle.moachest.specs.Words.{yes, mark, infoOf, treeOf, wordsOf, stored}
+use Rattle.moachest.specs.internal.Stored.{infoWords}
+use Rattle.moachest.specs.Answers.{openedTree, gotTree, gotAnswer, flooredTree, flooredAnswer, rangedTree, rangedAnswer, editedTree, removedTree, removedAnswer, flushedWords, flushedAnswer}
+use Rattle.moachest.specs.internal.Returned.{openedNumber, gotNumber, flooredNumber, rangedNumber, editedNumber, removedNumber, flushedNumber}
 
 -- ---- words
 

@@ -30,7 +30,8 @@ use Rattle.tree.specs.declared.range.Ranged.{Ranged}
 use Rattle.tree.specs.declared.edited.Edited.{Edited}
 use Rattle.tree.specs.declared.edited.Removed.{Removed}
 use Rattle.moachest.specs.Words.{treeOf, onTree, onWords}
-use Rattle.moachest.specs.Answers.{gotNumber, gotTree, gotAnswer, gotBack, flooredNumber, flooredTree, flooredAnswer, flooredBack, rangedNumber, rangedTree, rangedAnswer, rangedBack, editedNumber, editedTree, editedBack, removedNumber, removedTree, removedAnswer, removedBack}
+use Rattle.moachest.specs.Answers.{gotTree, gotAnswer, gotBack, flooredTree, flooredAnswer, flooredBack, rangedTree, rangedAnswer, rangedBack, editedTree, editedBack, removedTree, removedAnswer, removedBack}
+use Rattle.moachest.specs.internal.Returned.{gotNumber, flooredNumber, rangedNumber, editedNumber, removedNumber}
 use Rattle.moachest.specs.laws.RefusalLaws.{Numbered, n-get-in, n-floor-in, n-range-in, n-upsert-in, n-remove-in, n-put-in, n-drop-in}
 use Rattle.moachest.specs.laws.WordLaws.{on-tree, on-words}
 use Rattle.moachest.specs.laws.CallLaws.{moved, got-told, floored-told, ranged-told, edited-told, removed-told}

@@ -1,0 +1,3 @@
+-- Definitions that only internal contracts cite.
+pub mod Returned
+pub mod Stored
