@@ -441,6 +441,7 @@ impl Tree {
         if !lent::lent_holds(self, image, heads, bytes, lent) {
             return Floor::Refused(refusal::LENT);
         }
-        self.floor_in(image, heads, bytes, lent, key, out)
+        // All slots were looked at, so that a short way would save nothing.
+        self.floor_down(image, heads, bytes, lent, key, out)
     }
 }

@@ -226,6 +226,7 @@ impl Tree {
         if !lent::lent_holds(self, image, heads, bytes, lent) {
             return Got::Refused(refusal::LENT);
         }
-        self.get_in(image, heads, bytes, lent, key, out)
+        // All slots were looked at, so that a short way would save nothing.
+        self.get_down(image, heads, bytes, lent, key, out)
     }
 }

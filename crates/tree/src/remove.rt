@@ -562,6 +562,7 @@ impl Tree {
         if !lent::edit_holds(self, image, heads, bytes, scratch, lent) {
             return Removed::Refused(refusal::LENT);
         }
-        self.remove_in(image, heads, bytes, lent, key, scratch)
+        // All slots were looked at, so that a short way would save nothing.
+        self.remove_down(image, heads, bytes, lent, key, scratch)
     }
 }

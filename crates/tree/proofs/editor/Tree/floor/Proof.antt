@@ -18,8 +18,8 @@ same-length-2 c = search needs
 returns : tie.Need-returns
 returns c = (search (needs, floor-lent), (search (needs, floor-lent-same), (refl, refl)))
 
-floor-in-requires : tie.Need-floor-in-requires
-floor-in-requires c κs =
+floor-down-requires : tie.Need-floor-down-requires
+floor-down-requires c κs =
     let a = c .before .before .before .before .before .before .before .before .before .before .before .before .args in
     called-trusts (a .image .now) (a .lent) (a .self) _ _ _ (c .before .before .before .before .lent-holds .ensures) (c .before .before .before .if1 .left)
 
@@ -37,7 +37,7 @@ returns-2 c =
     let a = c .before .before .before .before .before .before .before .before .before .before .before .before .before .before .before .before .before .before .before .args in
     let e = c .before .before .before .before .before .before .before .before .before .before .before .lent-holds .ensures in
     let n = c .before .before .before .before .before .before .before .before .before .before .if1 .left in
-    let g = c .before .before .before .before .before .before .floor-in in
+    let g = c .before .before .before .before .before .before .floor-down in
     (floor-answer (a .image .now) (a .lent) (a .self) _ _ _ e n _ _ _ (g .ensures .0), (floor-output (a .image .now) (a .lent) (a .self) _ _ _ e n _ _ _ _ (g .ensures .1 .0), left-of (a .image .now) (a .lent) (a .self) _ _ (called-trusts (a .image .now) (a .lent) (a .self) _ _ _ e n) _ _ (g .result) (g .ensures .1 .1)))
 
 pub floor-spec : {M : Type 1} → statement M
@@ -48,7 +48,7 @@ floor-spec =
     same-length
     same-length-2
     returns
-    floor-in-requires
+    floor-down-requires
     same-length-3
     same-length-4
     same-length-5

@@ -19,8 +19,8 @@ same-length-2 c = search needs
 returns : tie.Need-returns
 returns c = (search (needs, get-lent), (search (needs, get-lent-same), (refl, refl)))
 
-get-in-requires : tie.Need-get-in-requires
-get-in-requires c κs =
+get-down-requires : tie.Need-get-down-requires
+get-down-requires c κs =
     let a = c .before .before .before .before .before .before .before .before .before .before .before .before .args in
     called-trusts (a .image .now) (a .lent) (a .self) _ _ _ (c .before .before .before .before .lent-holds .ensures) (c .before .before .before .if1 .left)
 
@@ -38,7 +38,7 @@ returns-2 c =
     let a = c .before .before .before .before .before .before .before .before .before .before .before .before .before .before .before .before .before .before .before .args in
     let e = c .before .before .before .before .before .before .before .before .before .before .before .lent-holds .ensures in
     let n = c .before .before .before .before .before .before .before .before .before .before .if1 .left in
-    let g = c .before .before .before .before .before .before .get-in in
+    let g = c .before .before .before .before .before .before .get-down in
     (get-answer (a .image .now) (a .lent) (a .self) _ _ _ e n _ _ _ (g .ensures .0), (get-output (a .image .now) (a .lent) (a .self) _ _ _ e n _ _ _ _ (g .ensures .1 .0), left-of (a .image .now) (a .lent) (a .self) _ _ (called-trusts (a .image .now) (a .lent) (a .self) _ _ _ e n) _ _ (g .result) (g .ensures .1 .1)))
 
 pub get-spec : {M : Type 1} → statement M
@@ -49,7 +49,7 @@ get-spec =
     same-length
     same-length-2
     returns
-    get-in-requires
+    get-down-requires
     same-length-3
     same-length-4
     same-length-5

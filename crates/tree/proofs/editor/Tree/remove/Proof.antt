@@ -24,8 +24,8 @@ returns c =
     let if1 = c .if1 in
     (remove-lent (args .image .now) (args .lent) (args .self) _ _ _ _ (edit-holds .ensures) _ (if1 .taken), (refl, refl))
 
-remove-in-requires : tie.Need-remove-in-requires
-remove-in-requires c κs =
+remove-down-requires : tie.Need-remove-down-requires
+remove-down-requires c κs =
     let args = c .before .before .before .before .before .before .before .before .before .before .before .before .before .args in
     let edit-holds = c .before .before .before .before .edit-holds in
     let if1 = c .before .before .before .if1 in (
@@ -47,9 +47,9 @@ returns-2 c =
     let args = c .before .before .before .before .before .before .before .before .before .before .before .before .before .before .before .before .before .before .before .before .args in
     let edit-holds = c .before .before .before .before .before .before .before .before .before .before .before .edit-holds in
     let if1 = c .before .before .before .before .before .before .before .before .before .before .if1 in
-    let remove-in = c .before .before .before .before .before .before .remove-in in (
-      remove-answer (args .image .now) (args .lent) (args .self) _ _ _ _ (edit-holds .ensures) _ _ (if1 .left) (remove-in .ensures .0),
-      removed-left (args .image .now) (args .lent) (args .self) _ _ _ _ (edit-holds .ensures) (if1 .left) (remove-in .last .1 .1 .0) (remove-in .last .1 .1 .1 .0) (remove-in .result) (remove-in .ensures .1),
+    let down = c .before .before .before .before .before .before .remove-down in (
+      remove-answer (args .image .now) (args .lent) (args .self) _ _ _ _ (edit-holds .ensures) _ _ (if1 .left) (down .ensures .0),
+      removed-left (args .image .now) (args .lent) (args .self) _ _ _ _ (edit-holds .ensures) (if1 .left) (down .last .1 .1 .0) (down .last .1 .1 .1 .0) (down .result) (down .ensures .1),
     )
 
 pub remove-spec : {M : Type 1} → statement M
@@ -61,7 +61,7 @@ remove-spec =
     same-length-2
     same-length-3
     returns
-    remove-in-requires
+    remove-down-requires
     same-length-4
     same-length-5
     same-length-6
