@@ -9,16 +9,27 @@ fn u16_at(bytes: &[u8], at: usize) -> usize {
     usize::from(bytes[at]) | usize::from(bytes[at + 1]) << 8
 }
 
+/// The lengths of the record at the start: its key's, and its value's if it is no ghost.
+fn lengths(records: &[u8]) -> (usize, Option<usize>) {
+    let mark = u16_at(records, 2);
+    (u16_at(records, 0), (mark != GHOST).then_some(mark))
+}
+
+/// The entry of the record at the start.
+#[inline]
+pub(crate) fn entry(records: &[u8]) -> Entry {
+    let (key, value) = lengths(records);
+    let (head, rest) = records.split_at(4 + key);
+    (head[4..].to_vec(), value.map(|length| rest[..length].to_vec()))
+}
+
 /// The entries of records that stand one after another.
 pub(crate) fn entries(mut records: &[u8]) -> Vec<Entry> {
     let mut out = Vec::new();
     while !records.is_empty() {
-        let (key, mark) = (u16_at(records, 0), u16_at(records, 2));
-        let value = if mark == GHOST { 0 } else { mark };
-        let (record, rest) = records.split_at(4 + key + value);
-        let held = (mark != GHOST).then(|| record[4 + key..].to_vec());
-        out.push((record[4..4 + key].to_vec(), held));
-        records = rest;
+        out.push(entry(records));
+        let (key, value) = lengths(records);
+        records = &records[4 + key + value.unwrap_or(0)..];
     }
     out
 }

@@ -71,11 +71,10 @@ impl Refusal {
     /// # Panics
     /// If the number is no refusal's. The library's contract gives no other.
     pub(crate) fn check(number: u64) -> Result<(), Refusal> {
-        match (number, Refusal::from_number(number)) {
-            (0, _) => Ok(()),
-            (_, Some(refusal)) => Err(refusal),
-            _ => panic!("the library answered {number}, which is no refusal: is it of another version?"),
+        if number == 0 {
+            return Ok(());
         }
+        Err(Refusal::from_number(number).unwrap_or_else(|| panic!("the library answered {number}, which is no refusal: is it of another version?")))
     }
 }
 

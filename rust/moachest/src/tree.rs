@@ -7,7 +7,7 @@ use std::fmt;
 use crate::flushed::{FlushRefused, Flushed};
 use crate::raw;
 use crate::reader::{Lent, Reader};
-use crate::record::{entries, Entry};
+use crate::record::{entries, entry, Entry};
 use crate::refusal::Refusal;
 use crate::space::Space;
 use crate::workspace::Workspace;
@@ -131,41 +131,37 @@ impl Tree {
     /// with [`Refusal::Output`].
     pub fn get_into(&mut self, rd: &Reader<'_>, key: &[u8], out: &mut [u8]) -> Result<Option<Option<usize>>> {
         let mut answer = [0; raw::ANSWER_WORDS];
-        self.call(rd, |t, image, trusts| t.get_once(image, trusts, key, out, &mut answer))?;
-        Ok(match answer {
-            [0, ..] => None,
-            [1, ..] => Some(None),
-            [_, length, ..] => Some(Some(length as usize)),
-        })
+        self.call(rd, |t, image, trusts| t.get_once(image, trusts, key, Some(&mut *out), &mut answer))?;
+        Ok(held(answer))
     }
 
     /// The value stored under `key`: `Some(None)` for a ghost entry.
     pub fn get(&mut self, rd: &Reader<'_>, key: &[u8]) -> Result<Option<Option<Vec<u8>>>> {
-        self.growing(MOST_VALUE, |t, out| {
-            let found = t.get_into(rd, key, out)?;
-            Ok(found.map(|value| value.map(|length| out[..length].to_vec())))
-        })
+        let mut answer = [0; raw::ANSWER_WORDS];
+        self.growing(rd, MOST_VALUE, |t, image, trusts| t.get_once(image, trusts, key, None, &mut answer))?;
+        match held(answer) {
+            Some(Some(length)) => Ok(Some(Some(self.out[..length].to_vec()))),
+            Some(None) => Ok(Some(None)),
+            None => Ok(None),
+        }
     }
 
     /// The entry with the greatest key `<= key`.
     pub fn floor(&mut self, rd: &Reader<'_>, key: &[u8]) -> Result<Option<Entry>> {
-        let most = 2 * self.lent.size;
-        self.growing(most, |t, out| {
-            let mut answer = [0; raw::ANSWER_WORDS];
-            t.call(rd, |t, image, trusts| t.floor_once(image, trusts, key, out, &mut answer))?;
-            let length = if answer[0] == 0 { 0 } else { answer[1] as usize };
-            Ok(entries(&out[..length]).pop())
-        })
+        let mut answer = [0; raw::ANSWER_WORDS];
+        self.growing(rd, 2 * self.lent.size, |t, image, trusts| t.floor_once(image, trusts, key, &mut answer))?;
+        if answer[0] == 0 {
+            return Ok(None);
+        }
+        Ok(Some(entry(&self.out[..answer[1] as usize])))
     }
 
     /// Every leaf entry with `lo <= key < hi`, in order.
     pub fn range(&mut self, rd: &Reader<'_>, lo: &[u8], hi: &[u8]) -> Result<Vec<Entry>> {
         let most = self.most_slots().max(self.work.slots) * 2 * self.lent.size;
-        self.growing(most, |t, out| {
-            let mut answer = [0; raw::ANSWER_WORDS];
-            t.call(rd, |t, image, trusts| t.range_once(image, trusts, [lo, hi], out, &mut answer))?;
-            Ok(entries(&out[..answer[1] as usize]))
-        })
+        let mut answer = [0; raw::ANSWER_WORDS];
+        self.growing(rd, most, |t, image, trusts| t.range_once(image, trusts, [lo, hi], &mut answer))?;
+        Ok(entries(&self.out[..answer[1] as usize]))
     }
 
     /// Every entry, in order. All nodes are loaded.
@@ -281,16 +277,24 @@ impl Tree {
         Ok(Flushed { root, moved, removed, allocated, freed, freed_blocks, keys, fill })
     }
 
-    /// Makes a lookup with the output as long as it is, and again with a longer one while it is refused with 20.
-    fn growing<T>(&mut self, most: usize, mut f: impl FnMut(&mut Tree, &mut [u8]) -> Result<T>) -> Result<T> {
-        let mut out = std::mem::take(&mut self.out);
-        let mut result = f(self, &mut out);
-        while matches!(result, Err(Refusal::Output)) && out.len() < most {
-            out.resize((2 * out.len()).clamp(self.lent.size.min(most), most), 0);
-            result = f(self, &mut out);
+    /// Makes a lookup with the tree's own output as long as it is, and again with a longer one while it is refused with 20.
+    fn growing(&mut self, rd: &Reader<'_>, most: usize, mut f: impl FnMut(&mut Tree, &[u8], bool) -> u64) -> Result<()> {
+        loop {
+            let result = self.call(rd, &mut f);
+            if result != Err(Refusal::Output) || self.out.len() >= most {
+                return result;
+            }
+            self.out.resize((2 * self.out.len()).clamp(self.lent.size.min(most), most), 0);
         }
-        self.out = out;
-        result
+    }
+}
+
+/// What get's words say: nothing, a ghost, or a value and its length.
+fn held(answer: [u64; raw::ANSWER_WORDS]) -> Option<Option<usize>> {
+    match answer {
+        [0, ..] => None,
+        [1, ..] => Some(None),
+        [_, length, ..] => Some(Some(length as usize)),
     }
 }
 

@@ -46,22 +46,26 @@ impl Tree {
         unsafe { look_up!(raw::moachest_open, self, image, root, order, xid) }
     }
 
-    pub(super) fn get_once(&mut self, image: &[u8], trusts: bool, key: &[u8], out: &mut [u8], answer: &mut Answer) -> u64 {
+    /// Without `out` the answer goes to the tree's own output.
+    pub(super) fn get_once(&mut self, image: &[u8], trusts: bool, key: &[u8], out: Option<&mut [u8]>, answer: &mut Answer) -> u64 {
         let f = if trusts { raw::moachest_get_trusted } else { raw::moachest_get };
+        let out = out.unwrap_or(&mut self.out);
         // SAFETY: lent memory and, where it is the trusted call, trusted slots, as above.
         unsafe { look_up!(f, self, image, key.as_ptr(), key.len(), out.as_mut_ptr(), out.len(), answer.as_mut_ptr(), answer.len()) }
     }
 
-    pub(super) fn floor_once(&mut self, image: &[u8], trusts: bool, key: &[u8], out: &mut [u8], answer: &mut Answer) -> u64 {
+    pub(super) fn floor_once(&mut self, image: &[u8], trusts: bool, key: &[u8], answer: &mut Answer) -> u64 {
         let f = if trusts { raw::moachest_floor_trusted } else { raw::moachest_floor };
+        let out = &mut self.out;
         // SAFETY: lent memory and, where it is the trusted call, trusted slots, as above.
         unsafe { look_up!(f, self, image, key.as_ptr(), key.len(), out.as_mut_ptr(), out.len(), answer.as_mut_ptr(), answer.len()) }
     }
 
-    pub(super) fn range_once(&mut self, image: &[u8], trusts: bool, ends: [&[u8]; 2], out: &mut [u8], answer: &mut Answer) -> u64 {
+    pub(super) fn range_once(&mut self, image: &[u8], trusts: bool, ends: [&[u8]; 2], answer: &mut Answer) -> u64 {
         let f = if trusts { raw::moachest_range_trusted } else { raw::moachest_range };
         let [lo, hi] = ends;
         let (lo, lo_length, hi, hi_length) = (lo.as_ptr(), lo.len(), hi.as_ptr(), hi.len());
+        let out = &mut self.out;
         // SAFETY: lent memory and, where it is the trusted call, trusted slots, as above.
         unsafe { look_up!(f, self, image, lo, lo_length, hi, hi_length, out.as_mut_ptr(), out.len(), answer.as_mut_ptr(), answer.len()) }
     }
