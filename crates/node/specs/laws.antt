@@ -20,6 +20,7 @@ pub mod HeadLaws
 pub mod SlotLaws
 pub mod LikeLaws
 pub mod IdLaws
+pub mod RunLaws
 pub mod RelinkLaws
 pub mod FindLaws
 pub mod StandLaws

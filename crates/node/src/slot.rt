@@ -14,7 +14,7 @@ ghost use Rattle.node.specs.Entry.{valueLength};
 ghost use Rattle.node.specs.Records.{markLength, valueOf, recordLength, entryOf, recordsLength, entriesOf};
 ghost use Rattle.node.specs.Slot.{insertAt, removeAt, withKey, withValue, recordsHold, isChild, valueMeans};
 ghost use Rattle.node.specs.Order.{pair};
-ghost use Rattle.node.specs.internal.SlotSteps.{childOf, pairId, idBelow, foundIn, lastIn};
+ghost use Rattle.node.specs.internal.SlotSteps.{runsOn, RunOf, childOf, pairId, idBelow, foundIn, lastIn};
 
 // Where a key's place is among n records: the entries before it, its offset, and whether the entry there has the key.
 pub struct Found {
@@ -27,6 +27,13 @@ pub struct Found {
 pub struct Last {
     pub count: u64,
     pub at: usize,
+}
+
+// How many leading records a search passes at once, where the next lies, and the last of them: the first if there is none.
+pub struct Run {
+    pub count: u64,
+    pub at: usize,
+    pub last: usize,
 }
 
 // A record's key length and mark, the length of a value that has the mark, and how long a record is that has both.
@@ -161,6 +168,55 @@ fn id_below(slot: &[u8], at: usize, id: u64) -> bool
     bytes::u64_at(slot, at + 4) < id
 }
 
+// Whether the record at an offset has a mark, and a pair key whose id is below an id.
+fn runs_on(slot: &[u8], at: usize, mark: u64, id: u64) -> bool
+    requires { ⌜ at + recordLength (drop at (now slot)) ≤ length (now slot) ⌝ }
+    ensures { λ r. ⌜ r ≡ runsOn (now (slot .entry)) at mark id ⌝ }
+{
+    if bytes::u16_at(slot, at + 2) != mark {
+        return false;
+    }
+    id_below(slot, at, id)
+}
+
+// The leading records whose keys are pairs with an id below an id and whose marks are the first one's. They have one length, so that nothing
+// waits for it, and the loop has nothing else to do: most of a search in pair order is here.
+fn run_of(slot: &[u8], n: u64, id: u64) -> Run
+    requires { ⌜ recordsLength n (now slot) ≤ length (now slot) ⌝ }
+    ensures { λ r. ⌜ RunOf (now (slot .entry)) n id r ⌝ }
+{
+    let mut i = 0;
+    let mut at = 0;
+    let mut last = 0;
+    if n == 0 {
+        return Run {
+            count: i,
+            at: at,
+            last: last,
+        };
+    }
+    let mark = bytes::u16_at(slot, 2);
+    let len = 20 + record::mark_length(mark);
+    while i < n {
+        let on = runs_on(slot, at, mark, id);
+        if !on {
+            return Run {
+                count: i,
+                at: at,
+                last: last,
+            };
+        }
+        last = at;
+        at += len;
+        i += 1;
+    }
+    Run {
+        count: i,
+        at: at,
+        last: last,
+    }
+}
+
 // The place of a key in pair order, whose records mostly have one length.
 fn below_pair(slot: &[u8], n: u64, key: &[u8]) -> Found
     requires { ⌜ recordsLength n (now slot) ≤ length (now slot) ⌝ }
@@ -168,8 +224,9 @@ fn below_pair(slot: &[u8], n: u64, key: &[u8]) -> Found
 {
     let order = Order { code: Order::PAIR };
     let id = id_of(key);
-    let mut i = 0;
-    let mut at = 0;
+    let run = run_of(slot, n, id);
+    let mut i = run.count;
+    let mut at = run.at;
     let mut like = BARE;
     while i < n {
         if !id_below(slot, at, id) {
@@ -202,9 +259,10 @@ fn not_above_pair(slot: &[u8], n: u64, key: &[u8]) -> Last
 {
     let order = Order { code: Order::PAIR };
     let id = id_of(key);
-    let mut i = 0;
-    let mut at = 0;
-    let mut last = 0;
+    let run = run_of(slot, n, id);
+    let mut i = run.count;
+    let mut at = run.at;
+    let mut last = run.last;
     let mut like = BARE;
     while i < n {
         if !id_below(slot, at, id) {

@@ -10,6 +10,7 @@ use Rattle.seal.specs.Bytes.{u16At, u64At}
 use Rattle.node.specs.Entry.{Val, disk, mem, riseAfter, rising, every}
 use Rattle.node.specs.Records.{markLength, recordLength, entryOf, entriesOf, recordsLength}
 use Rattle.node.specs.Fit.{padded, keysLength, valuesLength}
+use Rattle.node.specs.Order.{pair}
 use Rattle.node.specs.Find.{placeOf, isThere, notAbove}
 use Rattle.node.specs.Slot.{recordsHold, valueLengthHolds, entryHolds}
 use Rattle.node.specs.declared.info.BTreeInfo.{BTreeInfo}
@@ -17,6 +18,7 @@ use Rattle.node.specs.declared.record.Record.{Record}
 use Rattle.node.specs.declared.fit.Lengths.{Lengths}
 use Rattle.node.specs.declared.slot.Found.{Found}
 use Rattle.node.specs.declared.slot.Last.{Last}
+use Rattle.node.specs.declared.slot.Run.{Run}
 use Rattle.node.specs.declared.head.Head.{Head}
 use Rattle.node.specs.declared.read.Node.{Node}
 use Rattle.node.specs.declared.stands.Checked.{Checked}
@@ -49,6 +51,19 @@ pairId k = cond (eqb (length k) 16) (u64At k 0) 0
 -- a pair key whose id is below an id
 unfoldable pub idBelow : List ℕ → ℕ → Bool
 idBelow k id = eqb (length k) 16 && ltb (u64At k 0) id
+
+-- the record at an offset has a mark, and a pair key whose id is below an id
+unfoldable pub runsOn : List ℕ → ℕ → ℕ → ℕ → Bool
+runsOn l at mark id = eqb (u16At l (at + 2)) mark && idBelow (entryOf (drop at l) .key) id
+
+-- so many leading records are passed by a search for any key of an id: where the next lies, and the last of them, else the first of all
+pub record RunOf (l : List ℕ) (n id : ℕ) (r : Run) : Type 0 where
+  pub upto : r .count ≤ n
+  pub start : r .at ≡ recordsLength (r .count) l
+  pub last : r .last ≡ recordsLength (r .count - 1) l
+  pub place : (k : List ℕ) → id ≡ pairId k → r .count + placeOf pair k (drop (r .count) (entriesOf n l)) ≡ placeOf pair k (entriesOf n l)
+  pub there : (k : List ℕ) → id ≡ pairId k → isThere pair k (drop (r .count) (entriesOf n l)) ≡ isThere pair k (entriesOf n l)
+  pub notAbove : (k : List ℕ) → id ≡ pairId k → r .count + notAbove pair k (drop (r .count) (entriesOf n l)) ≡ notAbove pair k (entriesOf n l)
 
 -- the place of a key among the n records of a slot, where it lies, and whether the key is there
 unfoldable pub foundIn : ℕ → List ℕ → ℕ → List ℕ → Found

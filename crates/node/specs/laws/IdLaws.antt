@@ -33,6 +33,11 @@ module _ (l : List ℕ) (at klen : ℕ) (h : at + recordLength (drop at l) ≤ l
       let r : recordLength (drop at l) ≤ length (drop at l) = omega arith in
       entry-key-length (drop at l) r ∙ record-klen l at ∙ sym p
 
+  -- a pair key has 16 bytes
+  pub id-long : (id : ℕ) → idBelow (entryOf (drop at l) .key) id ≡ true → 16 ≡ klen
+  unfolding idBelow
+  id-long id b = sym (eqb-true (length (entryOf (drop at l) .key)) 16 (and-left (eqb (length (entryOf (drop at l) .key)) 16) (ltb (u64At (entryOf (drop at l) .key) 0) id) b)) ∙ key-long
+
   pub id-other : (id : ℕ) → (klen ≡ 16 → ⊥) → false ≡ idBelow (entryOf (drop at l) .key) id
   unfolding idBelow
   id-other id n = rw (key-long, ne-eqb klen 16 n)

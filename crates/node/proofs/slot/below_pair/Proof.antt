@@ -8,6 +8,7 @@ use Rattle.node.specs.Records.{markLength, recordsLength, entriesOf}
 use Rattle.node.specs.internal.SlotSteps.{pairId}
 use Rattle.node.specs.laws.SlotLaws.{at-start, at-lies}
 use Rattle.node.specs.laws.LikeLaws.{like-start, like-next}
+use Rattle.node.specs.laws.RunLaws.{run-place, run-there}
 use Rattle.node.specs.laws.IdLaws.{id-lower}
 use Rattle.node.specs.laws.FindLaws.{place-start, place-past, there-past, key-lower, found-here, found-none}
 use Rattle.node.specs.Find.{placeOf, isThere}
@@ -16,6 +17,8 @@ use Rattle.node.proofs.slot.below_pair.Statement.{statement}
 use Rattle.node.proofs.slot.below_pair.Tie as tie
 
 ruleset laws = (needs, at-start, at-lies, like-start, like-next, id-lower, place-start, place-past, there-past, key-lower, found-here, found-none)
+
+ruleset steps = (needs, at-lies, like-next, id-lower, place-past, there-past, key-lower)
 
 abbrev Inv-loop : tie.InvT-loop
 Inv-loop slot n key order id i₀ at₀ like₀ i at like = (i ≤ n) × (at ≡ recordsLength i slot) × (i + placeOf pair key (drop i (entriesOf n slot)) ≡ placeOf pair key (entriesOf n slot)) × (isThere pair key (drop i (entriesOf n slot)) ≡ isThere pair key (entriesOf n slot)) × (like .vlen ≡ markLength (like .mark)) × (like .len ≡ 4 + like .klen + like .vlen) × (id ≡ pairId key) × (order .code ≡ pair)
@@ -26,8 +29,11 @@ abbrev μ-loop : tie.MeasureT-loop
 id-of-requires : tie.Need-id-of-requires Inv-loop μ-loop
 id-of-requires c κs = search laws
 
+run-of-requires : tie.Need-run-of-requires Inv-loop μ-loop
+run-of-requires c κs = search laws
+
 loop-holds : tie.Need-loop-holds Inv-loop μ-loop
-loop-holds c = search laws
+loop-holds c = search (laws, run-place, run-there)
 
 id-below-requires : tie.Need-id-below-requires Inv-loop μ-loop
 id-below-requires c κs = search laws
@@ -57,7 +63,7 @@ loop-less : tie.Need-loop-less Inv-loop μ-loop
 loop-less c = search laws
 
 loop-again : tie.Need-loop-again Inv-loop μ-loop
-loop-again c = ⊎-elim (λ w. search laws) (λ w. search laws) (c .before .before .if1 .came)
+loop-again c = ⊎-elim (λ w. (search steps, search steps, search steps, search steps, search steps, search steps, search steps, search steps)) (λ w. (search steps, search steps, search steps, search steps, search steps, search steps, search steps, search steps)) (c .before .before .if1 .came)
 
 returns-2 : tie.Need-returns-2 Inv-loop μ-loop
 returns-2 c = search laws
@@ -69,6 +75,7 @@ below-pair-spec =
     Inv-loop
     μ-loop
     id-of-requires
+    run-of-requires
     loop-holds
     id-below-requires
     key-of-requires

@@ -8,6 +8,7 @@ use Rattle.node.specs.Records.{markLength, recordsLength, entriesOf}
 use Rattle.node.specs.internal.SlotSteps.{pairId}
 use Rattle.node.specs.laws.SlotLaws.{at-start, at-lies}
 use Rattle.node.specs.laws.LikeLaws.{like-start, like-next}
+use Rattle.node.specs.laws.RunLaws.{run-above}
 use Rattle.node.specs.laws.IdLaws.{id-not-above}
 use Rattle.node.specs.laws.FindLaws.{last-start, last-first, last-kept, last-past, key-not-above, last-here, last-none}
 use Rattle.node.specs.Find.{notAbove}
@@ -26,8 +27,11 @@ abbrev μ-loop : tie.MeasureT-loop
 id-of-requires : tie.Need-id-of-requires Inv-loop μ-loop
 id-of-requires c κs = search laws
 
+run-of-requires : tie.Need-run-of-requires Inv-loop μ-loop
+run-of-requires c κs = search laws
+
 loop-holds : tie.Need-loop-holds Inv-loop μ-loop
-loop-holds c = search laws
+loop-holds c = search (laws, run-above)
 
 id-below-requires : tie.Need-id-below-requires Inv-loop μ-loop
 id-below-requires c κs = search laws
@@ -66,6 +70,7 @@ not-above-pair-spec =
     Inv-loop
     μ-loop
     id-of-requires
+    run-of-requires
     loop-holds
     id-below-requires
     key-of-requires
