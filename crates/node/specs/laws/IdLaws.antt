@@ -36,7 +36,9 @@ module _ (l : List ℕ) (at klen : ℕ) (h : at + recordLength (drop at l) ≤ l
   -- a pair key has 16 bytes
   pub id-long : (id : ℕ) → idBelow (entryOf (drop at l) .key) id ≡ true → 16 ≡ klen
   unfolding idBelow
-  id-long id b = sym (eqb-true (length (entryOf (drop at l) .key)) 16 (and-left (eqb (length (entryOf (drop at l) .key)) 16) (ltb (u64At (entryOf (drop at l) .key) 0) id) b)) ∙ key-long
+  id-long id b =
+      let k : List ℕ = entryOf (drop at l) .key in
+      sym (eqb-true (length k) 16 (and-left (eqb (length k) 16) (ltb (u64At k 0) id) b)) ∙ key-long
 
   pub id-other : (id : ℕ) → (klen ≡ 16 → ⊥) → false ≡ idBelow (entryOf (drop at l) .key) id
   unfolding idBelow
