@@ -108,7 +108,7 @@ impl Tree {
             }
             // Before they grow, so that a workspace that is half grown, should memory run out, is never trusted.
             self.look = true;
-            self.work.grow(self.lent.size, self.most_slots());
+            self.work.grow(self.lent.size, self.most_slots(), self.used());
         }
     }
 

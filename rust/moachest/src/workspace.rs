@@ -10,26 +10,41 @@ pub(crate) struct Workspace {
     pub scratch: Vec<u8>,
 }
 
+/// Words of a slot, and the one that says how many of its bytes are in use.
+const SLOT_WORDS: usize = 9;
+const BYTES_USED: usize = 2;
+
+fn zeros<T: Clone + Default>(length: u64) -> Vec<T> {
+    vec![T::default(); usize::try_from(length).expect("a workspace fits in memory")]
+}
+
 impl Workspace {
     /// Room for so many slots; none where the library takes no such numbers.
+    ///
+    /// A slot has room for four blocks and its shadow as much, of which a node mostly takes less than one. Memory that is asked for as zeros and not
+    /// written is not taken from the system: what is in use lies close together, and the processor's caches hold more of it.
     pub fn new(slots: usize, size: usize) -> Workspace {
-        let mut made = Workspace { slots, heads: Vec::new(), bytes: Vec::new(), scratch: Vec::new() };
-        made.fit(size);
-        made
-    }
-
-    fn fit(&mut self, size: usize) {
-        let length = |n: u64| usize::try_from(n).expect("a workspace fits in memory");
-        self.heads.resize(length(raw::moachest_workspace_words(self.slots)), 0);
-        self.bytes.resize(length(raw::moachest_workspace_bytes(self.slots, size)), 0);
-        self.scratch.resize(length(raw::moachest_scratch_bytes(self.slots, size)), 0);
+        Workspace {
+            slots,
+            heads: zeros(raw::moachest_workspace_words(slots)),
+            bytes: zeros(raw::moachest_workspace_bytes(slots, size)),
+            scratch: zeros(raw::moachest_scratch_bytes(slots, size)),
+        }
     }
 
     /// Twice as many slots, at most so many.
     ///
     /// Slots in use keep their numbers: their words and bytes are at the start of both slices, and what lies behind them is unused.
-    pub fn grow(&mut self, size: usize, most: usize) {
-        self.slots = (2 * self.slots).min(most).max(self.slots);
-        self.fit(size);
+    pub fn grow(&mut self, size: usize, most: usize, used: usize) {
+        let mut more = Workspace::new((2 * self.slots).min(most).max(self.slots), size);
+        let words = SLOT_WORDS * used;
+        more.heads[..words].copy_from_slice(&self.heads[..words]);
+        let room = self.bytes.len() / (2 * self.slots);
+        for n in 0..used {
+            let length = usize::try_from(self.heads[SLOT_WORDS * n + BYTES_USED]).map_or(room, |length| length.min(room));
+            let slot = room * n..room * n + length;
+            more.bytes[slot.clone()].copy_from_slice(&self.bytes[slot]);
+        }
+        *self = more;
     }
 }
