@@ -23,6 +23,8 @@ pub mod IdLaws
 pub mod RunLaws
 pub mod RelinkLaws
 pub mod FindLaws
+pub mod LeadLaws
+pub mod LedLaws
 pub mod StandLaws
 pub mod SearchLaws
 pub mod StandsLaws

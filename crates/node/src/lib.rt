@@ -8,6 +8,8 @@ pub mod fit;
 pub mod head;
 pub mod info;
 mod layout;
+mod lead;
+mod led;
 pub mod order;
 pub mod pack;
 pub mod read;

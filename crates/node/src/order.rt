@@ -1,7 +1,8 @@
 // Orders of keys: what the Rust passes as a `cmp` pointer (`omap_cmp`) is a code with associated constants.
+use crate::lead;
 use seal::bytes;
 ghost use mathlib.Core.Path.{_≡_};
-ghost use Prim.Native.Nat.{_≤_, min};
+ghost use Prim.Native.Nat.{_≤_};
 ghost use lib.ListN.{length};
 ghost use Rattle.seal.specs.Bytes.{splice};
 ghost use Rattle.node.specs.Order.{known, keyedLength, less, pairLess, byteLess, pairKey, sameKey};
@@ -77,20 +78,11 @@ fn pair_less(a: &[u8], b: &[u8]) -> bool
     bytes::u64_at(a, 8) < bytes::u64_at(b, 8)
 }
 
-fn least(x: usize, y: usize) -> usize
-    ensures { λ r. ⌜ r ≡ min x y ⌝ }
-{
-    if x < y {
-        return x;
-    }
-    y
-}
-
 // The first byte that differs decides; if none does, the shorter key is before the longer.
 fn byte_less(a: &[u8], b: &[u8]) -> bool
     ensures { λ r. ⌜ r ≡ byteLess (now (a .entry)) (now (b .entry)) ⌝ }
 {
-    let n = least(a.len(), b.len());
+    let n = lead::least(a.len(), b.len());
     let mut i = 0;
     while i < n {
         if a[i] != b[i] {

@@ -1,5 +1,7 @@
 // A node's entries in a slot: n records at the start of the slot's bytes, in key order; `used` bytes are theirs
 // (`MemNode`'s keys and vals of write/tree.rs). Each function is lent one slot's bytes, so no other slot is touched.
+use crate::lead;
+use crate::led;
 use crate::order::Order;
 use crate::record;
 use crate::val::Child;
@@ -13,7 +15,7 @@ ghost use Rattle.seal.specs.Bytes.{moved};
 ghost use Rattle.node.specs.Entry.{valueLength};
 ghost use Rattle.node.specs.Records.{markLength, valueOf, recordLength, entryOf, recordsLength, entriesOf};
 ghost use Rattle.node.specs.Slot.{insertAt, removeAt, withKey, withValue, recordsHold, isChild, valueMeans};
-ghost use Rattle.node.specs.Order.{pair};
+ghost use Rattle.node.specs.Order.{pair, byte};
 ghost use Rattle.node.specs.internal.SlotSteps.{runsOn, RunOf, childOf, pairId, idBelow, foundIn, lastIn};
 
 // Where a key's place is among n records: the entries before it, its offset, and whether the entry there has the key.
@@ -279,34 +281,25 @@ fn not_above_pair(slot: &[u8], n: u64, key: &[u8]) -> Last
     Last { count: i, at: last }
 }
 
-// The place of a key: after the entries whose keys are below it.
-pub fn below(slot: &[u8], n: u64, order: Order, key: &[u8]) -> Found
+// The place of a key in byte order.
+fn below_byte(slot: &[u8], n: u64, key: &[u8]) -> Found
     requires { ⌜ recordsLength n (now slot) ≤ length (now slot) ⌝ }
-    ensures { λ r. ⌜ r ≡ foundIn (order .code) (now (key .entry)) n (now (slot .entry)) ⌝ }
+    ensures { λ r. ⌜ r ≡ foundIn byte (now (key .entry)) n (now (slot .entry)) ⌝ }
 {
-    if order.code == Order::PAIR {
-        return below_pair(slot, n, key);
-    }
-    below_any(slot, n, order, key)
-}
-
-// The same in any order.
-fn below_any(slot: &[u8], n: u64, order: Order, key: &[u8]) -> Found
-    requires { ⌜ recordsLength n (now slot) ≤ length (now slot) ⌝ }
-    ensures { λ r. ⌜ r ≡ foundIn (order .code) (now (key .entry)) n (now (slot .entry)) ⌝ }
-{
-    let mut i = 0;
-    let mut at = 0;
+    let first = lead::lead_of(key, 0);
+    let second = lead::lead_of(key, 8);
+    let run = led::run_plain(slot, n, first, second);
+    let mut i = run.count;
+    let mut at = run.at;
     let mut like = BARE;
     while i < n {
         let k = key_of(slot, at);
-        let lower = order.less(k, key);
-        if !lower {
-            let above = order.less(key, k);
+        let c = lead::byte_compare(k, key);
+        if c != lead::BELOW {
             return Found {
                 index: i,
                 at: at,
-                found: !above,
+                found: c == lead::SAME,
             };
         }
         like = like_at(slot, at, like);
@@ -320,29 +313,21 @@ fn below_any(slot: &[u8], n: u64, order: Order, key: &[u8]) -> Found
     }
 }
 
-// The entries whose keys are not above a key: the last of them is where a descent goes on.
-pub fn not_above(slot: &[u8], n: u64, order: Order, key: &[u8]) -> Last
+// The entries not above a key in byte order.
+fn not_above_byte(slot: &[u8], n: u64, key: &[u8]) -> Last
     requires { ⌜ recordsLength n (now slot) ≤ length (now slot) ⌝ }
-    ensures { λ r. ⌜ r ≡ lastIn (order .code) (now (key .entry)) n (now (slot .entry)) ⌝ }
+    ensures { λ r. ⌜ r ≡ lastIn byte (now (key .entry)) n (now (slot .entry)) ⌝ }
 {
-    if order.code == Order::PAIR {
-        return not_above_pair(slot, n, key);
-    }
-    not_above_any(slot, n, order, key)
-}
-
-// The same in any order.
-fn not_above_any(slot: &[u8], n: u64, order: Order, key: &[u8]) -> Last
-    requires { ⌜ recordsLength n (now slot) ≤ length (now slot) ⌝ }
-    ensures { λ r. ⌜ r ≡ lastIn (order .code) (now (key .entry)) n (now (slot .entry)) ⌝ }
-{
-    let mut i = 0;
-    let mut at = 0;
-    let mut last = 0;
+    let first = lead::lead_of(key, 0);
+    let second = lead::lead_of(key, 8);
+    let run = led::run_led(slot, n, first, second);
+    let mut i = run.count;
+    let mut at = run.at;
+    let mut last = run.last;
     let mut like = BARE;
     while i < n {
         let k = key_of(slot, at);
-        if order.less(key, k) {
+        if lead::byte_compare(k, key) == lead::ABOVE {
             return Last { count: i, at: last };
         }
         last = at;
@@ -351,6 +336,28 @@ fn not_above_any(slot: &[u8], n: u64, order: Order, key: &[u8]) -> Last
         i += 1;
     }
     Last { count: i, at: last }
+}
+
+// The place of a key: after the entries whose keys are below it.
+pub fn below(slot: &[u8], n: u64, order: Order, key: &[u8]) -> Found
+    requires { ⌜ recordsLength n (now slot) ≤ length (now slot) ⌝ }
+    ensures { λ r. ⌜ r ≡ foundIn (order .code) (now (key .entry)) n (now (slot .entry)) ⌝ }
+{
+    if order.code == Order::PAIR {
+        return below_pair(slot, n, key);
+    }
+    below_byte(slot, n, key)
+}
+
+// The entries whose keys are not above a key: the last of them is where a descent goes on.
+pub fn not_above(slot: &[u8], n: u64, order: Order, key: &[u8]) -> Last
+    requires { ⌜ recordsLength n (now slot) ≤ length (now slot) ⌝ }
+    ensures { λ r. ⌜ r ≡ lastIn (order .code) (now (key .entry)) n (now (slot .entry)) ⌝ }
+{
+    if order.code == Order::PAIR {
+        return not_above_pair(slot, n, key);
+    }
+    not_above_byte(slot, n, key)
 }
 
 // n bytes moved from a to b, up or down.
