@@ -25,7 +25,7 @@ ghost use Rattle.tree.specs.Answers.{gotMeans, gotIn, gotOutput, gotLeav
 ghost use Rattle.tree.specs.internal.Bank.{Ready};
 ghost use Rattle.tree.specs.internal.Undo.{Follows};
 ghost use Rattle.tree.specs.internal.Edits.{Trusts};
-ghost use Rattle.tree.specs.internal.Get.{heldMeans, HeldIn, gotAt, gotWay, ReadyGot, GotCalled};
+ghost use Rattle.tree.specs.internal.Get.{heldMeans, HeldIn, gotAt, gotWay, gotOf, ReadyGot, GotCalled};
 
 // What a key holds in a slot: nothing, a ghost, or a value, which starts there and has so many bytes.
 pub enum Held {
@@ -61,8 +61,58 @@ fn held_in(slot: &[u8], n: u64, order: Order, key: &[u8]) -> Held
     Held::Value(r.value, r.vlen)
 }
 
+// What get copied out: refused with 20, nothing, a ghost, or a value of so many bytes.
+pub enum Copied {
+    Refused,
+    None,
+    Ghost,
+    Value(usize),
+}
+
 impl Tree {
-    // What a key holds in the leaf of slot n, copied out: 20.
+    // What a key holds in the leaf of slot n, copied out. The tree's words stay where they are: of all of them only two are looked at.
+    pub fn copy_out(
+        self,
+        heads: &[u64],
+        bytes: &[u8],
+        size: usize,
+        slots: usize,
+        n: usize,
+        key: &[u8],
+        out: &mut [u8],
+    ) -> Copied
+        requires { ⌜ Ready size slots (self .used) (now heads) (now bytes) ⌝ }
+        requires { ⌜ suits true (nodeAt (stateOf size self (now heads) (now bytes)) n .entries) ≡ true ⌝ }
+        ensures answer { λ r. ⌜ gotMeans size (now (heads .entry)) (now (bytes .entry)) (now (out .exit)) (gotOf self r)
+            ≡ gotAt (stateOf size self (now (heads .entry)) (now (bytes .entry))) (length (now (out .entry))) n
+            (now (key .entry)) ⌝ }
+        ensures output { λ _. ⌜ now (out .exit)
+            ≡ gotOutput (now (out .entry)) (gotAt (stateOf size self (now (heads .entry)) (now (bytes .entry)))
+            (length (now (out .entry))) n (now (key .entry))) ⌝ }
+        ensures ready { λ r. ⌜ ReadyGot size slots (now (heads .entry)) (now (bytes .entry)) (gotOf self r) ⌝ }
+    {
+        if self.used <= n {
+            return Copied::None;
+        }
+        let order = Order { code: self.order };
+        let h = bank::live_at(heads, n);
+        let part = bank::slot_of(bytes, size, n);
+        let v = held_in(part, h.count, order, key);
+        match v {
+            Held::None => Copied::None,
+            Held::Ghost => Copied::Ghost,
+            Held::Value(at, len) => {
+                if out.len() < len {
+                    return Copied::Refused;
+                }
+                let end = at + len;
+                bytes::copy_to(&part[at..end], out, 0);
+                Copied::Value(len)
+            }
+        }
+    }
+
+    // The same with the tree.
     fn copy_held(
         self,
         heads: &[u64],
@@ -83,24 +133,12 @@ impl Tree {
             (length (now (out .entry))) n (now (key .entry))) ⌝ }
         ensures ready { λ r. ⌜ ReadyGot size slots (now (heads .entry)) (now (bytes .entry)) r ⌝ }
     {
-        if self.used <= n {
-            return Got::None(self);
-        }
-        let h = bank::live_at(heads, n);
-        let part = bank::slot_of(bytes, size, n);
-        let order = Order { code: self.order };
-        let v = held_in(part, h.count, order, key);
-        match v {
-            Held::None => Got::None(self),
-            Held::Ghost => Got::Ghost(self),
-            Held::Value(at, len) => {
-                if out.len() < len {
-                    return Got::Refused(refusal::OUTPUT);
-                }
-                let end = at + len;
-                bytes::copy_to(&part[at..end], out, 0);
-                Got::Value(self, len)
-            }
+        let copied = self.copy_out(heads, bytes, size, slots, n, key, out);
+        match copied {
+            Copied::Refused => Got::Refused(refusal::OUTPUT),
+            Copied::None => Got::None(self),
+            Copied::Ghost => Got::Ghost(self),
+            Copied::Value(len) => Got::Value(self, len),
         }
     }
 

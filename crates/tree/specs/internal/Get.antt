@@ -18,6 +18,8 @@ use Rattle.tree.specs.declared.editor.Tree.{Tree}
 use Rattle.tree.specs.declared.lent.Lent.{Lent}
 use Rattle.tree.specs.declared.get.Held.{Held}
 use Rattle.tree.specs.declared.get.Held.the-variants as held
+use Rattle.tree.specs.declared.get.Copied.{Copied}
+use Rattle.tree.specs.declared.get.Copied.the-variants as copied
 use Rattle.tree.specs.declared.get.Got.{Got}
 use Rattle.tree.specs.declared.get.Got.the-variants as getting
 
@@ -48,6 +50,13 @@ gotAt s room n k = gotHeld s room (heldAt s n k)
 unfoldable pub gotWay : lent.Lent → State → ℕ → List ℕ → Result (lookup.Got Val)
 gotWay l s room k = lookup.way l s k >>= λ w. gotHeld (w .state) room
     (lookup.held (s .order) k (nodeAt (w .state) (lookup.leafOf (w .steps)) .entries))
+
+-- get's answer with a tree, by what it copied out
+abbrev pub gotOf : Tree → Copied → Got
+gotOf t copied.Refused = getting.Refused refusal.output
+gotOf t copied.None = getting.None t
+gotOf t copied.Ghost = getting.Ghost t
+gotOf t (copied.Value n) = getting.Value t n
 
 -- an accepted get leaves the workspace ready
 abbrev pub ReadyGot : ℕ → ℕ → List ℕ → List ℕ → Got → Type 0

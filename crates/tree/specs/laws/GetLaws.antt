@@ -22,7 +22,7 @@ use Rattle.node.specs.internal.SlotSteps.{foundIn, recordAt}
 use Rattle.node.specs.declared.record.Record.{Record}
 use Rattle.node.specs.declared.slot.Found.{Found}
 use Rattle.tree.specs.Lookup as lookup
-use Rattle.node.specs.Result.{ok, refused}
+use Rattle.node.specs.Result.{Result, ok, refused}
 use Rattle.node.specs.Slot.{headAt}
 use Rattle.node.specs.Entry.{valueLength, valueBytes}
 use Rattle.node.specs.laws.SealLaws.{length-window}
@@ -31,10 +31,11 @@ use Rattle.tree.specs.State.{State, noNode, nodeAt}
 use Rattle.tree.specs.Workspace.{slotBytes, stateOf}
 use Rattle.tree.specs.Answers.{gotMeans, gotBytes, gotOutput}
 use Rattle.tree.specs.internal.Bank.{nodeIn, live}
-use Rattle.tree.specs.internal.Get.{heldMeans, HeldIn, gotHeld, heldAt, gotAt}
+use Rattle.tree.specs.internal.Get.{heldMeans, HeldIn, gotHeld, heldAt, gotAt, gotOf, ReadyGot}
 use Rattle.tree.specs.laws.BankLaws.{live-entries}
 use Rattle.tree.specs.laws.TreeLaws.{node-in, node-out}
 use Rattle.tree.specs.declared.editor.Tree.{Tree}
+use Rattle.tree.specs.declared.get.Copied.{Copied}
 use Rattle.tree.specs.declared.get.Held.{Held}
 use Rattle.tree.specs.declared.get.Got.the-variants as getting
 use Rattle.tree.specs.declared.get.Held.the-variants as held
@@ -243,3 +244,9 @@ module _ (size : ℕ) (t : Tree) (heads bytes : List ℕ) (n : ℕ) (key out : L
           pub copy-value-out : out′ ≡ gotOutput out (gotAt (stateOf size t heads bytes) (length out) n key)
           unfolding gotOutput gotBytes valueBytes
           copy-value-out = copied ∙ sym (ap (gotOutput out) value-is)
+
+-- what was copied out, with the tree
+pub copied-says : (size slots : ℕ) (heads bytes out : List ℕ) (t : Tree) (x : Result (lookup.Got Val)) (y : Type 0) (c d : Copied) → c ≡ d
+    → (gotMeans size heads bytes out (gotOf t c) ≡ x) × (y × ReadyGot size slots heads bytes (gotOf t c))
+    → (gotMeans size heads bytes out (gotOf t d) ≡ x) × (y × ReadyGot size slots heads bytes (gotOf t d))
+copied-says size slots heads bytes out t x y c d e p = rw (← e) p
