@@ -6,6 +6,7 @@ use apfs::obj::{OBJECT_TYPE_BTREE, OBJECT_TYPE_FSTREE, OBJECT_TYPE_OMAP, OBJ_PHY
 use apfs::write::space;
 use apfs::write::tree::{omap_cmp, omap_put, PhysReader, Tree};
 use std::cmp::Ordering;
+use std::sync::OnceLock;
 use std::time::Duration;
 
 pub const SIZE: usize = 4096;
@@ -18,6 +19,12 @@ type Order = fn(&[u8], &[u8]) -> Ordering;
 pub enum Kind {
     Fixed,
     Variable,
+}
+
+// With how many equal bytes all names begin: COMMON in the environment, else none.
+fn common() -> usize {
+    static LENGTH: OnceLock<usize> = OnceLock::new();
+    *LENGTH.get_or_init(|| std::env::var("COMMON").map_or(0, |s| s.parse().expect("COMMON is a number")))
 }
 
 impl Kind {
@@ -45,7 +52,8 @@ impl Kind {
         if self == Kind::Fixed {
             return [x.to_le_bytes(), 3u64.to_le_bytes()].concat();
         }
-        let mut k = x.wrapping_mul(0x9e37_79b9_7f4a_7c15).to_be_bytes().to_vec();
+        let mut k = vec![b'/'; common()];
+        k.extend(x.wrapping_mul(0x9e37_79b9_7f4a_7c15).to_be_bytes());
         k.extend(vec![0x61 + (x % 26) as u8; x as usize % 24]);
         k
     }

@@ -5,17 +5,26 @@ use flush::flush::Flushed;
 use tree::edited::Edited;
 use tree::edited::Removed;
 use tree::floor::Floor;
+use tree::get::Copied;
 use tree::get::Got;
 use tree::lookup::Opened;
 use tree::range::Ranged;
+use tree::refusal;
 ghost use mathlib.Core.Path.{_≡_};
 ghost use Prim.Native.Nat.{_≤_};
 ghost use lib.ListN.{length};
 ghost use Rattle.seal.specs.Bytes.{splice};
 ghost use Rattle.moachest.specs.Answers.{openedTree, gotTree, gotAnswer, flooredTree, flooredAnswer, rangedTree, rangedAnswer, editedTree, removedTree, removedAnswer, flushedWords, flushedAnswer};
-ghost use Rattle.moachest.specs.internal.Returned.{openedNumber, gotNumber, flooredNumber, rangedNumber, editedNumber, removedNumber, flushedNumber};
+ghost use Rattle.moachest.specs.internal.Returned.{CopiedLeft, openedNumber, gotNumber, flooredNumber, rangedNumber, editedNumber, removedNumber, flushedNumber};
 
 const ACCEPTED: u64 = 0;
+
+// The first word of get's answer: what the key holds.
+const NONE: u64 = 0;
+
+const GHOST: u64 = 1;
+
+const VALUE: u64 = 2;
 
 // open: the tree's words.
 pub fn leave_opened(tree: &mut [u64], opened: Opened) -> u64
@@ -44,17 +53,40 @@ pub fn leave_got(tree: &mut [u64], answer: &mut [u64], got: Got) -> u64
         Got::Refused(x) => x,
         Got::None(t) => {
             words::store(tree, t);
-            words::put(answer, 0, 0);
+            words::put(answer, 0, NONE);
             ACCEPTED
         }
         Got::Ghost(t) => {
             words::store(tree, t);
-            words::put(answer, 0, 1);
+            words::put(answer, 0, GHOST);
             ACCEPTED
         }
         Got::Value(t, n) => {
             words::store(tree, t);
-            words::put(answer, 0, 2);
+            words::put(answer, 0, VALUE);
+            words::put(answer, 1, n as u64);
+            ACCEPTED
+        }
+    }
+}
+
+// The same by what get copied out; the tree's words stay as they are.
+pub fn leave_copied(answer: &mut [u64], copied: Copied) -> u64
+    requires { ⌜ 8 ≤ length (now answer) ⌝ }
+    ensures { λ r. ⌜ CopiedLeft (now (answer .entry)) (now (answer .exit)) copied r ⌝ }
+{
+    match copied {
+        Copied::Refused => refusal::OUTPUT,
+        Copied::None => {
+            words::put(answer, 0, NONE);
+            ACCEPTED
+        }
+        Copied::Ghost => {
+            words::put(answer, 0, GHOST);
+            ACCEPTED
+        }
+        Copied::Value(n) => {
+            words::put(answer, 0, VALUE);
             words::put(answer, 1, n as u64);
             ACCEPTED
         }

@@ -125,6 +125,15 @@ pub extern "C" fn moachest_get_trusted(
     if answer.len() < words::ANSWER_WORDS {
         return refusal::LENT;
     }
+    // Where the whole way is loaded the tree stays as it is: its words are neither gathered nor stored.
+    let quick = words::load(tree);
+    let leaf = quick.leaf_of(heads, bytes, size, slots, key);
+    if leaf < quick.used {
+        if words::settled(tree) {
+            let copied = quick.copy_out(heads, bytes, size, slots, leaf, key, out);
+            return answers::leave_copied(answer, copied);
+        }
+    }
     let lent = words::lent(size, slots, mapped, map);
     let t = words::load(tree);
     let got = t.get_in(image, heads, bytes, lent, key, out);

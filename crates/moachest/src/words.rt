@@ -6,6 +6,7 @@ ghost use mathlib.Core.Path.{_≡_};
 ghost use mathlib.Core.List.{[], _∷_};
 ghost use Prim.Native.Nat.{_+_, _≤_, _<_};
 ghost use lib.ListN.{length, getD, set};
+ghost use lib.Dec.{ltb};
 ghost use Rattle.seal.specs.Bytes.{splice};
 ghost use Rattle.moachest.specs.Words.{infoOf, treeOf, stored, lentNumbers};
 ghost use Rattle.moachest.specs.internal.Stored.{infoWords};
@@ -73,6 +74,14 @@ pub fn load(tree: &[u64]) -> Tree
         order: word(tree, 12),
         xid: word(tree, 13),
     }
+}
+
+// Whether the words are as `store` leaves them: the one that is a yes or a no is 1 or 0.
+pub fn settled(tree: &[u64]) -> bool
+    requires { ⌜ 14 ≤ length (now tree) ⌝ }
+    ensures { λ r. ⌜ r ≡ ltb (getD (now (tree .entry)) 10 0) 2 ⌝ }
+{
+    word(tree, 10) < 2
 }
 
 // The tree-wide numbers, stored.

@@ -1,6 +1,11 @@
 -- The number that an answer is returned as: a refusal's own, else 0. A contract of an export reads the answer back from the number, and has no need
 -- of these.
+use mathlib.Core.Path.{_≡_}
+use mathlib.Core.List.{List}
 use Prim.Native.Nat.{ℕ}
+use Rattle.tree.specs.declared.editor.Tree.{Tree}
+use Rattle.tree.specs.declared.get.Copied.{Copied}
+use Rattle.tree.specs.internal.Get.{gotOf}
 use Rattle.tree.specs.declared.lookup.Opened.{Opened}
 use Rattle.tree.specs.declared.lookup.Opened.the-variants as opening
 use Rattle.tree.specs.declared.get.Got.{Got}
@@ -13,6 +18,7 @@ use Rattle.tree.specs.declared.edited.Edited.{Edited}
 use Rattle.tree.specs.declared.edited.Edited.the-variants as editing
 use Rattle.tree.specs.declared.edited.Removed.{Removed}
 use Rattle.tree.specs.declared.edited.Removed.the-variants as taking
+use Rattle.moachest.specs.Answers.{gotAnswer}
 use Rattle.flush.specs.declared.flush.Answer.{Answer}
 use Rattle.flush.specs.declared.flush.Answer.the-variants as flushing
 
@@ -25,6 +31,11 @@ gotNumber (getting.Refused x) = x
 gotNumber (getting.None t) = 0
 gotNumber (getting.Ghost t) = 0
 gotNumber (getting.Value t n) = 0
+
+-- the number and the words of an answer, by what get copied out, whatever the tree
+pub record CopiedLeft (a a′ : List ℕ) (c : Copied) (r : ℕ) : Type 0 where
+  pub number : (t : Tree) → r ≡ gotNumber (gotOf t c)
+  pub words : (t : Tree) → a′ ≡ gotAnswer a (gotOf t c)
 
 unfoldable pub flooredNumber : Floor → ℕ
 flooredNumber (flooring.Refused x) = x

@@ -6,12 +6,16 @@ use native.Mathlib.Numerals.{add-one, add-two, add-three}
 use native.Mathlib.Omega.{arith}
 use lib.ListN.{length, getD, set}
 use lib.Seq.{sets-eq}
+use lib.Dec.{ltb}
 use Rattle.seal.specs.Bytes.{splice}
 use Rattle.seal.specs.laws.WindowLaws.{splice-two}
 use Rattle.node.specs.declared.info.BTreeInfo.{BTreeInfo}
 use Rattle.tree.specs.declared.editor.Tree.{Tree}
 use Rattle.tree.specs.declared.lookup.Opened.{Opened}
 use Rattle.tree.specs.declared.lookup.Opened.the-variants as opening
+use Rattle.tree.specs.declared.get.Copied.{Copied}
+use Rattle.tree.specs.declared.get.Copied.the-variants as copied
+use Rattle.tree.specs.internal.Get.{gotOf}
 use Rattle.tree.specs.declared.get.Got.{Got}
 use Rattle.tree.specs.declared.get.Got.the-variants as getting
 use Rattle.tree.specs.declared.floor.Floor.{Floor}
@@ -28,7 +32,7 @@ use Rattle.flush.specs.declared.flush.Answer.the-variants as flushing
 use Rattle.moachest.specs.Words.{yes, mark, infoOf, treeOf, wordsOf, stored}
 use Rattle.moachest.specs.internal.Stored.{infoWords}
 use Rattle.moachest.specs.Answers.{openedTree, gotTree, gotAnswer, flooredTree, flooredAnswer, rangedTree, rangedAnswer, editedTree, removedTree, removedAnswer, flushedWords, flushedAnswer}
-use Rattle.moachest.specs.internal.Returned.{openedNumber, gotNumber, flooredNumber, rangedNumber, editedNumber, removedNumber, flushedNumber}
+use Rattle.moachest.specs.internal.Returned.{CopiedLeft, openedNumber, gotNumber, flooredNumber, rangedNumber, editedNumber, removedNumber, flushedNumber}
 
 -- ---- words
 
@@ -151,6 +155,40 @@ pub got-value-words : (a v u : List ℕ) (g : Got) (t : Tree) (n : ℕ) → g �
     → 8 ≤ length a → u ≡ gotAnswer a g
 unfolding gotAnswer splice
 got-value-words a v u g t n e q p h = rw (e, q, p) (sets-eq (2 ∷ n ∷ []) a 0 (omega arith))
+
+pub settled-said : (w : List ℕ) (x : ℕ) → x ≡ getD w 10 0 → ltb x 2 ≡ ltb (getD w 10 0) 2
+settled-said w x e = ap (λ (y : ℕ). ltb y 2) e
+
+-- what get copied out
+module _ (a : List ℕ) (c : Copied) where
+  pub copied-refused : c ≡ copied.Refused → CopiedLeft a a c 20
+  copied-refused e =
+      record {
+        number = λ t. got-refused-number (gotOf t c) 20 (ap (gotOf t) e);
+        words = λ t. got-refused-words a (gotOf t c) 20 (ap (gotOf t) e);
+      }
+
+  module _ (h : 8 ≤ length a) (v : List ℕ) where
+    pub copied-none : c ≡ copied.None → v ≡ set a 0 0 → CopiedLeft a v c 0
+    copied-none e p =
+        record {
+          number = λ t. got-none-number (gotOf t c) t (ap (gotOf t) e);
+          words = λ t. got-none-words a v (gotOf t c) t (ap (gotOf t) e) p h;
+        }
+
+    pub copied-ghost : c ≡ copied.Ghost → v ≡ set a 0 1 → CopiedLeft a v c 0
+    copied-ghost e p =
+        record {
+          number = λ t. got-ghost-number (gotOf t c) t (ap (gotOf t) e);
+          words = λ t. got-ghost-words a v (gotOf t c) t (ap (gotOf t) e) p h;
+        }
+
+    pub copied-value : (u : List ℕ) (n : ℕ) → c ≡ copied.Value n → u ≡ set v 1 n → v ≡ set a 0 2 → CopiedLeft a u c 0
+    copied-value u n e q p =
+        record {
+          number = λ t. got-value-number (gotOf t c) t n (ap (gotOf t) e);
+          words = λ t. got-value-words a v u (gotOf t c) t n (ap (gotOf t) e) q p h;
+        }
 
 -- ---- floored
 

@@ -1,15 +1,20 @@
 -- Laws of the trusted calls on words: what a call of crate tree says of its tree and its answer, said of the words. Assumes nothing.
 use mathlib.Core.Path.{_≡_, refl, sym, ap, subst, _∙_}
-use mathlib.Core.List.{List}
-use Prim.Native.Nat.{ℕ, _+_, _*_, _≤_}
-use mathlib.Core.Bool.{true}
-use lib.ListN.{length}
-use borrow.Author.Tests.{eqb-true}
+use mathlib.Core.List.{List, [], _∷_}
+use Prim.Native.Nat.{ℕ, _+_, _*_, _≤_, _<_}
+use native.Mathlib.Omega.{arith}
+use mathlib.Core.Bool.{Bool, true}
+use lib.ListN.{length, getD}
+use lib.Dec.{ltb, eqb}
+use borrow.Author.Tests.{eqb-true, eqb-false, ltb-true}
+use Rattle.seal.specs.Bytes.{splice}
+use Rattle.node.specs.Slot.{suits}
+use Rattle.node.specs.laws.TestLaws.{by-test}
 use Rattle.node.specs.Result.{Result, refused}
 use Rattle.node.specs.Refusals as refusal
 use Rattle.node.specs.Entry.{Entry, Val}
 use Rattle.tree.specs.Lent.{lentOf}
-use Rattle.tree.specs.State.{State}
+use Rattle.tree.specs.State.{State, nodeAt}
 use Rattle.tree.specs.Lookup as lookup
 use Rattle.tree.specs.Lookup.{getIn, floorIn, rangeIn}
 use Rattle.tree.specs.Upsert.{upsertIn}
@@ -19,19 +24,24 @@ use Rattle.tree.specs.Omap.{omapPutIn, omapDropIn}
 use Rattle.tree.specs.Workspace.{stateOf, scratchHolds}
 use Rattle.tree.specs.Answers.{gotMeans, gotOutput, floorMeans, flooredOutput, rangeMeans, rangedOutput, rangedLength, editedOf, removedOf}
 use Rattle.tree.specs.internal.Edits.{Trusts, EditedCalled, RemovedCalled}
-use Rattle.tree.specs.internal.Get.{GotCalled}
+use Rattle.tree.specs.internal.Bank.{Ready}
+use Rattle.tree.specs.internal.Loaded.{LeafIs}
+use Rattle.tree.specs.internal.Get.{gotAt, gotOf, ReadyGot, GotCalled}
+use Rattle.tree.specs.laws.LoadedCalls.{leaf-suits, leaf-answer, leaf-output, got-left}
 use Rattle.tree.specs.internal.Floor.{FloorCalled}
 use Rattle.tree.specs.internal.Range.{RangeCalled}
 use Rattle.tree.specs.declared.editor.Tree.{Tree}
 use Rattle.tree.specs.declared.lent.Lent.{Lent}
+use Rattle.tree.specs.declared.get.Copied.{Copied}
+use Rattle.tree.specs.declared.get.Copied.the-variants as copied
 use Rattle.tree.specs.declared.get.Got.{Got}
 use Rattle.tree.specs.declared.floor.Floor.{Floor}
 use Rattle.tree.specs.declared.range.Ranged.{Ranged}
 use Rattle.tree.specs.declared.edited.Edited.{Edited}
 use Rattle.tree.specs.declared.edited.Removed.{Removed}
-use Rattle.moachest.specs.Words.{treeOf, onTree, onWords}
+use Rattle.moachest.specs.Words.{yes, mark, infoOf, treeOf, wordsOf, stored, onTree, onWords}
 use Rattle.moachest.specs.Answers.{gotTree, gotAnswer, gotBack, flooredTree, flooredAnswer, flooredBack, rangedTree, rangedAnswer, rangedBack, editedTree, editedBack, removedTree, removedAnswer, removedBack}
-use Rattle.moachest.specs.internal.Returned.{gotNumber, flooredNumber, rangedNumber, editedNumber, removedNumber}
+use Rattle.moachest.specs.internal.Returned.{CopiedLeft, gotNumber, flooredNumber, rangedNumber, editedNumber, removedNumber}
 use Rattle.moachest.specs.laws.RefusalLaws.{Numbered, n-get-in, n-floor-in, n-range-in, n-upsert-in, n-remove-in, n-put-in, n-drop-in}
 use Rattle.moachest.specs.laws.WordLaws.{on-tree, on-words}
 use Rattle.moachest.specs.laws.CallLaws.{moved, got-told, floored-told, ranged-told, edited-told, removed-told}
@@ -89,6 +99,63 @@ pub get-few : (image heads bytes out k w a : List ℕ) (l : Lent) → Trusts ima
     → GetTrusted image heads bytes out k heads bytes out w a w a l refusal.lent
 unfolding gotMeans gotBack gotOutput gotTree gotAnswer
 get-few image heads bytes out k w a l h e = (sym e, (rw e refl, ((refl, h .ready), (refl, refl))))
+
+-- ---- get where the whole way is loaded: the words stay as they are
+
+mark-small : (k : ℕ) → k < 2 → mark (yes k) ≡ k
+mark-small k h =
+    by-test (eqb k 0)
+    (λ t. rw t (sym (eqb-true k 0 t)))
+    (λ t. let n : k ≡ 0 → ⊥ = eqb-false k 0 t in let o : 1 ≡ k = omega (arith, n) in rw t o)
+
+-- words that are settled are those of their tree
+stored-same : (w : List ℕ) → 14 ≤ length w → getD w 10 0 < 2 → stored w (treeOf w) ≡ w
+unfolding stored splice wordsOf treeOf infoOf
+stored-same [] h e = absurd (omega arith)
+stored-same (x0 ∷ []) h e = absurd (omega arith)
+stored-same (x0 ∷ x1 ∷ []) h e = absurd (omega arith)
+stored-same (x0 ∷ x1 ∷ x2 ∷ []) h e = absurd (omega arith)
+stored-same (x0 ∷ x1 ∷ x2 ∷ x3 ∷ []) h e = absurd (omega arith)
+stored-same (x0 ∷ x1 ∷ x2 ∷ x3 ∷ x4 ∷ []) h e = absurd (omega arith)
+stored-same (x0 ∷ x1 ∷ x2 ∷ x3 ∷ x4 ∷ x5 ∷ []) h e = absurd (omega arith)
+stored-same (x0 ∷ x1 ∷ x2 ∷ x3 ∷ x4 ∷ x5 ∷ x6 ∷ []) h e = absurd (omega arith)
+stored-same (x0 ∷ x1 ∷ x2 ∷ x3 ∷ x4 ∷ x5 ∷ x6 ∷ x7 ∷ []) h e = absurd (omega arith)
+stored-same (x0 ∷ x1 ∷ x2 ∷ x3 ∷ x4 ∷ x5 ∷ x6 ∷ x7 ∷ x8 ∷ []) h e = absurd (omega arith)
+stored-same (x0 ∷ x1 ∷ x2 ∷ x3 ∷ x4 ∷ x5 ∷ x6 ∷ x7 ∷ x8 ∷ x9 ∷ []) h e = absurd (omega arith)
+stored-same (x0 ∷ x1 ∷ x2 ∷ x3 ∷ x4 ∷ x5 ∷ x6 ∷ x7 ∷ x8 ∷ x9 ∷ x10 ∷ []) h e = absurd (omega arith)
+stored-same (x0 ∷ x1 ∷ x2 ∷ x3 ∷ x4 ∷ x5 ∷ x6 ∷ x7 ∷ x8 ∷ x9 ∷ x10 ∷ x11 ∷ []) h e = absurd (omega arith)
+stored-same (x0 ∷ x1 ∷ x2 ∷ x3 ∷ x4 ∷ x5 ∷ x6 ∷ x7 ∷ x8 ∷ x9 ∷ x10 ∷ x11 ∷ x12 ∷ []) h e = absurd (omega arith)
+stored-same (x0 ∷ x1 ∷ x2 ∷ x3 ∷ x4 ∷ x5 ∷ x6 ∷ x7 ∷ x8 ∷ x9 ∷ x10 ∷ x11 ∷ x12 ∷ x13 ∷ w) h e = rw (mark-small x10 e) refl
+
+kept-tree : (w : List ℕ) (c : Copied) → 14 ≤ length w → getD w 10 0 < 2 → w ≡ gotTree w (gotOf (treeOf w) c)
+unfolding gotTree
+kept-tree w copied.Refused h e = refl
+kept-tree w copied.None h e = sym (stored-same w h e)
+kept-tree w copied.Ghost h e = sym (stored-same w h e)
+kept-tree w (copied.Value n) h e = sym (stored-same w h e)
+
+module _ (image heads bytes k w : List ℕ) (l : Lent) (t : Tree) (et : t ≡ treeOf w) (p : Trusts image l (treeOf w) heads bytes) where
+  loaded : Trusts image l t heads bytes
+  loaded = subst (λ x. Trusts image l x heads bytes) (sym et) p
+
+  pub quick-ready : Ready (l .size) (l .slots) (t .used) heads bytes
+  quick-ready = loaded .ready
+
+  module _ (m : ℕ) (q : LeafIs (t .used) (stateOf (l .size) t heads bytes) k m) (f : m < t .used) where
+    pub quick-suits : suits true (nodeAt (stateOf (l .size) t heads bytes) m .entries) ≡ true
+    quick-suits = leaf-suits image l t heads bytes loaded k m q f
+
+    pub get-quick : (out out′ a a′ : List ℕ) (c : Copied) (r : ℕ) (b : Bool) → 14 ≤ length w → 8 ≤ length a → b ≡ ltb (getD w 10 0) 2 → b ≡ true
+        → (gotMeans (l .size) heads bytes out′ (gotOf t c) ≡ gotAt (stateOf (l .size) t heads bytes) (length out) m k)
+        × ((out′ ≡ gotOutput out (gotAt (stateOf (l .size) t heads bytes) (length out) m k)) × ReadyGot (l .size) (l .slots) heads bytes (gotOf t c))
+        → CopiedLeft a a′ c r → GetTrusted image heads bytes out k heads bytes out′ w a w a′ l r
+    get-quick out out′ a a′ c r b h j eb y s v =
+        let e = leaf-answer image l t heads bytes loaded k m q f (length out) _ (s .0) in
+        let o = leaf-output image l t heads bytes loaded k m q f out′ out (s .1 .0) in
+        let g = got-left image l t heads bytes loaded k out′ (length out) (gotOf t c) e (s .1 .1) in
+        let z : w ≡ gotTree w (gotOf t c)
+        = subst (λ x. w ≡ gotTree w (gotOf x c)) (sym et) (kept-tree w c h (ltb-true (getD w 10 0) 2 (sym eb ∙ y))) in
+        get-trusted image heads bytes out k heads bytes out′ w a w a′ l l t r (gotOf t c) h j refl et (e, (o, g)) (v .number t) z (v .words t)
 
 -- ---- floor
 

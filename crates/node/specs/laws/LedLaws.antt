@@ -4,11 +4,11 @@ use mathlib.Core.List.{List, [], _∷_}
 use mathlib.Core.Bool.{Bool, true, false, not, _&&_}
 use Prim.Native.Nat.{ℕ, _+_, _-_, _*_, _^_, _≤_, _<_, min}
 use native.Mathlib.Omega.{arith}
-use lib.ListN.{length, take, drop, length-drop, length-take}
+use lib.ListN.{length, take, drop, length-take}
 use lib.Seq.{drop-drop, take-take}
 use lib.Dec.{ltb, eqb}
 use borrow.Author.Tests.{ltb-true, ltb-false, le-ltb, eqb-true, eq-eqb, ne-eqb, not-false}
-use Rattle.seal.specs.Bytes.{u16At, window, fieldAt}
+use Rattle.seal.specs.Bytes.{u16At, window}
 use Rattle.seal.specs.laws.WindowLaws.{drop-take}
 use Rattle.node.specs.Order.{byte, byteLess, less}
 use Rattle.node.specs.Entry.{Entry}
@@ -23,7 +23,7 @@ use Rattle.node.specs.laws.RecordsLaws.{record-klen, record-room, mark-l
 use Rattle.node.specs.laws.SlotLaws.{at-lies, at-next}
 use Rattle.node.specs.laws.LikeLaws.{like-length}
 use Rattle.node.specs.laws.FindLaws.{place-start, last-start, place-past, there-past, last-past, found-here, last-here}
-use Rattle.node.specs.internal.Lead.{Leads, LeadOf, Passes, RunLed, spell, compared}
+use Rattle.node.specs.internal.Lead.{Leads, LeadOf, Passes, RunLed, compared}
 use Rattle.node.specs.internal.SlotSteps.{foundIn, lastIn}
 use Rattle.node.specs.laws.LeadLaws.{lead-below, lead-above, lead-same}
 
