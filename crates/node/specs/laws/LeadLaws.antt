@@ -10,13 +10,13 @@ use lib.ListN.{length, take, drop, getD, take-append-drop, length-drop, length-a
 use lib.Seq.{length-take-le, drop-drop}
 use lib.Dec.{ltb, eqb}
 use borrow.Author.Tests.{ltb-true, ltb-false, lt-ltb, le-ltb, eqb-true, eq-eqb, ne-eqb}
-use Rattle.seal.specs.Bytes.{window, le, u64At, fieldAt, AreBytes}
+use Rattle.seal.specs.Bytes.{window, le, u64At, fieldAt}
 use Rattle.seal.specs.laws.FieldLaws.{le-append}
 use Rattle.node.specs.Order.{byteLess}
 use Rattle.node.specs.laws.TestLaws.{by-test, test-ext, ltb-same}
 use Rattle.node.specs.laws.OrderSteps.{byte-differs, byte-next, byte-end}
-use Rattle.node.specs.laws.ByteLaws.{Bytes, bytes-below, bytes-known, bytes-head, bytes-tail, bytes-take, bytes-drop, le-take-below}
-use Rattle.node.specs.internal.Lead.{spell, swapped2, swapped4, Leads, LeadOf, Passes, Comparing, compared}
+use Rattle.node.specs.laws.ByteLaws.{Bytes, bytes-below, bytes-head, bytes-tail, bytes-take, bytes-drop, le-take-below}
+use Rattle.node.specs.internal.Lead.{spell, swapped2, swapped4, Leads, Comparing, compared}
 
 -- ---- the test of two digits and what follows them is that of the number
 

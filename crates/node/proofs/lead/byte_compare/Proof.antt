@@ -1,15 +1,10 @@
-use Prim.Native.Nat.{_-_, _≤_}
-use mathlib.Core.Path.{_≡_}
-use lib.ListN.{drop}
+-- `node::lead::byte_compare` meets its contract. Assumes nothing.
+use Prim.Native.Nat.{_-_}
 use borrow.Author.Needs.{needs}
 use Rattle.node.specs.internal.Lead.{Comparing}
 use Rattle.node.specs.laws.LeadLaws.{compare-start, lead-lower, lead-higher, lead-turn, byte-lower, byte-higher, byte-turn, length-lower, length-higher, length-same}
 use Rattle.node.proofs.lead.byte_compare.Statement.{statement}
 use Rattle.node.proofs.lead.byte_compare.Tie as tie
-use Rattle.node.proofs.lead.byte_compare.Reads as reads
-use Rattle.node.proofs.lead.byte_compare.Lts as lts
-use Rattle.node.proofs.lead.least.Reads as least-reads
-use Rattle.node.proofs.lead.lead_at.Reads as lead-at-reads
 
 ruleset laws = (needs, compare-start, lead-lower, lead-higher, lead-turn, byte-lower, byte-higher, byte-turn, length-lower, length-higher, length-same)
 

@@ -1,12 +1,9 @@
+-- `node::lead::lead_at` meets its contract. Assumes nothing.
 use Rattle.node.specs.laws.LeadLaws.{lead-read}
 use Rattle.node.specs.laws.ByteLaws.{bytes-known}
 use borrow.Author.Needs.{needs}
 use Rattle.node.proofs.lead.lead_at.Statement.{statement}
 use Rattle.node.proofs.lead.lead_at.Tie as tie
-use Rattle.node.proofs.lead.lead_at.Reads as reads
-use Rattle.node.proofs.lead.lead_at.Lts as lts
-use Rattle.node.proofs.lead.swap32.Reads as swap32-reads
-use Rattle.seal.proofs.bytes.u64_at.Reads as u64-at-reads
 
 u64-at-requires : tie.Need-u64-at-requires
 u64-at-requires c κs = search needs

@@ -1,10 +1,8 @@
+-- `node::led::lead_below` meets its contract. Assumes nothing.
 use Rattle.node.specs.laws.LedLaws.{pass-none, pass-by-first, pass-by-second, lead-lies, second-lies}
 use borrow.Author.Needs.{needs}
 use Rattle.node.proofs.led.lead_below.Statement.{statement}
 use Rattle.node.proofs.led.lead_below.Tie as tie
-use Rattle.node.proofs.led.lead_below.Reads as reads
-use Rattle.node.proofs.led.lead_below.Lts as lts
-use Rattle.node.proofs.lead.lead_at.Reads as lead-at-reads
 
 ruleset laws = (needs, pass-none, pass-by-first, pass-by-second, lead-lies, second-lies)
 

@@ -1,14 +1,9 @@
+-- `node::led::run_led` meets its contract. Assumes nothing.
 use Rattle.node.specs.laws.RunLaws.{run-first}
 use Rattle.node.specs.laws.LedLaws.{led-none, led-made}
 use borrow.Author.Needs.{needs}
 use Rattle.node.proofs.led.run_led.Statement.{statement}
 use Rattle.node.proofs.led.run_led.Tie as tie
-use Rattle.node.proofs.led.run_led.Reads as reads
-use Rattle.node.proofs.led.run_led.Lts as lts
-use Rattle.node.proofs.led.run.Reads as run-reads
-use Rattle.node.proofs.led.run_marked.Reads as run-marked-reads
-use Rattle.node.proofs.led.run_plain.Reads as run-plain-reads
-use Rattle.seal.proofs.bytes.u16_at.Reads as u16-at-reads
 
 ruleset laws = (needs, run-first, led-none, led-made)
 

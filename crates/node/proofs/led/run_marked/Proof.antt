@@ -1,3 +1,4 @@
+-- `node::led::run_marked` meets its contract. Assumes nothing.
 use Prim.Native.Nat.{_+_, _-_, _<_, _^_}
 use mathlib.Core.Path.{_≡_}
 use borrow.Author.Needs.{needs}
@@ -7,12 +8,6 @@ use Rattle.node.specs.internal.Lead.{RunLed}
 use Rattle.node.specs.laws.LedLaws.{led-none, led-made, led-lies, led-next, mark-fits, marked-next, marked-fits, marked-after}
 use Rattle.node.proofs.led.run_marked.Statement.{statement}
 use Rattle.node.proofs.led.run_marked.Tie as tie
-use Rattle.node.proofs.led.run_marked.Reads as reads
-use Rattle.node.proofs.led.run_marked.Lts as lts
-use Rattle.node.proofs.led.lead_below.Reads as lead-below-reads
-use Rattle.node.proofs.led.run.Reads as run-reads
-use Rattle.node.proofs.record.mark_length.Reads as mark-length-reads
-use Rattle.seal.proofs.bytes.u16_at.Reads as u16-at-reads
 
 ruleset laws = (needs, led-none, led-made, led-lies, led-next, mark-fits, marked-next, marked-fits, marked-after, record-room-1, record-room-2)
 

@@ -1,17 +1,12 @@
+-- `node::led::run_plain` meets its contract. Assumes nothing.
 use Prim.Native.Nat.{_+_, _-_}
 use mathlib.Core.Path.{_≡_}
 use borrow.Author.Needs.{needs}
-use Rattle.node.specs.Records.{markLength}
 use Rattle.node.specs.laws.RecordsLaws.{record-room-1, record-room-2}
 use Rattle.node.specs.internal.Lead.{RunLed}
 use Rattle.node.specs.laws.LedLaws.{led-none, led-made, led-lies, led-next, mark-fits, plain-next, plain-fits, plain-after}
 use Rattle.node.proofs.led.run_plain.Statement.{statement}
 use Rattle.node.proofs.led.run_plain.Tie as tie
-use Rattle.node.proofs.led.run_plain.Reads as reads
-use Rattle.node.proofs.led.run_plain.Lts as lts
-use Rattle.node.proofs.led.lead_below.Reads as lead-below-reads
-use Rattle.node.proofs.led.run.Reads as run-reads
-use Rattle.seal.proofs.bytes.u16_at.Reads as u16-at-reads
 
 ruleset laws = (needs, led-none, led-made, led-lies, led-next, mark-fits, plain-next, plain-fits, plain-after, record-room-1, record-room-2)
 
