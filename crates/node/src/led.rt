@@ -42,8 +42,8 @@ fn run(count: u64, at: usize, last: usize) -> Run
     }
 }
 
-// The leading records of a leaf, ghosts aside, that are seen to be below. `after` is where a record's key starts; it is reckoned a turn early, so that
-// where the next record starts waits for one load and two sums.
+// The leading records of a leaf, ghosts aside, that are seen to be below. `after` is where a record's key starts; it is reckoned a turn
+// early, so that where the next record starts waits for one load and two sums.
 pub fn run_plain(slot: &[u8], n: u64, first: u64, second: u64) -> Run
     requires { ⌜ recordsLength n (now slot) ≤ length (now slot) ⌝ }
     ensures { λ r. ⌜ RunLed (now (slot .entry)) n first second r ⌝ }
