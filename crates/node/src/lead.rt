@@ -49,6 +49,7 @@ pub fn lead_of(key: &[u8], i: usize) -> u64
     lead_at(key, i)
 }
 
+// The lesser of two lengths.
 pub fn least(x: usize, y: usize) -> usize
     ensures { λ r. ⌜ r ≡ min x y ⌝ }
 {

@@ -1,5 +1,5 @@
-// Leading records that a search in an order by bytes passes: nearly all of them are seen to be below by their first or their second eight bytes, and the loops
-// here do nothing else.
+// Leading records that a search in byte order passes. Nearly all of them are seen to be below by their first or their second eight bytes,
+// and the loops here do nothing else.
 use crate::lead;
 use crate::record;
 use crate::slot::Run;
@@ -31,6 +31,7 @@ fn lead_below(slot: &[u8], at: usize, klen: u64, first: u64, second: u64) -> boo
     lead::lead_at(slot, at + 12) < second
 }
 
+// So many records, where the next lies, and the last of them.
 fn run(count: u64, at: usize, last: usize) -> Run
     ensures { λ r. ⌜ r ≡ record { count = count; at = at; last = last } ⌝ }
 {
@@ -41,8 +42,8 @@ fn run(count: u64, at: usize, last: usize) -> Run
     }
 }
 
-// The leading records of a leaf, ghosts aside, that are seen to be below. Where the one after next starts is reckoned a turn before it is needed, so that a turn
-// waits for one load and two sums.
+// The leading records of a leaf, ghosts aside, that are seen to be below. `after` is where a record's key starts; it is reckoned a turn
+// early, so that where the next record starts waits for one load and two sums.
 pub fn run_plain(slot: &[u8], n: u64, first: u64, second: u64) -> Run
     requires { ⌜ recordsLength n (now slot) ≤ length (now slot) ⌝ }
     ensures { λ r. ⌜ RunLed (now (slot .entry)) n first second r ⌝ }
@@ -68,7 +69,7 @@ pub fn run_plain(slot: &[u8], n: u64, first: u64, second: u64) -> Run
     run(i, at, last)
 }
 
-// The leading records of one mark that are seen to be below.
+// The leading records of one mark that are seen to be below. Here `after` is where the next record would start if the key were empty.
 fn run_marked(slot: &[u8], n: u64, mark: u64, first: u64, second: u64) -> Run
     requires { ⌜ recordsLength n (now slot) ≤ length (now slot) ⌝ }
     requires { ⌜ mark < 2 ^ 16 ⌝ }

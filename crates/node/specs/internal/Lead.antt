@@ -49,8 +49,8 @@ pub record Comparing (a b : List ℕ) (n i : ℕ) : Type 0 where
 unfoldable pub compared : Bool → Bool → ℕ
 compared below above = cond below 0 (cond above 2 1)
 
--- so many leading records are passed by a search in byte order for any key whose first and second eight bytes spell these numbers: where the next lies, and the
--- last of them, else the first of all
+-- so many leading records are passed by a search in byte order for any key whose first and second eight bytes spell these numbers: where the next
+-- lies, and the last of them, else the first of all
 pub record RunLed (l : List ℕ) (n first second : ℕ) (r : Run) : Type 0 where
   pub upto : r .count ≤ n
   pub start : r .at ≡ recordsLength (r .count) l

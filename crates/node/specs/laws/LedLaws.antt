@@ -291,18 +291,19 @@ module _ (l : List ℕ) (n : ℕ) (k : List ℕ) (at : ℕ) (kb : List ℕ) (c :
   pub compared-not-above : (c ≡ 2 → ⊥) → less byte k (entryOf (drop at l) .key) ≡ false
   compared-not-above z = rw (← d) (by-bytes k kb false (not-above-said kb k c e z))
 
-  pub compared-here : (i : ℕ) → i < n → at ≡ recordsLength i l → (c ≡ 0 → ⊥) → i + placeOf byte k (drop i (entriesOf n l)) ≡ placeOf byte k (entriesOf n l)
+  pub compared-here : (i : ℕ) → i < n → at ≡ recordsLength i l → (c ≡ 0 → ⊥)
+      → i + placeOf byte k (drop i (entriesOf n l)) ≡ placeOf byte k (entriesOf n l)
       → isThere byte k (drop i (entriesOf n l)) ≡ isThere byte k (entriesOf n l)
       → _≡_ {A = Found} (record { index = i; at = at; found = eqb c 1 }) (foundIn byte k n l)
   compared-here i hi p z v w =
       let f : byteLess kb k ≡ false = not-below-said kb k c e z in
       let g : less byte kb k ≡ false = by-bytes kb k false f in
       let s : eqb c 1 ≡ not (less byte k kb) = same-said kb k c e f ∙ ap not (sym (by-bytes k kb (byteLess k kb) refl)) in
-      rw s
-      (found-here l n byte k i at kb false (less byte k kb) hi p d (sym g) refl refl v w)
+      rw s (found-here l n byte k i at kb false (less byte k kb) hi p d (sym g) refl refl v w)
 
   pub compared-last : (i last : ℕ) → i < n → at ≡ recordsLength i l → last ≡ recordsLength (i - 1) l → c ≡ 2
-      → i + notAbove byte k (drop i (entriesOf n l)) ≡ notAbove byte k (entriesOf n l) → _≡_ {A = Last} (record { count = i; at = last }) (lastIn byte k n l)
+      → i + notAbove byte k (drop i (entriesOf n l)) ≡ notAbove byte k (entriesOf n l)
+      → _≡_ {A = Last} (record { count = i; at = last }) (lastIn byte k n l)
   compared-last i last hi p m z v =
       last-here l n byte k i at last kb true hi p m d (sym (by-bytes k kb true (above-said kb k c e z))) refl v
 

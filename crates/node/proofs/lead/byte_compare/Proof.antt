@@ -1,3 +1,4 @@
+-- `node::lead::byte_compare` meets its contract. Assumes nothing.
 use Prim.Native.Nat.{_-_}
 use borrow.Author.Needs.{needs}
 use Rattle.node.specs.internal.Lead.{Comparing}

@@ -1,3 +1,4 @@
+-- `node::lead::lead_at` meets its contract. Assumes nothing.
 use Rattle.node.specs.laws.LeadLaws.{lead-read}
 use Rattle.node.specs.laws.ByteLaws.{bytes-known}
 use borrow.Author.Needs.{needs}

@@ -1,3 +1,4 @@
+-- `node::led::run_led` meets its contract. Assumes nothing.
 use Rattle.node.specs.laws.RunLaws.{run-first}
 use Rattle.node.specs.laws.LedLaws.{led-none, led-made}
 use borrow.Author.Needs.{needs}

@@ -1,3 +1,4 @@
+-- `node::led::run_marked` meets its contract. Assumes nothing.
 use Prim.Native.Nat.{_+_, _-_, _<_, _^_}
 use mathlib.Core.Path.{_≡_}
 use borrow.Author.Needs.{needs}

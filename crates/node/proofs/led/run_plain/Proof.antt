@@ -1,3 +1,4 @@
+-- `node::led::run_plain` meets its contract. Assumes nothing.
 use Prim.Native.Nat.{_+_, _-_}
 use mathlib.Core.Path.{_≡_}
 use borrow.Author.Needs.{needs}
