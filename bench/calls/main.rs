@@ -1,4 +1,4 @@
-// The calls of the library beside the Rust's own editor, on open trees of the same entries: both are asked the same, in turns, and the best
+// The calls of the library beside the Rust's own editor, on open trees of the same entries: both are asked the same, in turns, and the median
 // pass of each counts. Ratios are Rattle to Rust: above 1 the proved code is the faster.
 mod ours;
 mod through;
@@ -15,13 +15,32 @@ pub const PASSES: usize = 60;
 const SAMPLE: usize = 512;
 const NEW: usize = 32;
 
-// Each of two passes, the best of many, in turns.
-pub fn turns(passes: usize, mut a: impl FnMut() -> Duration, mut b: impl FnMut() -> Duration) -> (Duration, Duration) {
-    let mut best = (Duration::MAX, Duration::MAX);
-    for _ in 0..passes {
-        best = (best.0.min(a()), best.1.min(b()));
+// What passes took. Their median counts: a clock that jumps once does not move it.
+#[derive(Default)]
+pub struct Passes(Vec<Duration>);
+
+impl Passes {
+    pub fn push(&mut self, took: Duration) {
+        self.0.push(took);
     }
-    best
+
+    fn median(&mut self) -> Duration {
+        self.0.sort();
+        self.0[self.0.len() / 2]
+    }
+}
+
+// What each of the two took, pass by pass.
+pub type Both = (Passes, Passes);
+
+// Each of two passes, many times, in turns.
+pub fn turns(passes: usize, mut a: impl FnMut() -> Duration, mut b: impl FnMut() -> Duration) -> Both {
+    let mut both = Both::default();
+    for _ in 0..passes {
+        both.0.push(a());
+        both.1.push(b());
+    }
+    both
 }
 
 #[repr(C)]
@@ -49,8 +68,9 @@ pub fn timed(f: impl FnOnce()) -> Duration {
     clock() - t
 }
 
-pub fn say(name: &str, count: usize, (theirs, ours): (Duration, Duration)) {
+pub fn say(name: &str, count: usize, (mut theirs, mut ours): Both) {
     let each = |t: Duration| t.as_secs_f64() * 1e6 / count as f64;
+    let (theirs, ours) = (theirs.median(), ours.median());
     println!("  {name:22} Rust {:9.3} us, Rattle {:9.3} us, ratio {:6.2}", each(theirs), each(ours), each(theirs) / each(ours));
 }
 
@@ -85,12 +105,12 @@ fn edits(t: &Trees, theirs: &mut Theirs, ours: &mut Ours, checked: bool) {
     say("upsert, a key there", SAMPLE, turns(PASSES / 3, || timed(|| keys.iter().for_each(|k| a.upsert(&t.disk, k, &value))), || {
         timed(|| keys.iter().for_each(|k| b.upsert(image, k, &value)))
     }));
-    let (mut put, mut gone) = ((Duration::MAX, Duration::MAX), (Duration::MAX, Duration::MAX));
+    let (mut put, mut gone) = (Both::default(), Both::default());
     for _ in 0..PASSES {
-        put.0 = put.0.min(timed(|| t.new.iter().for_each(|k| a.upsert(&t.disk, k, &value))));
-        put.1 = put.1.min(timed(|| t.new.iter().for_each(|k| b.upsert(image, k, &value))));
-        gone.0 = gone.0.min(timed(|| t.new.iter().for_each(|k| a.remove(&t.disk, k))));
-        gone.1 = gone.1.min(timed(|| t.new.iter().for_each(|k| b.remove(image, k))));
+        put.0.push(timed(|| t.new.iter().for_each(|k| a.upsert(&t.disk, k, &value))));
+        put.1.push(timed(|| t.new.iter().for_each(|k| b.upsert(image, k, &value))));
+        gone.0.push(timed(|| t.new.iter().for_each(|k| a.remove(&t.disk, k))));
+        gone.1.push(timed(|| t.new.iter().for_each(|k| b.remove(image, k))));
     }
     say("upsert, a new key", NEW, put);
     say("remove", NEW, gone);
@@ -112,24 +132,23 @@ fn edits(t: &Trees, theirs: &mut Theirs, ours: &mut Ours, checked: bool) {
 fn flushes(t: &mut Trees, slots: usize, dirty: usize) {
     let value = t.kind.value(9);
     let mut ours = Ours::new(tree::SIZE, slots);
-    let mut best = (Duration::MAX, Duration::MAX);
-    let mut opens = (Duration::MAX, Duration::MAX);
+    let (mut took, mut opens) = (Both::default(), Both::default());
     let mut nodes = 0;
     for _ in 0..PASSES / 2 {
         let mut theirs = None;
-        opens.0 = opens.0.min(timed(|| theirs = Some(Theirs::open(&t.disk, t.root, t.kind))));
-        opens.1 = opens.1.min(timed(|| ours.open(&t.disk.image, t.root, t.kind.order(), 5)));
+        opens.0.push(timed(|| theirs = Some(Theirs::open(&t.disk, t.root, t.kind))));
+        opens.1.push(timed(|| ours.open(&t.disk.image, t.root, t.kind.order(), 5)));
         let mut theirs = theirs.unwrap();
         for k in t.spread(dirty) {
             theirs.upsert(&t.disk, &k, &value);
             ours.upsert(&t.disk.image, &k, &value);
         }
-        let (took, writes, freed) = theirs.flush(&t.disk);
-        best.0 = best.0.min(took);
+        let (time, writes, freed) = theirs.flush(&t.disk);
+        took.0.push(time);
         let mut space = tree::space(&t.disk);
         let mut done = (0, 0, 0);
         let image = &mut t.disk.image;
-        best.1 = best.1.min(timed(|| done = ours.flush(image, &mut space, 6)));
+        took.1.push(timed(|| done = ours.flush(image, &mut space, 6)));
         assert_eq!((done.1, done.2), (writes.len() as u64, freed), "flush differs");
         for (at, block) in &writes {
             assert!(&image[*at as usize * tree::SIZE..][..tree::SIZE] == block, "a written block differs");
@@ -137,7 +156,7 @@ fn flushes(t: &mut Trees, slots: usize, dirty: usize) {
         nodes = writes.len();
     }
     say("open", 1, opens);
-    say(&format!("flush of {nodes}"), nodes, best);
+    say(&format!("flush of {nodes}"), nodes, took);
 }
 
 fn main() {

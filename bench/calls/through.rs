@@ -1,9 +1,8 @@
 // The same calls through the safe crate (rust/moachest), as a dock makes them: values come back in vectors of their own.
 use crate::tree::{Kind, Theirs, Trees, SIZE};
-use crate::{say, timed, turns, PASSES};
+use crate::{say, timed, turns, Both, PASSES};
 use moachest::{Options, Order, Reader, Tree};
 use std::hint::black_box;
-use std::time::Duration;
 
 fn opened(t: &Trees, rd: &Reader, slots: usize) -> Tree {
     let order = if t.kind == Kind::Fixed { Order::Pair } else { Order::Byte };
@@ -27,12 +26,12 @@ pub fn run(t: &Trees, slots: usize) {
     say("crate: floor", keys.len(), turns(PASSES, || timed(|| keys.iter().for_each(|k| drop(black_box(a.floor(&t.disk, k))))), || {
         timed(|| keys.iter().for_each(|k| drop(black_box(b.floor(&rd, k).unwrap()))))
     }));
-    let (mut put, mut gone) = ((Duration::MAX, Duration::MAX), (Duration::MAX, Duration::MAX));
+    let (mut put, mut gone) = (Both::default(), Both::default());
     for _ in 0..PASSES {
-        put.0 = put.0.min(timed(|| t.new.iter().for_each(|k| a.upsert(&t.disk, k, &value))));
-        put.1 = put.1.min(timed(|| t.new.iter().for_each(|k| b.upsert(&rd, k, Some(&value)).unwrap())));
-        gone.0 = gone.0.min(timed(|| t.new.iter().for_each(|k| a.remove(&t.disk, k))));
-        gone.1 = gone.1.min(timed(|| t.new.iter().for_each(|k| assert!(b.remove(&rd, k).unwrap()))));
+        put.0.push(timed(|| t.new.iter().for_each(|k| a.upsert(&t.disk, k, &value))));
+        put.1.push(timed(|| t.new.iter().for_each(|k| b.upsert(&rd, k, Some(&value)).unwrap())));
+        gone.0.push(timed(|| t.new.iter().for_each(|k| a.remove(&t.disk, k))));
+        gone.1.push(timed(|| t.new.iter().for_each(|k| assert!(b.remove(&rd, k).unwrap()))));
     }
     say("crate: upsert, new", t.new.len(), put);
     say("crate: remove", t.new.len(), gone);
