@@ -18,7 +18,7 @@ ghost use Rattle.tree.specs.Format.{marked, Sized};
 ghost use Rattle.tree.specs.Lent.{lentOf};
 ghost use Rattle.tree.specs.Trust.{trusted};
 ghost use Rattle.tree.specs.Workspace.{stateOf};
-ghost use Rattle.tree.specs.internal.Bank.{Ready};
+ghost use Rattle.tree.specs.Trusts.{Ready};
 ghost use Rattle.flush.specs.Space.{spaceOf, usable, spaceHolds, Held};
 ghost use Rattle.flush.specs.Flush.{typeOf, writeNode, writeFrom, sumFrom, fill, listsHold, flushIn};
 ghost use Rattle.flush.specs.Answers.{listsOf, flushedOf, flushedMeans, flushedIn, flushedLeaves};

@@ -12,7 +12,7 @@ ghost use Rattle.tree.specs.Upsert.{upsertIn, upsert};
 ghost use Rattle.tree.specs.Remove.{removeIn, remove};
 ghost use Rattle.tree.specs.Omap.{omapPutIn, omapPut, omapDropIn, omapDrop};
 ghost use Rattle.tree.specs.Answers.{putValue, editedOf, editedLeaves, removedOf, removedLeaves};
-ghost use Rattle.tree.specs.internal.Edits.{Trusts, EditedCalled, RemovedCalled};
+ghost use Rattle.tree.specs.Trusts.{Trusts, EditedCalled, RemovedCalled};
 ghost use Rattle.moachest.specs.Words.{yes, treeOf, lentNumbers, onTree, onWords};
 ghost use Rattle.moachest.specs.Answers.{editedTree, editedBack, removedTree, removedAnswer, removedBack};
 

@@ -9,7 +9,7 @@ ghost use lib.ListN.{length};
 ghost use Rattle.tree.specs.Lent.{lentOf};
 ghost use Rattle.tree.specs.Trust.{trusted};
 ghost use Rattle.tree.specs.Workspace.{stateOf};
-ghost use Rattle.tree.specs.internal.Bank.{Ready};
+ghost use Rattle.tree.specs.Trusts.{Ready};
 ghost use Rattle.flush.specs.Space.{spaceOf};
 ghost use Rattle.flush.specs.Flush.{flushIn};
 ghost use Rattle.flush.specs.Answers.{listsOf, flushedMeans, flushedIn, flushedLeaves};

@@ -9,11 +9,7 @@ ghost use Rattle.tree.specs.Lent.{lentOf};
 ghost use Rattle.tree.specs.Answers.{openedOf, openedIn, openedLeaves, gotMeans, gotIn, gotOutput, gotLeaves, floorMeans, flooredIn, flooredOutput, flooredLeaves, rangeMeans, rangedIn, rangedOutput, rangedLength, rangedLeaves};
 ghost use Rattle.tree.specs.Lookup.{getIn, floorIn, rangeIn};
 ghost use Rattle.tree.specs.Workspace.{stateOf};
-ghost use Rattle.tree.specs.internal.Open.{OpenedTrusts};
-ghost use Rattle.tree.specs.internal.Edits.{Trusts};
-ghost use Rattle.tree.specs.internal.Get.{GotCalled};
-ghost use Rattle.tree.specs.internal.Floor.{FloorCalled};
-ghost use Rattle.tree.specs.internal.Range.{RangeCalled};
+ghost use Rattle.tree.specs.Trusts.{Trusts, OpenedTrusts, GotCalled, FloorCalled, RangeCalled};
 ghost use Rattle.moachest.specs.Words.{treeOf, lentNumbers, onTree, onWords};
 ghost use Rattle.moachest.specs.Answers.{openedTree, openedBack, gotTree, gotAnswer, gotBack, flooredTree, flooredAnswer, flooredBack, rangedTree, rangedAnswer, rangedBack};
 

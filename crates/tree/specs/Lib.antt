@@ -12,6 +12,7 @@ pub mod Upsert
 pub mod Remove
 pub mod Omap
 pub mod Trust
+pub mod Trusts
 pub mod Answers
 -- What only internal contracts cite, or a theorem assumes.
 pub mod internal

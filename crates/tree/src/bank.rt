@@ -20,7 +20,8 @@ ghost use Rattle.node.specs.internal.ReadSteps.{Sound};
 ghost use Rattle.tree.specs.State.{withEntries, markedDirty};
 ghost use Rattle.tree.specs.Load.{adopted};
 ghost use Rattle.tree.specs.Workspace.{slotBytes};
-ghost use Rattle.tree.specs.internal.Bank.{nodeIn, live, Ready, Wrote, Put};
+ghost use Rattle.tree.specs.Trusts.{live, Ready};
+ghost use Rattle.tree.specs.internal.Bank.{nodeIn, Wrote, Put};
 ghost use Rattle.tree.specs.internal.Undo.{Follows};
 
 // A slot's bytes: so many blocks' worth.

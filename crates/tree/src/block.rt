@@ -15,7 +15,8 @@ ghost use Rattle.node.specs.Fit.{Sized, fits, dataSpace, packedLength};
 ghost use Rattle.node.specs.Slot.{headAt, headWords};
 ghost use Rattle.tree.specs.State.{nodeAt};
 ghost use Rattle.tree.specs.Workspace.{stateOf};
-ghost use Rattle.tree.specs.internal.Bank.{nodeIn, Ready};
+ghost use Rattle.tree.specs.Trusts.{Ready};
+ghost use Rattle.tree.specs.internal.Bank.{nodeIn};
 ghost use Rattle.tree.specs.internal.Block.{wordsOf, writtenHead, packedSlot};
 
 // What is known of a slot's node beside its level and its records; a dead slot has none.

@@ -23,7 +23,7 @@ ghost use Rattle.tree.specs.State.{nodeAt};
 ghost use Rattle.tree.specs.Edit.{parted, growRoot, newRootHolds, cutAt, cutNode, cuts};
 ghost use Rattle.tree.specs.Workspace.{stateOf};
 ghost use Rattle.tree.specs.Answers.{editedOf};
-ghost use Rattle.tree.specs.internal.Bank.{Ready};
+ghost use Rattle.tree.specs.Trusts.{Ready};
 ghost use Rattle.tree.specs.internal.Undo.{Follows};
 ghost use Rattle.tree.specs.internal.Index.{Rewritten, stepsFrom};
 ghost use Rattle.tree.specs.internal.Edits.{aboveOf, CutFits, CutsFit, ReadyEdited};

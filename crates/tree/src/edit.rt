@@ -15,7 +15,7 @@ ghost use Rattle.node.specs.Slot.{headAt};
 ghost use Rattle.tree.specs.Workspace.{slotBytes, stateOf};
 ghost use Rattle.tree.specs.State.{nodeAt};
 ghost use Rattle.tree.specs.Edit.{parted, setIndexKey, indexKeys};
-ghost use Rattle.tree.specs.internal.Bank.{live, Ready};
+ghost use Rattle.tree.specs.Trusts.{live, Ready};
 ghost use Rattle.tree.specs.internal.Undo.{savedAt, Follows};
 ghost use Rattle.tree.specs.internal.Way.{stepsOf, WayIn, Dirtied, Touched};
 ghost use Rattle.tree.specs.internal.Index.{keyDiffers, keyPut, Rewritten, KeyRoom, IndexRoom};

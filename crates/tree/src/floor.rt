@@ -21,12 +21,11 @@ ghost use Rattle.tree.specs.Lent.{lentOf};
 ghost use Rattle.tree.specs.Lookup.{lastFrom, floorFrom, floorIn};
 ghost use Rattle.tree.specs.Workspace.{slotBytes, stateOf};
 ghost use Rattle.tree.specs.Answers.{floorMeans, flooredIn, flooredOutput, flooredLeaves};
-ghost use Rattle.tree.specs.internal.Bank.{Ready};
+ghost use Rattle.tree.specs.Trusts.{Ready, Trusts, FloorCalled};
 ghost use Rattle.tree.specs.internal.Tree.{boundsOf, BoundsIn};
 ghost use Rattle.tree.specs.internal.Undo.{Follows};
-ghost use Rattle.tree.specs.internal.Edits.{Trusts};
 ghost use Rattle.tree.specs.internal.Floor.{entryIn, lastMeans, EntryReady, LastReady, lastAt, floorAt, leftFrom};
-ghost use Rattle.tree.specs.internal.Floor.{flooredOf, floorWay, FloorReady, FloorCalled, SpotOf};
+ghost use Rattle.tree.specs.internal.Floor.{flooredOf, floorWay, FloorReady, SpotOf};
 
 // Where a lookup ended: refused, at no entry, or at an entry of a slot.
 pub enum Last {

@@ -6,7 +6,7 @@ use node::slot;
 use node::slot::Found;
 ghost use Prim.Native.Nat.{_<_};
 ghost use Rattle.tree.specs.Workspace.{stateOf};
-ghost use Rattle.tree.specs.internal.Bank.{Ready};
+ghost use Rattle.tree.specs.Trusts.{Ready};
 ghost use Rattle.tree.specs.internal.Found.{FoundAt};
 
 impl Tree {

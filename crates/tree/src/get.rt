@@ -22,10 +22,9 @@ ghost use Rattle.tree.specs.Trust.{trusted};
 ghost use Rattle.tree.specs.Lookup.{held, getIn};
 ghost use Rattle.tree.specs.Workspace.{stateOf};
 ghost use Rattle.tree.specs.Answers.{gotMeans, gotIn, gotOutput, gotLeaves};
-ghost use Rattle.tree.specs.internal.Bank.{Ready};
+ghost use Rattle.tree.specs.Trusts.{Ready, Trusts, GotCalled};
 ghost use Rattle.tree.specs.internal.Undo.{Follows};
-ghost use Rattle.tree.specs.internal.Edits.{Trusts};
-ghost use Rattle.tree.specs.internal.Get.{heldMeans, HeldIn, gotAt, gotWay, gotOf, ReadyGot, GotCalled};
+ghost use Rattle.tree.specs.internal.Get.{heldMeans, HeldIn, gotAt, gotWay, gotOf, ReadyGot};
 
 // What a key holds in a slot: nothing, a ghost, or a value, which starts there and has so many bytes.
 pub enum Held {

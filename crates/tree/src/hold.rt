@@ -19,8 +19,8 @@ ghost use Rattle.node.specs.Fit.{Sized};
 ghost use Rattle.node.specs.Records.{recordLength, recordsLength, entryOf, entriesOf};
 ghost use Rattle.tree.specs.Workspace.{stateOf, slotsHold};
 ghost use Rattle.tree.specs.Hold.{holdTogether};
+ghost use Rattle.tree.specs.Trusts.{numberHolds, wordsHold};
 ghost use Rattle.tree.specs.internal.Marks.{markSlot, markOf};
-ghost use Rattle.tree.specs.internal.Bank.{numberHolds, wordsHold};
 ghost use Rattle.tree.specs.internal.Holding.{Laid, countHolds, placeHolds, bodyHolds, childStands, linkValue, linkEntries, holdSlot, holdSlots};
 
 // The most levels of a tree, less one.

@@ -13,7 +13,7 @@ ghost use lib.ListN.{length};
 ghost use Rattle.node.specs.Records.{recordsLength, entriesOf};
 ghost use Rattle.tree.specs.State.{nodeAt};
 ghost use Rattle.tree.specs.Workspace.{stateOf};
-ghost use Rattle.tree.specs.internal.Bank.{Ready};
+ghost use Rattle.tree.specs.Trusts.{Ready};
 ghost use Rattle.tree.specs.internal.Loaded.{TakenOf, LeadsIn, LeafIs, Walked};
 
 // The entry that a key goes on by, and the slot of its child if that is loaded.

@@ -16,7 +16,8 @@ ghost use lib.ListN.{length};
 ghost use Rattle.tree.specs.Lent.{lentOf};
 ghost use Rattle.tree.specs.Lookup.{opened};
 ghost use Rattle.tree.specs.Answers.{openedOf, openedIn, openedLeaves};
-ghost use Rattle.tree.specs.internal.Open.{openedRoot, ReadyOpened, OpenedTrusts};
+ghost use Rattle.tree.specs.Trusts.{OpenedTrusts};
+ghost use Rattle.tree.specs.internal.Open.{openedRoot, ReadyOpened};
 
 pub enum Opened {
     Refused(u64),

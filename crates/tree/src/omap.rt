@@ -23,9 +23,10 @@ ghost use Rattle.tree.specs.Lent.{lentOf};
 ghost use Rattle.tree.specs.Omap.{isOmap, versionsEnd, removeAll, dropped, omapDropIn, omapDrop, omapPutIn, omapPut};
 ghost use Rattle.tree.specs.Workspace.{stateOf, edits};
 ghost use Rattle.tree.specs.Answers.{editedOf, editedLeaves};
+ghost use Rattle.tree.specs.Trusts.{Trusts, EditedCalled};
 ghost use Rattle.tree.specs.internal.Undo.{Follows};
 ghost use Rattle.tree.specs.internal.Range.{endOf};
-ghost use Rattle.tree.specs.internal.Edits.{Trusts, ReadyEdited, EditedCalled};
+ghost use Rattle.tree.specs.internal.Edits.{ReadyEdited};
 ghost use Rattle.tree.specs.internal.Dropping.{Listed, putAnew};
 
 // Keys and values of an object map have so many bytes.

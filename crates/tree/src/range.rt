@@ -25,13 +25,11 @@ ghost use Rattle.tree.specs.Lookup.{endsAbove, between, rangeEnters, ran
 ghost use Rattle.tree.specs.Trust.{trusted};
 ghost use Rattle.tree.specs.Workspace.{stateOf};
 ghost use Rattle.tree.specs.Answers.{rangeMeans, rangedIn, rangedOutput, rangedLength, rangedLeaves};
-ghost use Rattle.tree.specs.internal.Bank.{Ready};
+ghost use Rattle.tree.specs.Trusts.{Ready, Roomy, Trusts, RangeCalled};
 ghost use Rattle.tree.specs.internal.Tree.{boundsOf, BoundsIn};
 ghost use Rattle.tree.specs.internal.Undo.{Follows};
-ghost use Rattle.tree.specs.internal.Edits.{Trusts};
-ghost use Rattle.tree.specs.internal.Room.{Roomy};
 ghost use Rattle.tree.specs.internal.Range.{endOf, liesBetween, nextEntered, most, atMost, sumOf, counted, rangedOf, ReadyRanged};
-ghost use Rattle.tree.specs.internal.Range.{rangeChild, heldChild, rangeHeld, rangeWay, RangeCalled};
+ghost use Rattle.tree.specs.internal.Range.{rangeChild, heldChild, rangeHeld, rangeWay};
 
 // Sums stop here. No tree's entries come near it: its slots hold less.
 const MOST: u64 = 0x4000000000000000;

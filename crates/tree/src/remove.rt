@@ -30,11 +30,12 @@ ghost use Rattle.tree.specs.Trust.{trusted};
 ghost use Rattle.tree.specs.Remove.{dropNode, dropEmptied, leveledRoot, hasOnlyChild, handDown, removed, removeIn, remove};
 ghost use Rattle.tree.specs.Workspace.{slotBytes, stateOf, edits};
 ghost use Rattle.tree.specs.Answers.{editedOf, removedOf, removedLeaves};
-ghost use Rattle.tree.specs.internal.Bank.{live, Lies, Ready, Put};
+ghost use Rattle.tree.specs.Trusts.{live, Lies, Ready, Trusts, RemovedCalled};
+ghost use Rattle.tree.specs.internal.Bank.{Put};
 ghost use Rattle.tree.specs.internal.Undo.{Follows};
 ghost use Rattle.tree.specs.internal.Way.{stepsOf, WayIn};
 ghost use Rattle.tree.specs.internal.Index.{Rewritten};
-ghost use Rattle.tree.specs.internal.Edits.{Trusts, ReadyEdited, ReadyRemoved, RemovedCalled};
+ghost use Rattle.tree.specs.internal.Edits.{ReadyEdited, ReadyRemoved};
 ghost use Rattle.tree.specs.internal.Removing.{deadPut, childDropped, DropFits, DropRoom, Emptied, takenOn, shrunkAt, removedAt, OnWay, SameUsed, Handed};
 
 // A tree's numbers with other counts.

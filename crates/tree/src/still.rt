@@ -18,7 +18,8 @@ ghost use lib.ListN.{length};
 ghost use Rattle.node.specs.Fit.{Sized};
 ghost use Rattle.tree.specs.Trust.{standTogether};
 ghost use Rattle.tree.specs.Workspace.{stateOf};
-ghost use Rattle.tree.specs.internal.Bank.{nodeIn, Ready};
+ghost use Rattle.tree.specs.Trusts.{Ready};
+ghost use Rattle.tree.specs.internal.Bank.{nodeIn};
 ghost use Rattle.tree.specs.internal.Still.{Settled, StillOf, StillIn, StillLeaf, StaysAbove, StillRemoved};
 
 // What came of it. Where the way does not stay as it is, nothing was written.

@@ -8,7 +8,8 @@ ghost use lib.ListN.{length, replicate};
 ghost use Rattle.node.specs.Bytes.{splice, moved};
 ghost use Rattle.node.specs.Slot.{headAt};
 ghost use Rattle.tree.specs.Workspace.{slotBytes};
-ghost use Rattle.tree.specs.internal.Bank.{nodeIn, live, Lies, Ready, Wrote};
+ghost use Rattle.tree.specs.Trusts.{live, Lies, Ready};
+ghost use Rattle.tree.specs.internal.Bank.{nodeIn, Wrote};
 ghost use Rattle.tree.specs.internal.Undo.{Saved, Shadowed, Back, BackAt};
 
 // Words before the marks: a slot's and its shadow's.

@@ -28,11 +28,11 @@ ghost use Rattle.tree.specs.Edit.{touch, indexKeys, cuts};
 ghost use Rattle.tree.specs.Upsert.{putInLeaf, upsertOn, entryFits, upserted, upsertIn, upsert};
 ghost use Rattle.tree.specs.Workspace.{stateOf, edits};
 ghost use Rattle.tree.specs.Answers.{putValue, editedOf, editedLeaves};
-ghost use Rattle.tree.specs.internal.Bank.{live, Ready};
+ghost use Rattle.tree.specs.Trusts.{live, Ready, Trusts, EditedCalled};
 ghost use Rattle.tree.specs.internal.Undo.{Follows};
 ghost use Rattle.tree.specs.internal.Way.{stepsOf};
 ghost use Rattle.tree.specs.internal.Found.{FoundAt};
-ghost use Rattle.tree.specs.internal.Edits.{Trusts, ReadyEdited, EditedCalled};
+ghost use Rattle.tree.specs.internal.Edits.{ReadyEdited};
 ghost use Rattle.tree.specs.internal.Upserting.{Gone, wayGone};
 
 // The greatest key count that a root stores.

@@ -14,7 +14,7 @@ ghost use Rattle.tree.specs.Lent.{lentOf};
 ghost use Rattle.tree.specs.State.{nodeAt};
 ghost use Rattle.tree.specs.Load.{unbounded};
 ghost use Rattle.tree.specs.Lookup.{wayFrom};
-ghost use Rattle.tree.specs.internal.Bank.{Ready};
+ghost use Rattle.tree.specs.Trusts.{Ready};
 ghost use Rattle.tree.specs.Workspace.{stateOf};
 ghost use Rattle.tree.specs.internal.Undo.{Follows};
 ghost use Rattle.tree.specs.internal.Way.{wayOf, WayReady};

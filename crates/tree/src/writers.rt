@@ -11,7 +11,8 @@ ghost use Rattle.node.specs.Bytes.{splice};
 ghost use Rattle.node.specs.Records.{recordsLength, markLength, valueOf};
 ghost use Rattle.node.specs.Slot.{headAt, headWords, insertAt, removeAt, withKey, withValue};
 ghost use Rattle.tree.specs.Workspace.{slotBytes};
-ghost use Rattle.tree.specs.internal.Bank.{nodeIn, live, Ready, Wrote, Put};
+ghost use Rattle.tree.specs.Trusts.{live, Ready};
+ghost use Rattle.tree.specs.internal.Bank.{nodeIn, Wrote, Put};
 ghost use Rattle.tree.specs.internal.Undo.{Follows};
 ghost use Rattle.tree.specs.internal.Writers.{recounted, edited};
 

@@ -1,7 +1,7 @@
--- Edits at work: what they trust, what they leave, and the room that a cut finds.
+-- Edits at work: what they leave, and the room that a cut finds.
 use mathlib.Core.Path.{_≡_}
 use mathlib.Core.List.{List, [], _∷_}
-use mathlib.Core.Bool.{true, false}
+use mathlib.Core.Bool.{false}
 use Prim.Native.Nat.{ℕ, zero, suc, _+_, _-_, _*_, _≤_, _<_}
 use lib.ListN.{length, getD}
 use Rattle.node.specs.Result.{ok}
@@ -9,50 +9,27 @@ use Rattle.node.specs.Find.{keyAt}
 use Rattle.node.specs.Fit.{Sized}
 use Rattle.node.specs.Records.{recordsOf}
 use Rattle.tree.specs.Lent as lent
-use Rattle.tree.specs.Lent.{lentOf}
 use Rattle.tree.specs.State.{State, nodeAt}
-use Rattle.tree.specs.Trust.{trusted}
 use Rattle.tree.specs.Lookup.{Step}
 use Rattle.tree.specs.Edit.{cuts}
-use Rattle.tree.specs.Workspace.{stateOf}
-use Rattle.tree.specs.internal.Bank.{Ready}
-use Rattle.tree.specs.internal.Room.{Roomy}
+use Rattle.tree.specs.Trusts.{Ready}
+pub use Rattle.tree.specs.Trusts.{Trusts, EditedCalled, RemovedCalled}
 use Rattle.tree.specs.internal.Index.{stepsFrom}
-use Rattle.tree.specs.declared.editor.Tree.{Tree}
-use Rattle.tree.specs.declared.lent.Lent.{Lent}
 use Rattle.tree.specs.declared.edited.Edited.{Edited}
 use Rattle.tree.specs.declared.edited.Edited.the-variants as editing
 use Rattle.tree.specs.declared.edited.Removed.{Removed}
 use Rattle.tree.specs.declared.edited.Removed.the-variants as taking
-
--- what a call that does not look at its slots trusts of them
-pub record Trusts (image : List ℕ) (l : Lent) (t : Tree) (heads bytes : List ℕ) : Type 0 where
-  pub ready : Ready (l .size) (l .slots) (t .used) heads bytes
-  pub trust : trusted (lentOf image l) (stateOf (l .size) t heads bytes) ≡ true
-  pub roomy : Roomy (2 * l .size) (stateOf (l .size) t heads bytes)
 
 -- an accepted edit leaves the workspace ready
 abbrev pub ReadyEdited : ℕ → ℕ → List ℕ → List ℕ → Edited → Type 0
 ReadyEdited size slots heads bytes (editing.Refused x) = Unit {0}
 ReadyEdited size slots heads bytes (editing.Done t) = Ready size slots (t .used) heads bytes
 
--- a refused edit leaves the tree as it was, an accepted one a tree to be trusted
-abbrev pub EditedCalled : List ℕ → Lent → Tree → List ℕ → List ℕ → List ℕ → List ℕ → Edited → Type 0
-EditedCalled image l t heads bytes heads′ bytes′ (editing.Refused x) =
-    (stateOf (l .size) t heads′ bytes′ ≡ stateOf (l .size) t heads bytes) × Ready (l .size) (l .slots) (t .used) heads′ bytes′
-EditedCalled image l t heads bytes heads′ bytes′ (editing.Done u) = Trusts image l u heads′ bytes′
-
 -- the same of remove
 abbrev pub ReadyRemoved : ℕ → ℕ → List ℕ → List ℕ → Removed → Type 0
 ReadyRemoved size slots heads bytes (taking.Refused x) = Unit {0}
 ReadyRemoved size slots heads bytes (taking.Yes t) = Ready size slots (t .used) heads bytes
 ReadyRemoved size slots heads bytes (taking.No t) = Ready size slots (t .used) heads bytes
-
-abbrev pub RemovedCalled : List ℕ → Lent → Tree → List ℕ → List ℕ → List ℕ → List ℕ → Removed → Type 0
-RemovedCalled image l t heads bytes heads′ bytes′ (taking.Refused x) =
-    (stateOf (l .size) t heads′ bytes′ ≡ stateOf (l .size) t heads bytes) × Ready (l .size) (l .slots) (t .used) heads′ bytes′
-RemovedCalled image l t heads bytes heads′ bytes′ (taking.Yes u) = Trusts image l u heads′ bytes′
-RemovedCalled image l t heads bytes heads′ bytes′ (taking.No u) = Trusts image l u heads′ bytes′
 
 -- ---- room for cuts
 

@@ -17,10 +17,9 @@ use Rattle.tree.specs.State.{State, nodeAt}
 use Rattle.tree.specs.Load as load
 use Rattle.tree.specs.Lookup as lookup
 use Rattle.tree.specs.Workspace.{slotBytes, stateOf}
-use Rattle.tree.specs.internal.Bank.{live, Ready}
-use Rattle.tree.specs.internal.Edits.{Trusts}
+use Rattle.tree.specs.Trusts.{live, Ready}
+pub use Rattle.tree.specs.Trusts.{FloorCalled}
 use Rattle.tree.specs.declared.editor.Tree.{Tree}
-use Rattle.tree.specs.declared.lent.Lent.{Lent}
 use Rattle.tree.specs.declared.floor.Last.{Last}
 use Rattle.tree.specs.declared.floor.Last.the-variants as last
 use Rattle.tree.specs.declared.floor.Spot.{Spot}
@@ -92,10 +91,3 @@ abbrev pub FloorReady : ℕ → ℕ → List ℕ → List ℕ → Floor → Type
 FloorReady size slots heads bytes (flooring.Refused x) = Unit {0}
 FloorReady size slots heads bytes (flooring.None t) = Ready size slots (t .used) heads bytes
 FloorReady size slots heads bytes (flooring.Record t n) = Ready size slots (t .used) heads bytes
-
--- a refused floor leaves the tree as it was, an accepted one a tree to be trusted
-abbrev pub FloorCalled : List ℕ → Lent → Tree → List ℕ → List ℕ → List ℕ → List ℕ → Floor → Type 0
-FloorCalled image l t heads bytes heads′ bytes′ (flooring.Refused x) =
-    (stateOf (l .size) t heads′ bytes′ ≡ stateOf (l .size) t heads bytes) × Ready (l .size) (l .slots) (t .used) heads′ bytes′
-FloorCalled image l t heads bytes heads′ bytes′ (flooring.None u) = Trusts image l u heads′ bytes′
-FloorCalled image l t heads bytes heads′ bytes′ (flooring.Record u n) = Trusts image l u heads′ bytes′

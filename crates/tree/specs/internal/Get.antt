@@ -1,5 +1,4 @@
 -- What the steps of get compute, of the slots.
-use mathlib.Core.Path.{_≡_}
 use mathlib.Core.List.{List, [], _∷_}
 use Prim.Native.Nat.{ℕ, _+_, _≤_}
 use lib.ListN.{length}
@@ -10,12 +9,10 @@ use Rattle.node.specs.Refusals as refusal
 use Rattle.node.specs.Entry.{Val, ghost, leaf}
 use Rattle.tree.specs.Lent as lent
 use Rattle.tree.specs.State.{State, nodeAt}
-use Rattle.tree.specs.Workspace.{stateOf}
 use Rattle.tree.specs.Lookup as lookup
-use Rattle.tree.specs.internal.Bank.{Ready}
-use Rattle.tree.specs.internal.Edits.{Trusts}
+use Rattle.tree.specs.Trusts.{Ready}
+pub use Rattle.tree.specs.Trusts.{GotCalled}
 use Rattle.tree.specs.declared.editor.Tree.{Tree}
-use Rattle.tree.specs.declared.lent.Lent.{Lent}
 use Rattle.tree.specs.declared.get.Held.{Held}
 use Rattle.tree.specs.declared.get.Held.the-variants as held
 use Rattle.tree.specs.declared.get.Copied.{Copied}
@@ -64,11 +61,3 @@ ReadyGot size slots heads bytes (getting.Refused x) = Unit {0}
 ReadyGot size slots heads bytes (getting.None t) = Ready size slots (t .used) heads bytes
 ReadyGot size slots heads bytes (getting.Ghost t) = Ready size slots (t .used) heads bytes
 ReadyGot size slots heads bytes (getting.Value t n) = Ready size slots (t .used) heads bytes
-
--- a refused get leaves the tree as it was, an accepted one a tree to be trusted
-abbrev pub GotCalled : List ℕ → Lent → Tree → List ℕ → List ℕ → List ℕ → List ℕ → Got → Type 0
-GotCalled image l t heads bytes heads′ bytes′ (getting.Refused x) =
-    (stateOf (l .size) t heads′ bytes′ ≡ stateOf (l .size) t heads bytes) × Ready (l .size) (l .slots) (t .used) heads′ bytes′
-GotCalled image l t heads bytes heads′ bytes′ (getting.None u) = Trusts image l u heads′ bytes′
-GotCalled image l t heads bytes heads′ bytes′ (getting.Ghost u) = Trusts image l u heads′ bytes′
-GotCalled image l t heads bytes heads′ bytes′ (getting.Value u n) = Trusts image l u heads′ bytes′

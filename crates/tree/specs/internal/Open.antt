@@ -9,9 +9,8 @@ use Rattle.tree.specs.Lent as lent
 use Rattle.tree.specs.State.{State}
 use Rattle.tree.specs.Load as load
 use Rattle.tree.specs.Lookup.{openedAt}
-use Rattle.tree.specs.internal.Bank.{Ready}
-use Rattle.tree.specs.internal.Edits.{Trusts}
-use Rattle.tree.specs.declared.lent.Lent.{Lent}
+use Rattle.tree.specs.Trusts.{Ready}
+pub use Rattle.tree.specs.Trusts.{OpenedTrusts}
 use Rattle.tree.specs.declared.lookup.Opened.{Opened}
 use Rattle.tree.specs.declared.lookup.Opened.the-variants.{Refused, Open}
 
@@ -22,11 +21,7 @@ openedRoot l r order xid a = do
   check refusal.root (load.rootHolds l a (leb 1 (length (l .map))) d)
   ok (openedAt l order xid a d)
 
--- an accepted open leaves the workspace ready, and a tree to be trusted
+-- an accepted open leaves the workspace ready
 abbrev pub ReadyOpened : ℕ → ℕ → List ℕ → List ℕ → Opened → Type 0
 ReadyOpened size slots heads bytes (Refused x) = Unit {0}
 ReadyOpened size slots heads bytes (Open t) = Ready size slots (t .used) heads bytes
-
-abbrev pub OpenedTrusts : List ℕ → Lent → List ℕ → List ℕ → Opened → Type 0
-OpenedTrusts image l heads bytes (Refused x) = Unit {0}
-OpenedTrusts image l heads bytes (Open t) = Trusts image l t heads bytes

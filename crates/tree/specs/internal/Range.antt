@@ -1,5 +1,4 @@
 -- What the steps of range compute, of the slots: nodes loaded and entries counted, then written out.
-use mathlib.Core.Path.{_≡_}
 use mathlib.Core.List.{List, [], _∷_, _++_}
 use mathlib.Core.Bool.{Bool, cond, _&&_, not}
 use Prim.Native.Nat.{ℕ, zero, suc, _+_, _^_}
@@ -16,10 +15,8 @@ use Rattle.tree.specs.State.{State, nodeAt}
 use Rattle.tree.specs.Workspace.{stateOf}
 use Rattle.tree.specs.Load.{Bounds, unbounded, childBounds, loadChild}
 use Rattle.tree.specs.Lookup.{Got, endsAbove, between, rangeEnters, rangeFrom}
-use Rattle.tree.specs.internal.Bank.{Ready}
-use Rattle.tree.specs.internal.Edits.{Trusts}
-use Rattle.tree.specs.declared.editor.Tree.{Tree}
-use Rattle.tree.specs.declared.lent.Lent.{Lent}
+use Rattle.tree.specs.Trusts.{Ready}
+pub use Rattle.tree.specs.Trusts.{RangeCalled}
 use Rattle.tree.specs.declared.range.Sum.{Sum}
 use Rattle.tree.specs.declared.range.Ranged.{Ranged}
 use Rattle.tree.specs.declared.range.Ranged.the-variants as ranging
@@ -119,9 +116,3 @@ rangeWay l s room lo hi = do
   g ← rangeFrom (nodeAt s (s .root) .level) l lo (hi ∷ []) s unbounded (s .root)
   check refusal.output (leb (length (recordsOf (g .answer))) room)
   ok g
-
--- a refused range leaves the tree as it was, an accepted one a tree to be trusted
-abbrev pub RangeCalled : List ℕ → Lent → Tree → List ℕ → List ℕ → List ℕ → List ℕ → Ranged → Type 0
-RangeCalled image l t heads bytes heads′ bytes′ (ranging.Refused x) =
-    (stateOf (l .size) t heads′ bytes′ ≡ stateOf (l .size) t heads bytes) × Ready (l .size) (l .slots) (t .used) heads′ bytes′
-RangeCalled image l t heads bytes heads′ bytes′ (ranging.Done u k m) = Trusts image l u heads′ bytes′
