@@ -125,7 +125,7 @@ pub extern "C" fn moachest_get_trusted(
     let quick = words::load(tree);
     let leaf = quick.leaf_of(heads, bytes, size, slots, key);
     if leaf < quick.used {
-        if words::settled(tree) {
+        if words::as_stored(tree) {
             let copied = quick.copy_out(heads, bytes, size, slots, leaf, key, out);
             return answers::leave_copied(answer, copied);
         }

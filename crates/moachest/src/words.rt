@@ -77,7 +77,7 @@ pub fn load(tree: &[u64]) -> Tree
 }
 
 // Whether the words are as `store` leaves them: the one that is a yes or a no is 1 or 0.
-pub fn settled(tree: &[u64]) -> bool
+pub fn as_stored(tree: &[u64]) -> bool
     requires { ⌜ 14 ≤ length (now tree) ⌝ }
     ensures { λ r. ⌜ r ≡ ltb (getD (now (tree .entry)) 10 0) 2 ⌝ }
 {

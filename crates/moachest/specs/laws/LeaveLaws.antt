@@ -156,8 +156,8 @@ pub got-value-words : (a v u : List ℕ) (g : Got) (t : Tree) (n : ℕ) → g �
 unfolding gotAnswer splice
 got-value-words a v u g t n e q p h = rw (e, q, p) (sets-eq (2 ∷ n ∷ []) a 0 (omega arith))
 
-pub settled-said : (w : List ℕ) (x : ℕ) → x ≡ getD w 10 0 → ltb x 2 ≡ ltb (getD w 10 0) 2
-settled-said w x e = ap (λ (y : ℕ). ltb y 2) e
+pub as-stored-said : (w : List ℕ) (x : ℕ) → x ≡ getD w 10 0 → ltb x 2 ≡ ltb (getD w 10 0) 2
+as-stored-said w x e = ap (λ (y : ℕ). ltb y 2) e
 
 -- what get copied out
 module _ (a : List ℕ) (c : Copied) where

@@ -108,7 +108,7 @@ mark-small k h =
     (λ t. rw t (sym (eqb-true k 0 t)))
     (λ t. let n : k ≡ 0 → ⊥ = eqb-false k 0 t in let o : 1 ≡ k = omega (arith, n) in rw t o)
 
--- words that are settled are those of their tree
+-- words that are as `store` leaves them are those of their tree
 stored-same : (w : List ℕ) → 14 ≤ length w → getD w 10 0 < 2 → stored w (treeOf w) ≡ w
 unfolding stored splice wordsOf treeOf infoOf
 stored-same [] h e = absurd (omega arith)

@@ -119,9 +119,6 @@ module _ (size : ℕ) (t : Tree) (h b : List ℕ) where
     pub still-lies : y .at + recordLength (drop (y .at) l) ≤ length l
     still-lies = taken-lies (t .order) key l (x .count) still-room z y ey
 
-    pub still-count : 1 ≤ x .count
-    still-count = omega (arith, z)
-
     entries-are : nodeAt s n .entries ≡ entriesOf (x .count) l
     unfolding nodeIn
     entries-are = ap (λ m. m .entries) (node-in size t h b n hn) ∙ live-entries (headAt h n) (slotBytes size b n) ∙ rw (← ex, ← el)

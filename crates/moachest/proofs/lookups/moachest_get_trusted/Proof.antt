@@ -26,8 +26,8 @@ leaf-of-requires c κs =
     let a = c .before .before .before .before .before .before .before .before .before .before .before .before .before .args in
     quick-ready (a .image .now) _ _ (a .key .now) _ (lentNumbers (a .size) (a .slots) (a .mapped) (a .map)) _ (c .before .before .load .ensures) (c .before .before .before .before .before .before .before .before .before .before .before .before .before .pre)
 
-settled-requires : tie.Need-settled-requires
-settled-requires c κs = search needs
+as-stored-requires : tie.Need-as-stored-requires
+as-stored-requires c κs = search needs
 
 copy-out-requires : tie.Need-copy-out-requires
 copy-out-requires c κs =
@@ -59,7 +59,7 @@ same-length-5 c = search needs
 returns-3 : tie.Need-returns-3
 returns-3 c =
     let a = c .before .before .before .before .before .before .before .before .before .before .before .before .before .before .before .before .before .before .before .before .before .before .before .before .before .before .before .before .before .args in
-    get-quick (a .image .now) _ _ (a .key .now) _ (lentNumbers (a .size) (a .slots) (a .mapped) (a .map)) _ (c .before .before .before .before .before .before .before .before .before .before .before .before .before .before .before .before .before .before .load .ensures) (c .before .before .before .before .before .before .before .before .before .before .before .before .before .before .before .before .before .before .before .before .before .before .before .before .before .before .before .before .before .pre) _ (c .before .before .before .before .before .before .before .before .before .before .before .before .before .before .before .leaf-of .ensures) (c .before .before .before .before .before .before .before .before .before .before .before .before .before .if3 .taken) _ _ _ _ _ _ _ (c .before .before .before .before .before .before .before .before .before .before .before .before .before .before .before .before .before .before .before .before .before .if1 .left) (c .before .before .before .before .before .before .before .before .before .before .before .before .before .before .before .before .before .before .before .before .if2 .left) (c .before .before .before .before .before .before .before .before .before .before .before .settled .ensures) (c .before .before .before .before .before .before .before .before .before .before .if4 .taken) (c .before .before .before .before .before .before .copy-out .ensures) (c .before .before .leave-copied .ensures)
+    get-quick (a .image .now) _ _ (a .key .now) _ (lentNumbers (a .size) (a .slots) (a .mapped) (a .map)) _ (c .before .before .before .before .before .before .before .before .before .before .before .before .before .before .before .before .before .before .load .ensures) (c .before .before .before .before .before .before .before .before .before .before .before .before .before .before .before .before .before .before .before .before .before .before .before .before .before .before .before .before .before .pre) _ (c .before .before .before .before .before .before .before .before .before .before .before .before .before .before .before .leaf-of .ensures) (c .before .before .before .before .before .before .before .before .before .before .before .before .before .if3 .taken) _ _ _ _ _ _ _ (c .before .before .before .before .before .before .before .before .before .before .before .before .before .before .before .before .before .before .before .before .before .if1 .left) (c .before .before .before .before .before .before .before .before .before .before .before .before .before .before .before .before .before .before .before .before .if2 .left) (c .before .before .before .before .before .before .before .before .before .before .before .as-stored .ensures) (c .before .before .before .before .before .before .before .before .before .before .if4 .taken) (c .before .before .before .before .before .before .copy-out .ensures) (c .before .before .leave-copied .ensures)
 
 lent-requires : tie.Need-lent-requires
 lent-requires c κs = search needs
@@ -103,7 +103,7 @@ moachest-get-trusted-spec =
     returns-2
     load-requires
     leaf-of-requires
-    settled-requires
+    as-stored-requires
     copy-out-requires
     leave-copied-requires
     same-length
