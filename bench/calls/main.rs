@@ -176,6 +176,7 @@ fn main() {
             drop((theirs, ours));
             through::run(&t, slots);
             flushes(&mut t, slots, 100.min(nodes * 3 / 4));
+            through::flushes(&mut t, 100.min(nodes * 3 / 4));
         }
     }
 }

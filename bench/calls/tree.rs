@@ -206,3 +206,9 @@ pub fn space(disk: &Container) -> crate::ours::Space {
         free: disk.chunks.iter().map(|k| k.free).collect(),
     }
 }
+
+// The same as the crate's.
+pub fn crate_space(disk: &Container) -> moachest::Space {
+    let crate::ours::Space { bitmap, counts, free } = space(disk);
+    moachest::Space { bitmap, counts, free }
+}

@@ -46,6 +46,7 @@ pub mod raw;
 mod reader;
 mod record;
 mod refusal;
+mod room;
 mod space;
 mod tree;
 mod workspace;

@@ -24,10 +24,6 @@ const BY_ID: usize = 10;
 const SUBTYPE: usize = 11;
 const ORDER: usize = 12;
 
-/// Words of a slot, and the one that says that it is to be written.
-const SLOT_WORDS: usize = 9;
-const DIRTY: usize = 7;
-
 /// The library takes no more slots.
 const MOST_SLOTS: usize = 4096;
 
@@ -58,7 +54,7 @@ pub struct Options {
 
 impl Default for Options {
     fn default() -> Options {
-        Options { slots: 32, most_slots: 4096, checked: false }
+        Options { slots: 16, most_slots: 4096, checked: false }
     }
 }
 
@@ -108,7 +104,8 @@ impl Tree {
             }
             // Before they grow, so that a workspace that is half grown, should memory run out, is never trusted.
             self.look = true;
-            self.work.grow(self.lent.size, self.most_slots(), self.used());
+            // SAFETY: so many slots are in use.
+            unsafe { self.work.grow(self.lent.size, self.most_slots(), self.used()) };
         }
     }
 
@@ -200,7 +197,8 @@ impl Tree {
 
     /// Whether there is something to write.
     pub fn changed(&self) -> bool {
-        (0..self.used()).any(|n| self.work.heads[SLOT_WORDS * n + DIRTY] == 1)
+        // SAFETY: these slots are in use.
+        (0..self.used()).any(|n| unsafe { self.work.is_dirty(n) })
     }
 
     /// How many slots are in use.

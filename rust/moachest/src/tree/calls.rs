@@ -1,6 +1,7 @@
-//! The library's calls, each made once. All of the crate's `unsafe` is here.
+//! The library's calls, each made once. All of the crate's `unsafe` is here, but for what it takes to own memory that is not
+//! filled (`room.rs`, `workspace.rs`).
 //!
-//! *Lent memory* is the same in all of them: each pointer and its length are those of one slice, vector or array; those that are written come
+//! *Lent memory* is the same in all of them: each pointer and its length are those of one slice, vector, array or room; those that are written come
 //! from a `&mut`, so that they overlap no other and nobody else has them during the call. *Trusted slots*: `trusts` is true only where
 //! [`Tree::call`] or [`Tree::flush`] found that the call may be trusted; `call` says why that is sound.
 
