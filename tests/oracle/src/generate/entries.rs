@@ -33,12 +33,13 @@ fn fixed_key(r: &mut Random, keys: u64, length: usize) -> Key {
     k
 }
 
-fn variable_key(r: &mut Random, keys: u64, longest: usize) -> Key {
-    let n = r.below(keys);
+fn variable_key(r: &mut Random, p: &Plan) -> Key {
+    let n = r.below(p.keys);
     // The same number always gives the same key; prefixes of each other are common.
     let mut own = Random::new(n / 2);
-    let length = 1 + own.length(longest.max(2) - 1);
-    let mut k: Key = (0..length).map(|_| *own.pick(&[0, 1, 0x61, 0x62, 0xff])).collect();
+    let length = 1 + own.length(p.longest_key.max(2) - 1);
+    let mut k: Key = vec![0x61; p.alike];
+    k.extend((0..length).map(|_| *own.pick(&[0, 1, 0x61, 0x62, 0xff])));
     match (n % 2, r.below(40)) {
         (1, _) => k.push(0),
         (_, 0) => k.truncate(1),
@@ -52,7 +53,7 @@ pub fn key(r: &mut Random, p: &Plan) -> Key {
     match (p.order, p.fixed) {
         (Order::Pair, _) => pair_key(r, p.keys),
         (Order::Byte, Some((length, _))) => fixed_key(r, p.keys, length),
-        (Order::Byte, None) => variable_key(r, p.keys, p.longest_key),
+        (Order::Byte, None) => variable_key(r, p),
     }
 }
 

@@ -33,6 +33,8 @@ pub struct Plan {
     /// How many different keys there are, about.
     pub keys: u64,
     pub longest_key: usize,
+    /// Keys of variable lengths begin with so many equal bytes.
+    pub alike: usize,
     pub longest_value: usize,
     /// Entries that a laid-out tree begins with.
     pub entries: usize,
@@ -118,6 +120,7 @@ impl Plan {
             whole_ground: is_whole_ground(options),
             entries: number("entries", *r.pick(&[3, 15, small, size as u64 / 10]))? as usize,
             // Never drawn, so that a seed gives the script that it always gave.
+            alike: number("alike", 0)? as usize,
             low_keys: number("low-keys", 0)? != 0,
             chains: number("chains", 0)? != 0,
             map_entries: option("map-entries").map(|_| number("map-entries", 0)).transpose()?,
