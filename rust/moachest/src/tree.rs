@@ -104,8 +104,7 @@ impl Tree {
             }
             // Before they grow, so that a workspace that is half grown, should memory run out, is never trusted.
             self.look = true;
-            // SAFETY: so many slots are in use.
-            unsafe { self.work.grow(self.lent.size, self.most_slots(), self.used()) };
+            self.work.grow(self.lent.size, self.most_slots(), self.used());
         }
     }
 
@@ -197,8 +196,7 @@ impl Tree {
 
     /// Whether there is something to write.
     pub fn changed(&self) -> bool {
-        // SAFETY: these slots are in use.
-        (0..self.used()).any(|n| unsafe { self.work.is_dirty(n) })
+        (0..self.used()).any(|n| self.work.is_dirty(n))
     }
 
     /// How many slots are in use.

@@ -1,5 +1,5 @@
 //! The library's calls, each made once. All of the crate's `unsafe` is here, but for what it takes to own memory that is not
-//! filled (`room.rs`, `workspace.rs`).
+//! filled (`room.rs`).
 //!
 //! *Lent memory* is the same in all of them: each pointer and its length are those of one slice, vector, array or room; those that are written come
 //! from a `&mut`, so that they overlap no other and nobody else has them during the call. *Trusted slots*: `trusts` is true only where
