@@ -1,6 +1,6 @@
 -- The cut of a node that does not fit (RULES: cut; `split_up` of write/tree.rs).
 use Rattle.std.specs.Prelude.{List, [], ◌∷◌, Bool, false, cond, ◌&&◌, not, ℕ, zero, suc, ◌+◌, ◌-◌, ◌/◌, length, take, drop, leb, ltb}
-use Rattle.node.specs.Result.{Result, ok, refused, ◌>>=◌, ◌>>◌, check}
+use Rattle.node.specs.Result.{Result, ok, refused, ◌>>◌, check}
 use Rattle.node.specs.Refusals as refusal
 use Rattle.node.specs.Entry.{Entry, value_length}
 use Rattle.node.specs.Fit.{fits, greater}

@@ -1,7 +1,7 @@
 // What a node is packed from, beside its entries (`NodeBuild` of btree_write.rs).
 use crate::info::BTreeInfo;
 
-#[derive(Drop)]
+#[derive(Clone, Copy)]
 pub struct NodeBuild {
     pub oid: u64,
     pub xid: u64,

@@ -11,7 +11,7 @@ use crate::fit::Lengths;
 use crate::info::BTreeInfo;
 
 // Where a node is cut, or why it is not.
-#[derive(Drop)]
+#[derive(Clone, Copy)]
 pub enum Answer {
     // A single entry that is too large (13).
     TooLarge,
@@ -22,7 +22,7 @@ pub enum Answer {
 }
 
 // The left part of a cut: how many entries, and what they take.
-#[derive(Drop)]
+#[derive(Clone, Copy)]
 pub struct Left {
     pub place: usize,
     pub lengths: Lengths,

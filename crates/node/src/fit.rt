@@ -8,7 +8,7 @@ use crate::info::BTreeInfo;
 use crate::{record, room};
 
 // What the first records of a slot take.
-#[derive(Drop)]
+#[derive(Clone, Copy)]
 pub struct Lengths {
     // Bytes in the slot: where the next record starts.
     pub at: usize,

@@ -8,7 +8,7 @@ use crate::read::Node;
 
 pub const HEAD_WORDS: usize = 9;
 
-#[derive(Drop)]
+#[derive(Clone, Copy)]
 pub struct Head {
     pub level: u64,
     // How many entries the slot holds, and how many bytes their records take.

@@ -6,7 +6,7 @@ ghost use Rattle.node.specs.Read.{info_at};
 use crate::layout;
 use seal::bytes;
 
-#[derive(Drop)]
+#[derive(Clone, Copy)]
 pub struct BTreeInfo {
     pub flags: u64,
     pub node_size: u64,

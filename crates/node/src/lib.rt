@@ -1,4 +1,6 @@
 // One node: its order of keys, its block on disk, its entries in a slot; fitting, cutting, packing.
+#![tactic(auto)]
+
 pub use seal::bytes;
 
 pub mod adopt;

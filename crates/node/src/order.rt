@@ -6,7 +6,7 @@ ghost use Rattle.node.specs.Order.{known, keyed_length, less, pair_less, byte_le
 use crate::lead;
 use seal::bytes;
 
-#[derive(Drop)]
+#[derive(Clone, Copy)]
 pub struct Order {
     pub code: u64,
 }

@@ -22,7 +22,7 @@ const HEAD_PLACED: usize = 3;
 const HEAD_NAMED: usize = 5;
 
 // How far packing has come.
-#[derive(Drop)]
+#[derive(Clone, Copy)]
 pub struct Spot {
     // Where the next contents slot goes, and where the next record starts.
     pub toc: usize,

@@ -27,7 +27,7 @@ const BTOFF_INVALID: usize = layout::BTOFF_INVALID as usize;
 
 const MAX_DEPTH: u64 = 32;
 
-#[derive(Drop)]
+#[derive(Clone, Copy)]
 pub struct Node {
     pub oid: u64,
     pub xid: u64,
@@ -48,7 +48,7 @@ pub struct Node {
 
 // Where an entry's key starts and how long it is; how far before the value area's end its value starts, and how long
 // that is.
-#[derive(Drop)]
+#[derive(Clone, Copy)]
 pub struct Span {
     pub key: usize,
     pub klen: usize,
@@ -57,7 +57,7 @@ pub struct Span {
 }
 
 // Where a node is to stand in its tree.
-#[derive(Drop)]
+#[derive(Clone, Copy)]
 pub struct Place {
     pub root: bool,
     // The id wanted: of a physical node its address.
@@ -71,7 +71,7 @@ pub struct Place {
     pub bounded: bool,
 }
 
-#[derive(Drop)]
+#[derive(Clone, Copy)]
 pub enum Read {
     Refused(u64),
     Loaded(Node),

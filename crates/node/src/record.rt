@@ -13,7 +13,7 @@ pub const DISK: u64 = 0xFFFE;
 
 pub const MEM: u64 = 0xFFFD;
 
-#[derive(Drop)]
+#[derive(Clone, Copy)]
 pub struct Record {
     // Where the key starts, and its length.
     pub key: usize,

@@ -14,7 +14,7 @@ use crate::{lead, led, record};
 use seal::bytes;
 
 // Where a key's place is among n records: the entries before it, its offset, and whether the entry there has the key.
-#[derive(Drop)]
+#[derive(Clone, Copy)]
 pub struct Found {
     pub index: u64,
     pub at: usize,
@@ -22,14 +22,14 @@ pub struct Found {
 }
 
 // How many entries have a key not above a key, and where the last of them lies: where the first lies if there is none.
-#[derive(Drop)]
+#[derive(Clone, Copy)]
 pub struct Last {
     pub count: u64,
     pub at: usize,
 }
 
 // How many leading records a search passes at once, where the next lies, and the last of them: the first if there is none.
-#[derive(Drop)]
+#[derive(Clone, Copy)]
 pub struct Run {
     pub count: u64,
     pub at: usize,
@@ -37,7 +37,7 @@ pub struct Run {
 }
 
 // A record's key length and mark, the length of a value that has the mark, and how long a record is that has both.
-#[derive(Drop)]
+#[derive(Clone, Copy)]
 pub struct Like {
     pub klen: u64,
     pub mark: u64,
@@ -389,7 +389,7 @@ pub fn insert(
         × (records_length (n + 1) slot.new
         ≡ used + 4 + length key.now + length value.now) }
     ensures entries { entries_of (n + 1) slot.new
-        ≡ insert_at i (record { key = key.entry.now; value = value_of mark value.now })
+        ≡ insert_at i (record { key = key.now; value = value_of mark value.now })
         (entries_of n slot.old) }
 {
     let next = at + 4 + key.len() + value.len();

@@ -12,7 +12,7 @@ use crate::order::Order;
 use crate::{fit, record, slot};
 
 // What one pass over a slot tells.
-#[derive(Drop)]
+#[derive(Clone, Copy)]
 pub enum Checked {
     // The records are not n, an entry does not hold, or the keys do not rise.
     Not,

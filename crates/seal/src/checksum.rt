@@ -11,7 +11,7 @@ const MOD: u64 = 4294967295;
 // How many bytes are summed before the sums are reduced: 1,024 words keep both below 2^64.
 const CHUNK: usize = 4096;
 
-#[derive(Drop)]
+#[derive(Clone, Copy)]
 pub struct Sums {
     pub sum1: u64,
     pub sum2: u64,

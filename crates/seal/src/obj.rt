@@ -31,7 +31,7 @@ pub const OBJECT_TYPE_BTREE: u64 = 0x02;
 pub const OBJECT_TYPE_BTREE_NODE: u64 = 0x03;
 
 // Every field is a u64, as `bytes` reads and writes them; on disk the type and the subtype have 4 bytes.
-#[derive(Drop)]
+#[derive(Clone, Copy)]
 pub struct ObjHeader {
     pub cksum: u64,
     pub oid: u64,

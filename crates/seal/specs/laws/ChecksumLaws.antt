@@ -175,7 +175,8 @@ mod_left x c = omega arith
 mod_right : (x y : ℕ) → (x + y % M) % M ≡ (x + y) % M
 mod_right x y = omega arith
 
-pub stored_reduced : (x y t u c1 c2 : ℕ) → t ≡ x % M → u ≡ y % M → c1 ≡ M - (t + u) % M → c2 ≡ M - (t + c1) % M → c2 * 4294967296 + c1 ≡ stored_for x y
+pub stored_reduced : (x y t u c1 c2 : ℕ) → t ≡ x % M → u ≡ y % M → c1 ≡ M - (t + u) % M → c2 ≡ M - (t + c1) % M
+    → c2 * 4294967296 + c1 ≡ stored_for x y
 unfolding stored_for
 stored_reduced x y t u c1 c2 e f p q =
     let a : c1 ≡ M - (x + y) % M = p ∙ rw (e, f) (ap (λ (n : ℕ). M - n) (mod_left x (y % M) ∙ mod_right x y)) in

@@ -81,7 +81,8 @@ unfolding field_at
 field_before n l i vs j h k = rw window_splice_before
 
 -- after it
-pub field_after : (n : ℕ) (l : List ℕ) (i : ℕ) (vs : List ℕ) (j : ℕ) → i + length vs ≤ j → i ≤ length l → field_at n (splice l i vs) j ≡ field_at n l j
+pub field_after : (n : ℕ) (l : List ℕ) (i : ℕ) (vs : List ℕ) (j : ℕ) → i + length vs ≤ j → i ≤ length l
+    → field_at n (splice l i vs) j ≡ field_at n l j
 unfolding field_at
 field_after n l i vs j h k = rw window_splice_after
 

@@ -8,7 +8,8 @@ use Rattle.seal.specs.Obj.{header_at, header_bytes, Fits}
 use Rattle.seal.specs.declared.obj.ObjHeader.{ObjHeader}
 
 -- five fields make the header
-pub parse_law : (l : List ℕ) (c o x t u : ℕ) → c ≡ field_at 8 l 0 → o ≡ field_at 8 l 8 → x ≡ field_at 8 l 16 → t ≡ field_at 4 l 24 → u ≡ field_at 4 l 28
+pub parse_law : (l : List ℕ) (c o x t u : ℕ) → c ≡ field_at 8 l 0 → o ≡ field_at 8 l 8 → x ≡ field_at 8 l 16 → t ≡ field_at 4 l 24
+    → u ≡ field_at 4 l 28
     → ◌≡◌ {A = ObjHeader} (record { cksum = c; oid = o; xid = x; obj_type = t; subtype = u }) (header_at l)
 parse_law l c o x t u p q r s v = rw (p, q, r, s, v)
 

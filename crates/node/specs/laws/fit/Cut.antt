@@ -52,7 +52,8 @@ unfolding left_part size
 left_within h [] = omega arith
 left_within h (e ∷ es) = pick_left (leb (entry_size e) h) h (left_part (h - entry_size e) es) e es refl (left_within (h - entry_size e) es)
 
-pick_more : (b : Bool) (h k : ℕ) (e : Entry) (es : List Entry) → leb (entry_size e) h ≡ b → (k < length es → h - entry_size e < size (take (k + 1) es))
+pick_more : (b : Bool) (h k : ℕ) (e : Entry) (es : List Entry) → leb (entry_size e) h ≡ b
+    → (k < length es → h - entry_size e < size (take (k + 1) es))
     → cond b (suc k) 0 < suc (length es) → h < size (take (cond b (suc k) 0 + 1) (e ∷ es))
 unfolding size
 pick_more true h k e es p q r = rw add-one (omega (arith, rw add-one at (q (omega arith)), leb-true (entry_size e) h p))
@@ -497,7 +498,8 @@ module _ (t : BTreeInfo) (level n : ℕ) (l : List ℕ) where
   pub place_first : 1 < n → 1 ≤ cut_place (fits t false level) (entries_of n l)
   place_first h = (slot_placed h).least
 
-module _ (t : BTreeInfo) (n : ℕ) (l : List ℕ) (i : ℕ) (s : Lengths) (e : s ≡ lengths_of t i l) (h : i < n - 1) (k : records_length n l ≤ length l) where
+module _ (t : BTreeInfo) (n : ℕ) (l : List ℕ) (i : ℕ) (s : Lengths) (e : s ≡ lengths_of t i l) (h : i < n - 1)
+    (k : records_length n l ≤ length l) where
   pub walk_in : s.at + record_length (drop s.at l) ≤ length l
   walk_in = lengths_in t i n l s e (omega arith) k
 
@@ -608,7 +610,8 @@ module _ (t : BTreeInfo) (level n : ℕ) (l : List ℕ) (s : Left) (e : s ≡ le
       let q : ltb 1 (length (entries_of n l)) ≡ true = lt-ltb 1 (length (entries_of n l)) (rw length_entries h) in
       rw (q, ← parts_are w f h k, ← g, not-true b y)
 
-  pub after_means : (w : Lengths) (b : Bool) → w ≡ lengths_of t n l → 1 < n → records_length n l ≤ length l → b ≡ parts_fit t level n w s → not b ≡ false
+  pub after_means : (w : Lengths) (b : Bool) → w ≡ lengths_of t n l → 1 < n → records_length n l ≤ length l → b ≡ parts_fit t level n w s
+      → not b ≡ false
       → cut_means (After s.place s.lengths.at) ≡ cut t level (entries_of n l)
   unfolding cut_means cut left_of
   after_means w b f h k g y =

@@ -149,7 +149,8 @@ unfolding padded align8
 padded_most t n = pick_padded (flag t.flags 0x40) n
 
 -- a slot of b bytes holds keys and values that take at most 4 · b
-pub room_most : (t : BTreeInfo) (n : ℕ) (l : List ℕ) → records_length n l ≤ length l → keys_length t (entries_of n l) + values_length t (entries_of n l)
+pub room_most : (t : BTreeInfo) (n : ℕ) (l : List ℕ) → records_length n l ≤ length l
+    → keys_length t (entries_of n l) + values_length t (entries_of n l)
     ≤ 4 * records_length n l
 unfolding records_length entries_of keys_length values_length
 room_most t zero l h = omega arith
@@ -164,7 +165,8 @@ room_most t (suc n) l h =
     omega (arith, room_most t n (drop r l) h₂, padded_most t (length (entry_of l).key), padded_most t (value_length (entry_of l).value))
 
 -- padding adds at most 7 bytes to a key and 7 to a value, and a record's head has 4
-pub room_close : (t : BTreeInfo) (n : ℕ) (l : List ℕ) → records_length n l ≤ length l → keys_length t (entries_of n l) + values_length t (entries_of n l)
+pub room_close : (t : BTreeInfo) (n : ℕ) (l : List ℕ) → records_length n l ≤ length l
+    → keys_length t (entries_of n l) + values_length t (entries_of n l)
     ≤ records_length n l + 10 * n
 unfolding records_length entries_of keys_length values_length
 room_close t zero l h = omega arith
@@ -229,7 +231,8 @@ values_next t i n l h k =
     ap (values_length t) (entries_next i l) ∙ values_append t (entries_of i l) (entry_of m ∷ [])
     ∙ ap (λ (x : ℕ). values_length t (entries_of i l) + (padded t x + 0)) (entry_value_length m f) ∙ rw add-zero
 
-longer_next : (t : BTreeInfo) (i n : ℕ) (l : List ℕ) → i < n → records_length n l ≤ length l → longer_of t l (lengths_of t i l) ≡ lengths_of t (i + 1) l
+longer_next : (t : BTreeInfo) (i n : ℕ) (l : List ℕ) → i < n → records_length n l ≤ length l
+    → longer_of t l (lengths_of t i l) ≡ lengths_of t (i + 1) l
 unfolding longer_of lengths_of record_at
 longer_next t i n l h k = lengths_same _ _ (sym (records_next i l)) (sym (keys_next t i n l h k)) (sym (values_next t i n l h k))
 
@@ -432,7 +435,8 @@ pub close_fits : (t : BTreeInfo) (root : Bool) (level n used : ℕ) (l : List �
 unfolding fits room_of
 close_fits t root level n used l b u h e q =
     let m : keys_length t (entries_of n l) + values_length t (entries_of n l) ≤ used + 10 * n = omega (arith, room_close t n l h) in
-    rw length_entries (sym (sums_less t root level n n (keys_length t (entries_of n l) + values_length t (entries_of n l)) (used + 10 * n) (le_refl n) m
+    rw length_entries (sym (sums_less t root level n n (keys_length t (entries_of n l) + values_length t (entries_of n l)) (used + 10 * n)
+    (le_refl n) m
     (sym e ∙ q)))
 
 pub close_small : (n used : ℕ) (l : List ℕ) → used ≡ records_length n l → records_length n l ≤ length l → length l ≤ 2 ^ 20 → used + 10 * n < 2 ^ 32

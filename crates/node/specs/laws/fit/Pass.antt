@@ -206,7 +206,8 @@ module _ (o : ℕ) (t : BTreeInfo) (isLeaf : Bool) (n used : ℕ) (l : List ℕ)
             rise_is : rising o es ≡ c && rise_after o (entry_of (drop at l)).key (drop (i + 1) es)
             unfolding rising_from rising rise_after
             rise_is =
-                let p : drop i es ≡ entry_of (drop at l) ∷ drop (i + 1) es = left h ∙ ap (λ (j : ℕ). entry_of (drop j l) ∷ drop (i + 1) es) (sym ea) in
+                let p : drop i es ≡ entry_of (drop at l) ∷ drop (i + 1) es = left h
+                ∙ ap (λ (j : ℕ). entry_of (drop j l) ∷ drop (i + 1) es) (sym ea) in
                 by_test (eqb i 0)
                 (λ z. let k : c ≡ true = ec ∙ rw (ef, z) in
                 sym g.rise ∙ rw (z, p, k))

@@ -43,7 +43,8 @@ fits_size t root level es h =
     omega (arith, p.1, room_least t es, toc_least t root level (length es) p.0)
 
 -- the records of a node that fits take less than its block
-pub fits_records : (t : BTreeInfo) (root : Bool) (level n : ℕ) (l : List ℕ) → records_length n l ≤ length l → fits t root level (entries_of n l) ≡ true
+pub fits_records : (t : BTreeInfo) (root : Bool) (level n : ℕ) (l : List ℕ) → records_length n l ≤ length l
+    → fits t root level (entries_of n l) ≡ true
     → records_length n l ≤ t.node_size - 56
 unfolding data_space
 fits_records t root level n l h f = omega (arith, fits_size t root level (entries_of n l) f, records_size n l h, length_entries n l)

@@ -66,7 +66,8 @@ pair_put l l₁ l₂ id xid h p q =
 -- ---- bytes: what is left from index i on decides
 
 byte_cons : (a b : List ℕ) (i : ℕ) → i < length a → i < length b
-    → byte_less (drop i a) (drop i b) ≡ ltb (get_or a i 0) (get_or b i 0) || eqb (get_or a i 0) (get_or b i 0) && byte_less (drop (i + 1) a) (drop (i + 1) b)
+    → byte_less (drop i a) (drop i b) ≡ ltb (get_or a i 0) (get_or b i 0) || eqb (get_or a i 0) (get_or b i 0)
+    && byte_less (drop (i + 1) a) (drop (i + 1) b)
 unfolding byte_less
 byte_cons a b i h k = rw (drop-cons a i 0, drop-cons b i 0, add-one)
 

@@ -8,7 +8,7 @@ use Prim.Native.Nat.{ℕ, zero, suc, ◌<◌}
 use Rattle.std.proofs.Math.Nat.{suc_inj}
 use Rattle.node.specs.Order.{keyed, less}
 use Rattle.node.specs.Entry.{Entry, rise_after, rising, every}
-use Rattle.node.specs.laws.base.Tests.{by_test, and_split, and_left, and_right, and_both, and_true, and-false}
+use Rattle.node.specs.laws.base.Tests.{by_test, and_split, and_left, and_right, and_both, and-true, and-false}
 use Rattle.node.specs.laws.base.Bytes.{Bytes}
 use Rattle.node.specs.laws.order.Order.{Key, less_asym, less_trans, less_trans_le}
 
@@ -200,7 +200,8 @@ module _ (o : ℕ) where
 
 module _ (o : ℕ) where
   -- what rises after k rises after what is below k
-  rise_from : (j k : List ℕ) (es : List Entry) → Key o j → Key o k → Keys o es → less o j k ≡ true → rise_after o k es ≡ true → rise_after o j es ≡ true
+  rise_from : (j k : List ℕ) (es : List Entry) → Key o j → Key o k → Keys o es → less o j k ≡ true → rise_after o k es ≡ true
+      → rise_after o j es ≡ true
   unfolding rise_after
   rise_from j k [] h i m p q = refl
   rise_from j k (y ∷ ys) h i m p q =
@@ -287,7 +288,7 @@ module _ (o : ℕ) (bound : List ℕ) (kb : Key o bound) where
   rise_upper : (k : List ℕ) (es : List Entry) → Key o k → Keys o es → rise_after o k es ≡ true → less o k bound
       && every (λ (x : Entry). less o x.key bound) es ≡ less o (last_key k es) bound
   unfolding rise_after every last_key
-  rise_upper k [] h m r = and_true (less o k bound)
+  rise_upper k [] h m r = and-true (less o k bound)
   rise_upper k (e ∷ es) h m r =
       let (p, q) = and_split (less o k e.key) (rise_after o e.key es) r in
       let i : less o e.key bound && every (λ (x : Entry). less o x.key bound) es ≡ less o (last_key e.key es) bound = rise_upper e.key es
@@ -323,4 +324,4 @@ pub rising_snoc : (o : ℕ) (e : Entry) (es : List Entry) (f : Entry) → rising
     f.key
 unfolding rising rise_after
 rising_snoc o e es f = rise_append o e.key es (f ∷ []) ∙ ap (λ (z : Bool). rise_after o e.key es && z)
-    (and_true (less o (last_key e.key es) f.key))
+    (and-true (less o (last_key e.key es) f.key))

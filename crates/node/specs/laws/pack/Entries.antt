@@ -117,7 +117,8 @@ module _ (t : BTreeInfo) (keys vals : ℕ) where
       → length p ≡ ix → length k ≡ ko → ix + a ≡ keys → keys + ko + m + vo ≡ vals
       → keys_length t es + values_length t es ≤ m → length es * slot_width t ≤ a
       → put_entries t keys vals ix ko vo es (laid p a k m v)
-      ≡ laid (p ++ toc t ko vo es) (a - length es * slot_width t) (k ++ key_area t es) (m - (keys_length t es + values_length t es)) (value_area t es ++ v)
+      ≡ laid (p ++ toc t ko vo es) (a - length es * slot_width t) (k ++ key_area t es) (m - (keys_length t es + values_length t es))
+      (value_area t es ++ v)
   unfolding put_entries toc key_area value_area keys_length values_length
   put_entries_lem [] p a k m v ix ko vo lp lk ha hm hp hw = rw (append-nil p, append-nil k, zero-mul, sub-zero a, sub-zero m)
   put_entries_lem (e ∷ es) p a k m v ix ko vo lp lk ha hm hp hw =

@@ -195,7 +195,8 @@ module _ (b : NodeBuild) (es : List Entry) (least : 96 ≤ b.info.node_size) (fi
   stands_after_free : Stands (pack_node b es) (56 + contents_of b es + keys_length b.info es + free_of b es) after_free
   stands_after_free =
       let k : ℕ = 56 + contents_of b es + keys_length b.info es in
-      stands_after (pack_node b es) k (free_of b es) (k + free_of b es) (replicate (free_of b es) 0) after_free (length-replicate (free_of b es) 0) refl
+      stands_after (pack_node b es) k (free_of b es) (k + free_of b es) (replicate (free_of b es) 0) after_free
+      (length-replicate (free_of b es) 0) refl
       (stands_after (pack_node b es) (56 + contents_of b es) (keys_length b.info es) k (key_area b.info es) after_keys
       (length_key_area b.info es) refl stands_after_contents)
 

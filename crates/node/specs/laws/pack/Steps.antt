@@ -131,7 +131,8 @@ loc_law l l₁ l₂ l₃ l₄ p a b c d h q₁ q₂ q₃ q₄ =
     let r₃ = run_next r₂ l₃ (p + 6) 2 c (omega arith) (omega arith) q₃ in
     (run_next r₃ l₄ (p + 8) 2 d (omega arith) h q₄).is
 
-pub node_law : (l l₁ l₂ l₃ l₄ l₅ l₆ l₇ : List ℕ) (f v n c k e : ℕ) → 56 ≤ length l → l₁ ≡ splice l 32 (bytes_of 2 f) → l₂ ≡ splice l₁ 34 (bytes_of 2 v)
+pub node_law : (l l₁ l₂ l₃ l₄ l₅ l₆ l₇ : List ℕ) (f v n c k e : ℕ) → 56 ≤ length l → l₁ ≡ splice l 32 (bytes_of 2 f)
+    → l₂ ≡ splice l₁ 34 (bytes_of 2 v)
     → l₃ ≡ splice l₂ 36 (bytes_of 4 n) → l₄ ≡ splice l₃ 40 (bytes_of 2 0) → l₅ ≡ splice l₄ 42 (bytes_of 2 c) → l₆ ≡ splice l₅ 44 (bytes_of 2 k)
     → l₇ ≡ splice l₆ 46 (bytes_of 2 e) → l₇ ≡ splice l 32 (node_bytes f v n c k e)
 unfolding node_bytes
@@ -200,7 +201,8 @@ module _ (heads : List ℕ) (by : Bool) (l l₁ : List ℕ) (p m : ℕ) (v : Lis
       let w : le v ≡ x = le_whole v (child_length m (length v) n h g) ∙ sym y in
       rw (lt-leb m 0xFFFC h, ne_eqb m 0xFFFF g, eq-eqb m 0xFFFE e, w) q
 
-  pub value_mem : (x y : ℕ) → length v ≡ mark_length m → 0xFFFC < m → (m ≡ 0xFFFF → ⊥) → (m ≡ 0xFFFE → ⊥) → x ≡ u64_at v 0 → y ≡ child_number heads by x
+  pub value_mem : (x y : ℕ) → length v ≡ mark_length m → 0xFFFC < m → (m ≡ 0xFFFF → ⊥) → (m ≡ 0xFFFE → ⊥) → x ≡ u64_at v 0
+      → y ≡ child_number heads by x
       → l₁ ≡ splice l p (bytes_of 8 y) → l₁ ≡ splice l p (value_bytes (numbered_value (child_number heads by) (value_of m v)))
   unfolding value_of numbered_value value_bytes
   value_mem x y n h g e r s q =

@@ -40,7 +40,8 @@ module _ (v : Node) (b : List ℕ) (i : ℕ) (s : Span) (e : s ≡ span_at v b i
     pub key_long : length k ≡ s.klen
     key_long = ap length ek ∙ key_counts v b s span_held
 
-    record_is : (x : Val) → x ≡ (entry_at v b i).value → bytes_of 2 (length k) ++ bytes_of 2 (mark_of x) ++ k ++ value_bytes x ≡ record_of (entry_at v b i)
+    record_is : (x : Val) → x ≡ (entry_at v b i).value → bytes_of 2 (length k) ++ bytes_of 2 (mark_of x) ++ k
+        ++ value_bytes x ≡ record_of (entry_at v b i)
     unfolding record_of
     record_is x ex = rw (key_is, ex)
 
@@ -153,7 +154,8 @@ records_snoc v b j (suc i) =
     ∙ sym (append_assoc (record_of (entry_at v b j)) (records_of (entries_from v b (suc j) i)) (record_of (entry_at v b (j + suc i))))
 
 -- the bytes of a value as a record stores it
-value_long : (v : Node) (b : List ℕ) (s : Span) → span_holds v (length b) s ≡ true → length (value_bytes (value_at v b s)) ≡ cond (is_ghost s) 0 s.vlen
+value_long : (v : Node) (b : List ℕ) (s : Span) → span_holds v (length b) s ≡ true
+    → length (value_bytes (value_at v b s)) ≡ cond (is_ghost s) 0 s.vlen
 value_long v b s h = length_value_bytes (value_at v b s) ∙ value_counts v b s h
 
 module _ (v : Node) (b : List ℕ) (h : Sound v b) (i : ℕ) (lt : i < v.nkeys) where
@@ -169,7 +171,8 @@ module _ (v : Node) (b : List ℕ) (h : Sound v b) (i : ℕ) (lt : i < v.nkeys) 
       → at + (4 + span_length (span_at v b i)) ≤ length l
   adopt_room at l e room = omega (arith, spans_upto v b i v.nkeys lt, h.sum, few v (length b) h.laid)
 
-  pub at_next : (at r : ℕ) → at ≡ 4 * i + spans_length v b 0 i → r ≡ at + (4 + span_length (span_at v b i)) → r ≡ 4 * (i + 1) + spans_length v b 0 (i + 1)
+  pub at_next : (at r : ℕ) → at ≡ 4 * i + spans_length v b 0 i → r ≡ at + (4 + span_length (span_at v b i))
+      → r ≡ 4 * (i + 1) + spans_length v b 0 (i + 1)
   at_next at r e er = omega (arith, spans_snoc v b i)
 
   snoc : records_of (entries_from v b 0 (i + 1)) ≡ records_of (entries_from v b 0 i) ++ record_of (entry_at v b i)

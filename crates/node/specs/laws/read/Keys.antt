@@ -11,7 +11,7 @@ use native.Mathlib.Omega.{arith}
 use Rattle.std.proofs.Math.ListN.{length}
 use borrow.Author.Tests.{not-true, not-false, eq-eqb, ne_eqb}
 use Rattle.seal.specs.Bytes.{window, u64_at}
-use Rattle.node.specs.laws.base.Tests.{and_left, and_right, and_true, and-false}
+use Rattle.node.specs.laws.base.Tests.{and_left, and_right, and-true, and-false}
 use Rattle.node.specs.laws.base.Bytes.{Bytes, bytes_window}
 use Rattle.node.specs.Order.{less, keyed, keyed_length}
 use Rattle.node.specs.laws.order.Order.{key_known}
@@ -201,7 +201,7 @@ module _ (o : ℕ) (p : Place) (lower upper : List ℕ) (v : Node) (b : List ℕ
   unfolding keys_within entries_from every
   within_first r n e h =
       let m : v.nkeys ≡ suc (v.nkeys - 1) = omega arith in
-      let f : in_bounds o p lower upper (entry_at v b 0).key ≡ false = sym (e ∙ and_true (in_bounds o p lower upper (entry_at v b 0).key))
+      let f : in_bounds o p lower upper (entry_at v b 0).key ≡ false = sym (e ∙ and-true (in_bounds o p lower upper (entry_at v b 0).key))
       ∙ not-true r h in
       sym (ap (all 0) m ∙ rw f)
 
@@ -248,7 +248,8 @@ module _ (o : ℕ) (p : Place) (lower upper : List ℕ) (v : Node) (b : List ℕ
         (entry_at v b n).key
     unfolding entries_from last_key
     below_all u =
-        let l : last_key (entry_at v b 0).key (entries_from v b 1 n) ≡ (entry_at v b n).key = last_from_lem v b [] 0 n ∙ ap (λ (q : ℕ). (entry_at v b q).key)
+        let l : last_key (entry_at v b 0).key (entries_from v b 1 n) ≡ (entry_at v b n).key = last_from_lem v b [] 0 n
+        ∙ ap (λ (q : ℕ). (entry_at v b q).key)
         (zero-add n) in
         upper_last o (entry_at v b 0) (entries_from v b 1 n) keys_of rising_of upper bu (not p.bounded) u ∙ ap is_below l
 
@@ -282,10 +283,10 @@ module _ (o : ℕ) (p : Place) (lower upper : List ℕ) (v : Node) (b : List ℕ
       let n : ℕ = v.nkeys - 1 in
       let m : v.nkeys ≡ suc n = omega arith in
       let k : v.nkeys - (v.nkeys - 1) ≡ 1 = omega arith in
-      let first : in_bounds o p lower upper (entry_at v b 0).key ≡ true = sym (er ∙ and_true (in_bounds o p lower upper (entry_at v b 0).key))
+      let first : in_bounds o p lower upper (entry_at v b 0).key ≡ true = sym (er ∙ and-true (in_bounds o p lower upper (entry_at v b 0).key))
       ∙ not-false r nr in
       let h' : keys_rise o (entries_from v b 0 (suc n)) ≡ true = ap (λ (x : ℕ). keys_rise o (entries_from v b 0 x)) (sym m) ∙ h in
-      eq ∙ ap (λ (x : ℕ). keys_within o p lower upper (entries_from v b n x)) k ∙ and_true (in_bounds o p lower upper (entry_at v b n).key)
+      eq ∙ ap (λ (x : ℕ). keys_within o p lower upper (entries_from v b n x)) k ∙ and-true (in_bounds o p lower upper (entry_at v b n).key)
       ∙ ends n h' (sym eu ∙ not-false u nu) (sym et ∙ not-false t nt) first
       ∙ ap (λ (x : ℕ). keys_within o p lower upper (entries_from v b 0 x)) (sym m)
 

@@ -58,7 +58,8 @@ entries_length v b i zero = refl
 entries_length v b i (suc n) = ap suc (entries_length v b (suc i) n)
 
 -- a test that passes on each entry whose span holds passes on every entry
-pub entries_every : (t : Entry → Bool) (v : Node) (b : List ℕ) → ((i : ℕ) → span_holds v (length b) (span_at v b i) ≡ true → t (entry_at v b i) ≡ true)
+pub entries_every : (t : Entry → Bool) (v : Node) (b : List ℕ)
+    → ((i : ℕ) → span_holds v (length b) (span_at v b i) ≡ true → t (entry_at v b i) ≡ true)
     → (i n : ℕ) → spans_hold v b i n ≡ true → every t (entries_from v b i n) ≡ true
 unfolding entries_from spans_hold every
 entries_every t v b f i zero h = refl

@@ -11,7 +11,7 @@ use Rattle.std.proofs.Math.Dec.{leb, eqb}
 use borrow.Author.Tests.{le-leb, lt-leb, eq-eqb, ne_eqb, leb-true, eqb-true, eqb-false, not-true, not-false}
 use Rattle.seal.specs.Bytes.{window, u16_at, u32_at, u64_at}
 use Rattle.seal.specs.laws.WindowLaws.{length_window}
-use Rattle.node.specs.laws.base.Tests.{by_test, and_left, and_right, and_true, and-false, or-false, or_right}
+use Rattle.node.specs.laws.base.Tests.{by_test, and_left, and_right, and-true, and-false, or-false, or_right}
 use Rattle.node.specs.Entry.{value_length}
 use Rattle.node.specs.Fit.{flag, data_space}
 use Rattle.node.specs.Read.{info_at, parsed, same_bool, is_fixed, flags_hold, layout_holds, span_at, is_ghost, span_holds, span_length, spans_hold, spans_length, entries_hold, value_at}
@@ -35,7 +35,8 @@ is_fixed_false v h = rw (eq-eqb v.ksize 0 h)
 
 pub info_parts : (b : List ℕ) (f n k v lk lv kc nc : ℕ)
     → f ≡ u32_at b (length b - 40) → n ≡ u32_at b (length b - 40 + 4) → k ≡ u32_at b (length b - 40 + 8) → v ≡ u32_at b (length b - 40 + 12)
-    → lk ≡ u32_at b (length b - 40 + 16) → lv ≡ u32_at b (length b - 40 + 20) → kc ≡ u64_at b (length b - 40 + 24) → nc ≡ u64_at b (length b - 40 + 32)
+    → lk ≡ u32_at b (length b - 40 + 16) → lv ≡ u32_at b (length b - 40 + 20) → kc ≡ u64_at b (length b - 40 + 24)
+    → nc ≡ u64_at b (length b - 40 + 32)
     → ◌≡◌ {A = BTreeInfo} (record {
       flags = f;
       node_size = n;
@@ -306,7 +307,7 @@ entries_none_other p v b e r = r ∙ ap (λ (q : Bool). q && eqb v.level 0) (sym
 pub entries_whole : (p : Place) (v : Node) (b : List ℕ) (tail : ℕ) → (v.nkeys ≡ 0 → ⊥) → tail ≡ cond p.root 40 0
     → rest_holds v b 0 v.nkeys 0 (length b - 56 - tail) ≡ entries_hold p v b
 unfolding entries_hold rest_holds data_space
-entries_whole p v b tail n e = rw (ne_eqb v.nkeys 0 n, and_true, e, zero-add)
+entries_whole p v b tail n e = rw (ne_eqb v.nkeys 0 n, and-true, e, zero-add)
 
 pub rest_start : (v : Node) (b : List ℕ) (n space : ℕ) → rest_holds v b 0 n 0 space ≡ rest_holds v b 0 (n - 0) 0 space
 rest_start v b n space = rw sub-zero

@@ -84,7 +84,8 @@ module _ (v : Node) (b : List ℕ) (o n : ℕ) (k : List ℕ) where
   found_none e = rw e
 
   -- the last entry not above k is the one before the first that is above it
-  pub found_entry : (r : ℕ) → r ≡ not_above o k (entries_from v b 0 n) → 1 ≤ r → r ≤ n → last_not_above o k (entries_from v b 0 n) ≡ entry_at v b (r - 1)
+  pub found_entry : (r : ℕ) → r ≡ not_above o k (entries_from v b 0 n) → 1 ≤ r → r ≤ n
+      → last_not_above o k (entries_from v b 0 n) ≡ entry_at v b (r - 1)
       ∷ []
   unfolding last_not_above
   found_entry r e h f = rw (← e, take_from v b 0 r n f) (one_from v b r h)

@@ -74,7 +74,8 @@ pub child_disk : (l : List ℕ) (at m : ℕ) → m ≡ u16_at l (at + 2) → m �
 unfolding entry_of is_child value_of
 child_disk l at m p q = sym (rw (record_mark l at, ← p, q))
 
-pub child_other : (l : List ℕ) (at m : ℕ) → m ≡ u16_at l (at + 2) → m < 2 ^ 16 → (m ≡ 0xFFFE → ⊥) → eqb m 0xFFFD ≡ is_child (entry_of (drop at l)).value
+pub child_other : (l : List ℕ) (at m : ℕ) → m ≡ u16_at l (at + 2) → m < 2 ^ 16 → (m ≡ 0xFFFE → ⊥)
+    → eqb m 0xFFFD ≡ is_child (entry_of (drop at l)).value
 unfolding entry_of
 child_other l at m p s z =
     let e : u16_at (drop at l) 2 ≡ m = record_mark l at ∙ sym p in

@@ -73,7 +73,8 @@ head_after ws s t h r q =
     ∙ ap words_head (window_splice_after ws (s * 9) (head_words h) (t * 9) 9 (omega arith) (omega arith)) ∙ head_window ws t
 
 -- another slot's words are as they were
-pub head_other : (ws : List ℕ) (s t : ℕ) (h : Head) → (s + 1) * 9 ≤ length ws → (s ≡ t → ⊥) → head_at (splice ws (s * 9) (head_words h)) t ≡ head_at ws t
+pub head_other : (ws : List ℕ) (s t : ℕ) (h : Head) → (s + 1) * 9 ≤ length ws → (s ≡ t → ⊥)
+    → head_at (splice ws (s * 9) (head_words h)) t ≡ head_at ws t
 head_other ws s t h r q = by_test (ltb s t) (λ p. head_after ws s t h r (ltb-true s t p))
     (λ p. let m = ltb-false s t p in head_before ws s t h r (omega arith))
 

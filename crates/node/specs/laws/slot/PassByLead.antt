@@ -211,7 +211,8 @@ module _ (l : List ℕ) (at after klen mark : ℕ) (k : klen ≡ u16_at l at) (m
     plain_after_lem g = let r = plain_next in let t = at_lies l n i at h hi p in omega arith
 
 -- one mark has one length
-module _ (l : List ℕ) (at after klen mark m len : ℕ) (k : klen ≡ u16_at l at) (q : m ≡ u16_at l (at + 2)) (s : mark ≡ m) (f : len ≡ 4 + mark_length mark)
+module _ (l : List ℕ) (at after klen mark m len : ℕ) (k : klen ≡ u16_at l at) (q : m ≡ u16_at l (at + 2)) (s : mark ≡ m)
+    (f : len ≡ 4 + mark_length mark)
     (e : after ≡ at + len) where
   pub marked_next : after + klen ≡ at + record_length (drop at l)
   marked_next =

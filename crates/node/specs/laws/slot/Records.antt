@@ -161,7 +161,8 @@ entry_local m l l' h e =
     let a : u16_at l' 0 ≡ u16_at l 0 = field_local 2 0 m l l' (omega arith) e in
     let b : u16_at l' 2 ≡ u16_at l 2 = field_local 2 2 m l l' (omega arith) e in
     let k : window 4 (u16_at l 0) l' ≡ window 4 (u16_at l 0) l = window_local 4 (u16_at l 0) m l l' (omega arith) e in
-    let v : window (4 + u16_at l 0) (mark_length (u16_at l 2)) l' ≡ window (4 + u16_at l 0) (mark_length (u16_at l 2)) l = window_local (4 + u16_at l 0)
+    let v : window (4 + u16_at l 0) (mark_length (u16_at l 2)) l' ≡ window (4 + u16_at l 0) (mark_length (u16_at l 2)) l =
+    window_local (4 + u16_at l 0)
     (mark_length (u16_at l 2)) m l l' (omega arith) e in
     rw (a, b, k, v)
 
@@ -261,7 +262,8 @@ entries_head i n at l h p =
     let k : ℕ = n - (i + 1) in
     let e : n - i ≡ suc k = omega arith in
     let d : List ℕ = drop (records_length i l) l in
-    let a : drop i (entries_of n l) ≡ entry_of d ∷ entries_of k (drop (record_length d) d) = entries_rest i n l h' ∙ ap (λ (x : ℕ). entries_of x d) e in
+    let a : drop i (entries_of n l) ≡ entry_of d ∷ entries_of k (drop (record_length d) d) = entries_rest i n l h'
+    ∙ ap (λ (x : ℕ). entries_of x d) e in
     let b : drop (i + 1) (entries_of n l) ≡ entries_of k (drop (record_length d) d) = sym (drop-drop 1 i (entries_of n l)) ∙ ap (drop 1) a in
     a ∙ ap₂ (λ (x : ℕ) (y : List Entry). entry_of (drop x l) ∷ y) (sym p) (sym b)
 
@@ -480,7 +482,8 @@ module _ (l : List ℕ) (h : record_length l ≤ length l) where
       let w : List ℕ = window (4 + kl) (mark_length m) l in
       let ms : m < 2 ^ 16 = field_below 2 l 2 b in
       let b1 : bytes_of 2 (length k) ≡ window 0 2 l = ap (bytes_of 2) length_key ∙ field_bytes 2 0 l (omega arith) b in
-      let b2 : bytes_of 2 (mark_of (value_of m w)) ≡ window 2 2 l = ap (bytes_of 2) (mark_back m w length_value ms) ∙ field_bytes 2 2 l (omega arith) b in
+      let b2 : bytes_of 2 (mark_of (value_of m w)) ≡ window 2 2 l = ap (bytes_of 2) (mark_back m w length_value ms)
+      ∙ field_bytes 2 2 l (omega arith) b in
       let b3 : value_bytes (value_of m w) ≡ w = value_bytes_back m w length_value (bytes_window (4 + kl) (mark_length m) l b) in
       ap₂ (λ (x y : List ℕ). x ++ y ++ k ++ value_bytes (value_of m w)) b1 b2
       ∙ ap (λ (x : List ℕ). take 2 l ++ window 2 2 l ++ k ++ x) b3

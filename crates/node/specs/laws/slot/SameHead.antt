@@ -10,7 +10,8 @@ use Rattle.node.specs.declared.slot.Last.{Last}
 use Rattle.node.specs.laws.slot.Records.{record_klen, record_mark}
 use Rattle.node.specs.laws.slot.Slot.{at_next}
 
-head_length : (l : List ℕ) (at klen mark : ℕ) → klen ≡ u16_at l at → mark ≡ u16_at l (at + 2) → record_length (drop at l) ≡ 4 + klen + mark_length mark
+head_length : (l : List ℕ) (at klen mark : ℕ) → klen ≡ u16_at l at → mark ≡ u16_at l (at + 2)
+    → record_length (drop at l) ≡ 4 + klen + mark_length mark
 unfolding record_length
 head_length l at klen mark p q =
     let k : u16_at (drop at l) 0 ≡ klen = record_klen l at ∙ sym p in

@@ -225,7 +225,8 @@ module _ (l l₁ l₂ key value : List ℕ) (n i used at mark : ℕ) (pu : used 
 
 -- ---- a record removed
 
-module _ (l l₁ : List ℕ) (n i used at next : ℕ) (within : records_length n l ≤ length l) (pu : used ≡ records_length n l) (pa : at ≡ records_length i l)
+module _ (l l₁ : List ℕ) (n i used at next : ℕ) (within : records_length n l ≤ length l) (pu : used ≡ records_length n l)
+    (pa : at ≡ records_length i l)
     (h : i < n)
     (pn : next ≡ at + record_length (drop at l)) (e₁ : l₁ ≡ moved l next at (used - next)) where
   remove_changed : l₁ ≡ splice l at ([] ++ window next (used - next) l)

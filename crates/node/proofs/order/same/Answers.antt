@@ -1,0 +1,32 @@
+use borrow.Author.Rules.{rules}
+use Rattle.node.specs.laws.order.OrderSteps.{same_start, same_lengths, same_differs, same_next, same_end}
+use Rattle.node.proofs.order.same.Goals as goal
+
+ruleset laws = (rules, same_start, same_lengths, same_differs, same_next, same_end)
+
+pub returns-then-n-b : goal.returns-then-n-b
+returns-then-n-b c = search laws
+
+pub loop-i-init : goal.loop-i-init
+loop-i-init c = search laws
+
+pub bounds-a-i : goal.bounds-a-i
+bounds-a-i c = search laws
+
+pub bounds-b-i : goal.bounds-b-i
+bounds-b-i c = search laws
+
+pub returns-then-a-i : goal.returns-then-a-i
+returns-then-a-i c = search laws
+
+pub overflow_add-i : goal.overflow_add-i
+overflow_add-i c = search laws
+
+pub loop-i-smaller : goal.loop-i-smaller
+loop-i-smaller c = search laws
+
+pub loop-i-preserved : goal.loop-i-preserved
+loop-i-preserved c = search laws
+
+pub returns : goal.returns
+returns c = search laws

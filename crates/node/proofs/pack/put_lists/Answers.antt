@@ -1,0 +1,23 @@
+use Rattle.node.specs.laws.pack.Steps.{lists_law}
+use borrow.Author.Rules.{rules}
+use Rattle.node.proofs.pack.put_lists.Goals as goal
+
+ruleset laws = (rules, lists_law)
+
+pub put_u16-requires : goal.put_u16-requires
+put_u16-requires c = search laws
+
+pub put_u16-requires-2 : goal.put_u16-requires-2
+put_u16-requires-2 c = search laws
+
+pub put_u16-requires-3 : goal.put_u16-requires-3
+put_u16-requires-3 c = search laws
+
+pub put_u16-requires-4 : goal.put_u16-requires-4
+put_u16-requires-4 c = search laws
+
+pub shape_of-block : goal.shape_of-block
+shape_of-block c = search laws
+
+pub returns : goal.returns
+returns c = search laws

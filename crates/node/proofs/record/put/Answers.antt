@@ -1,0 +1,6 @@
+use Rattle.node.specs.laws.slot.Records.{put_record}
+use Rattle.node.proofs.record.put.Goals as goal
+
+pub returns : goal.returns
+returns c =
+    put_record _ _ _ _ _ _ _ _ _ c.requires c.put_u16.ensures c.put_u16-2.ensures c.copy_to.ensures c.copy_to-2.ensures

@@ -1,0 +1,33 @@
+use Rattle.node.specs.laws.read.Search.{search_start, search_here, search_next, search_none}
+use Rattle.node.specs.laws.read.Keys.{sound_key}
+use borrow.Author.Rules.{rules}
+use Rattle.node.proofs.search.not_above.Goals as goal
+
+ruleset laws = (rules, search_start, search_here, search_next, search_none, sound_key)
+
+pub loop-i-init : goal.loop-i-init
+loop-i-init c = search laws
+
+pub span_at-s-requires : goal.span_at-s-requires
+span_at-s-requires c = search laws
+
+pub key_in-requires : goal.key_in-requires
+key_in-requires c = search laws
+
+pub less-requires : goal.less-requires
+less-requires c = search laws
+
+pub returns-then-less : goal.returns-then-less
+returns-then-less c = search laws
+
+pub overflow_add-i : goal.overflow_add-i
+overflow_add-i c = search laws
+
+pub loop-i-smaller : goal.loop-i-smaller
+loop-i-smaller c = search laws
+
+pub loop-i-preserved : goal.loop-i-preserved
+loop-i-preserved c = search laws
+
+pub returns : goal.returns
+returns c = search laws

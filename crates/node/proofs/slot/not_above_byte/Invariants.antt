@@ -1,0 +1,13 @@
+use Prim.Native.Nat.{◌+◌, ◌-◌, ◌≤◌}
+use mathlib.Core.Path.{◌≡◌}
+use lib.ListN.{drop}
+use Rattle.node.specs.Order.{byte}
+use Rattle.node.specs.Records.{mark_length, records_length, entries_of}
+use Rattle.node.specs.Find.{not_above}
+use Rattle.node.proofs.slot.not_above_byte.Given as goal
+
+abbrev pub invariant-loop-i : goal.invariant-loop-i
+invariant-loop-i l = (l.i ≤ l.n) × (l.at ≡ records_length l.i l.slot) × (l.last ≡ records_length (l.i - 1) l.slot) × (l.i + not_above byte l.key (drop l.i (entries_of l.n l.slot)) ≡ not_above byte l.key (entries_of l.n l.slot)) × (l.like.vlen ≡ mark_length l.like.mark) × (l.like.len ≡ 4 + l.like.klen + l.like.vlen)
+
+abbrev pub decreases-loop-i : goal.decreases-loop-i
+decreases-loop-i l = l.n - l.i
