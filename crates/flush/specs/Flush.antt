@@ -1,6 +1,6 @@
 -- Flush (RULES: flush).
 use Rattle.std.specs.Prelude.{List, [], ◌∷◌, ◌++◌, map, Bool, true, false, cond, ◌&&◌, ℕ, zero, suc, ◌+◌, ◌-◌, ◌*◌, ◌/◌, ◌^◌, length, get_or, set, leb, eqb}
-use Rattle.tree.specs.Format.{splice, Result, ok, ◌>>=◌, ◌>>◌, check, Entry, Val, ghost, leaf, disk, mem, BTreeInfo, NodeBuild, MemNode, pack_node, numbered, only, number_of, data_space, packed_length}
+use Rattle.tree.specs.Format.{splice, Result, ok, ◌>>◌, check, Entry, Val, ghost, leaf, disk, mem, BTreeInfo, NodeBuild, MemNode, pack_node, numbered, only, number_of, data_space, packed_length}
 use Rattle.tree.specs.Refusals as refusal
 use Rattle.tree.specs.Lent.{Lent, blocks}
 use Rattle.tree.specs.State.{State, no_node, node_at}

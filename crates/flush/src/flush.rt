@@ -29,7 +29,7 @@ const PHYSICAL: u64 = 0x40000000;
 const MOST_ID: u64 = 0xFFFFFFFFFFFFFFFF;
 
 // How far a flush has come: the next id, and how much stands in each list.
-#[derive(Drop)]
+#[derive(Clone, Copy)]
 pub struct Flushing {
     pub next: u64,
     pub freed: usize,
@@ -39,7 +39,7 @@ pub struct Flushing {
 }
 
 // What an accepted flush answers.
-#[derive(Drop)]
+#[derive(Clone, Copy)]
 pub struct Flushed {
     // The root: an address, or an id.
     pub root: u64,
@@ -48,7 +48,7 @@ pub struct Flushed {
     pub done: Flushing,
 }
 
-#[derive(Drop)]
+#[derive(Clone, Copy)]
 pub enum Answer {
     Refused(u64),
     Done(Flushed),
@@ -120,7 +120,7 @@ fn dead_reports(
 }
 
 // Nodes that flush is to write, and ids that it is to give.
-#[derive(Drop)]
+#[derive(Clone, Copy)]
 pub struct Wanted {
     pub dirty: u64,
     pub ids: u64,

@@ -1,3 +1,5 @@
 // Block choice and flush.
+#![tactic(auto)]
+
 pub mod flush;
 pub mod space;

@@ -4,14 +4,14 @@ ghost use Rattle.std.specs.Prelude.{◌≡◌, [], cond, ◌+◌, ◌*◌, ◌/�
 ghost use Rattle.flush.specs.Space.{chunk_blocks, is_used, mark_used, first_zero, first_free, found_means, zeros_below, zeros, choose, choice_means, space_of, allocated, lesser, usable, chunks_hold, space_holds, Held};
 
 // A block that was looked for.
-#[derive(Drop)]
+#[derive(Clone, Copy)]
 pub enum Found {
     At(usize),
     Nothing,
 }
 
 // The block that an allocation takes, and its chunk; or that no chunk has one.
-#[derive(Drop)]
+#[derive(Clone, Copy)]
 pub enum Answer {
     Block { chunk: usize, block: usize },
     Full,

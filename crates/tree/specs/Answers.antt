@@ -3,7 +3,7 @@ use Rattle.std.specs.Prelude.{◌≡◌, List, [], ◌∷◌, Bool, true, false,
 use Rattle.node.specs.Bytes.{splice}
 use Rattle.node.specs.Entry.{Entry, Val, ghost, leaf, value_bytes}
 use Rattle.node.specs.Records.{records_of, records_length, entries_of}
-use Rattle.node.specs.Result.{Result, ok, refused, ◌>>=◌, ◌>>◌, check}
+use Rattle.node.specs.Result.{Result, ok, refused, ◌>>◌, check}
 use Rattle.node.specs.Refusals as refusal
 use Rattle.tree.specs.Lent.{Lent}
 use Rattle.tree.specs.State.{State}

@@ -1,5 +1,5 @@
 -- Open and the lookups: get, floor, range (RULES: open, way, get, floor, range).
-use Rattle.std.specs.Prelude.{List, [], ◌∷◌, ◌++◌, Bool, true, cond, ◌&&◌, ◌||◌, not, ℕ, zero, suc, ◌+◌, ◌-◌, length, leb, ltb}
+use Rattle.std.specs.Prelude.{List, [], ◌∷◌, ◌++◌, Bool, true, cond, ◌&&◌, ◌||◌, not, ℕ, zero, suc, ◌-◌, length, leb, ltb}
 use Rattle.node.specs.Result.{Result, ok, ◌>>=◌, ◌>>◌, check}
 use Rattle.node.specs.Refusals as refusal
 use Rattle.node.specs.Order.{known, keyed, less}
@@ -165,7 +165,8 @@ unfoldable pub range_enters : ℕ → List ℕ → List (List ℕ) → List Entr
 range_enters o lo hi es i = ends_above o hi (key_at es i) && (not (ltb (suc i) (length es)) || less o lo (key_at es (suc i)))
 
 -- the children of a node from child i on, m of them: those that range enters, left to right
-unfoldable pub range_kids : (State → Bounds → ℕ → Result (Got Entry)) → Lent → State → Bounds → ℕ → List ℕ → List (List ℕ) → ℕ → ℕ → Result (Got Entry)
+unfoldable pub range_kids : (State → Bounds → ℕ → Result (Got Entry)) → Lent → State → Bounds → ℕ → List ℕ → List (List ℕ) → ℕ → ℕ
+    → Result (Got Entry)
 range_kids f l s bs n lo hi zero i = ok (record { state = s; answer = [] })
 range_kids f l s bs n lo hi (suc m) i =
     cond (range_enters s.order lo hi es i)

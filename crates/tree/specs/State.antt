@@ -1,5 +1,5 @@
 -- A tree that is open: its numbers, and its nodes, one a slot in the order in which the slots were taken.
-use Rattle.std.specs.Prelude.{List, [], ◌∷◌, ◌++◌, Bool, true, false, ℕ, ◌+◌, get_or, set}
+use Rattle.std.specs.Prelude.{List, [], ◌∷◌, ◌++◌, Bool, true, false, ℕ, get_or, set}
 use Rattle.node.specs.Entry.{Entry}
 use Rattle.node.specs.Slot.{MemNode}
 use Rattle.node.specs.declared.info.BTreeInfo.{BTreeInfo}

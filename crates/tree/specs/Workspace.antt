@@ -1,7 +1,7 @@
 -- The workspace: slots as words and bytes, a shadow for each, marks (1: a workspace that is none, a slot in use whose words or bytes are no node).
 use Rattle.std.specs.Prelude.{List, [], ◌∷◌, Bool, true, ◌&&◌, ◌||◌, ℕ, zero, suc, ◌+◌, ◌*◌, length, leb, eqb}
 use Rattle.node.specs.Bytes.{window}
-use Rattle.node.specs.Result.{Result, ◌>>=◌, ◌>>◌, check}
+use Rattle.node.specs.Result.{Result, ◌>>◌, check}
 use Rattle.node.specs.Refusals as refusal
 use Rattle.node.specs.Slot.{MemNode, head_at, node_of, records_hold}
 use Rattle.node.specs.declared.head.Head.{Head}

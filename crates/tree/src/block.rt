@@ -16,7 +16,7 @@ use node::head::Head;
 use node::{fit, pack};
 
 // What is known of a slot's node beside its level and its records; a dead slot has none.
-#[derive(Drop)]
+#[derive(Clone, Copy)]
 pub struct Words {
     pub count: u64,
     pub placed: u64,

@@ -21,7 +21,7 @@ use node::info::BTreeInfo;
 use node::{bytes, cut, fit, record, refusal};
 
 // The step of a way above a node; none above the root.
-#[derive(Drop)]
+#[derive(Clone, Copy)]
 pub struct Up {
     pub some: bool,
     pub slot: usize,

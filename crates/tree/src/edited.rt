@@ -2,14 +2,14 @@
 use crate::editor::Tree;
 
 // A refusal, or the tree after.
-#[derive(Drop)]
+#[derive(Clone, Copy)]
 pub enum Edited {
     Refused(u64),
     Done(Tree),
 }
 
 // The answer of remove: a refusal, or whether the key was there.
-#[derive(Drop)]
+#[derive(Clone, Copy)]
 pub enum Removed {
     Refused(u64),
     Yes(Tree),

@@ -23,7 +23,7 @@ use node::read::{Node, Place, Read};
 use node::val::{Child, Val};
 use node::{refusal, slot};
 
-#[derive(Drop)]
+#[derive(Clone, Copy)]
 pub struct Tree {
     pub root: usize,
     // Slots in use.
@@ -37,28 +37,28 @@ pub struct Tree {
 }
 
 // A bound: the index key of an entry of a slot, or none.
-#[derive(Drop)]
+#[derive(Clone, Copy)]
 pub struct Bound {
     pub some: bool,
     pub slot: usize,
     pub index: u64,
 }
 
-#[derive(Drop)]
+#[derive(Clone, Copy)]
 pub struct Bounds {
     pub lower: Bound,
     pub upper: Bound,
 }
 
 // What an entry holds, if it is a child.
-#[derive(Drop)]
+#[derive(Clone, Copy)]
 pub enum ChildAt {
     None,
     Disk(u64),
     Mem(u64),
 }
 
-#[derive(Drop)]
+#[derive(Clone, Copy)]
 pub enum Loaded {
     Refused(u64),
     At(Tree, usize),

@@ -19,7 +19,7 @@ use node::order::Order;
 use node::{bytes, record, refusal, slot};
 
 // Where a lookup ended: refused, at no entry, or at an entry of a slot.
-#[derive(Drop)]
+#[derive(Clone, Copy)]
 pub enum Last {
     Refused(u64),
     None(Tree),
@@ -27,7 +27,7 @@ pub enum Last {
 }
 
 // Where an entry of a slot lies, if one was found.
-#[derive(Drop)]
+#[derive(Clone, Copy)]
 pub struct Spot {
     pub found: bool,
     pub slot: usize,
@@ -36,7 +36,7 @@ pub struct Spot {
 }
 
 // The answer of floor; a record of so many bytes stands at the output's start.
-#[derive(Drop)]
+#[derive(Clone, Copy)]
 pub enum Floor {
     Refused(u64),
     None(Tree),

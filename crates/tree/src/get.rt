@@ -20,7 +20,7 @@ use node::order::Order;
 use node::{bytes, record, refusal, slot};
 
 // What a key holds in a slot: nothing, a ghost, or a value, which starts there and has so many bytes.
-#[derive(Drop)]
+#[derive(Clone, Copy)]
 pub enum Held {
     None,
     Ghost,
@@ -28,7 +28,7 @@ pub enum Held {
 }
 
 // The answer of get; a value of so many bytes stands at the output's start.
-#[derive(Drop)]
+#[derive(Clone, Copy)]
 pub enum Got {
     Refused(u64),
     None(Tree),
@@ -56,7 +56,7 @@ fn held_in(slot: &[u8], n: u64, order: Order, key: &[u8]) -> Held
 }
 
 // What get copied out: refused with 20, nothing, a ghost, or a value of so many bytes.
-#[derive(Drop)]
+#[derive(Clone, Copy)]
 pub enum Copied {
     Refused,
     None,

@@ -7,7 +7,7 @@ use node::val::{Child, Val};
 use node::{record, slot};
 
 // Whether a record holds a child in a slot, that slot, and where the next record starts.
-#[derive(Drop)]
+#[derive(Clone, Copy)]
 pub struct Kid {
     pub loaded: bool,
     pub slot: usize,

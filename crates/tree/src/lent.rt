@@ -21,7 +21,7 @@ const WORDS_EACH: usize = 19;
 // What a root stores as u32 is below this.
 const U32_END: u64 = 0x100000000;
 
-#[derive(Drop)]
+#[derive(Clone, Copy)]
 pub struct Lent {
     // The block size.
     pub size: usize,

@@ -1,4 +1,6 @@
 // Editing one tree: what is lent, loading, lookups, edits, the object map. Of one node it hands on what flush calls.
+#![tactic(auto)]
+
 pub use node::{pack, refusal};
 
 pub mod bank;

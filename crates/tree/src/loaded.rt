@@ -13,7 +13,7 @@ use node::order::Order;
 use node::slot;
 
 // The entry that a key goes on by, and the slot of its child if that is loaded.
-#[derive(Drop)]
+#[derive(Clone, Copy)]
 pub struct Taken {
     pub loaded: bool,
     pub index: u64,

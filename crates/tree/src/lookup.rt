@@ -15,7 +15,7 @@ use node::order::Order;
 use node::read::{Place, Read};
 use node::refusal;
 
-#[derive(Drop)]
+#[derive(Clone, Copy)]
 pub enum Opened {
     Refused(u64),
     Open(Tree),

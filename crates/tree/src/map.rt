@@ -27,41 +27,41 @@ const OMAP_VAL_ENCRYPTED: u64 = 4;
 const STORAGE_CLASS: u64 = 0x40000000;
 
 // A node of the map, with its address.
-#[derive(Drop)]
+#[derive(Clone, Copy)]
 pub struct MapNode {
     pub at: u64,
     pub node: Node,
 }
 
 // A bound: where its key lies in the image, or none.
-#[derive(Drop)]
+#[derive(Clone, Copy)]
 pub struct Edge {
     pub some: bool,
     pub at: usize,
     pub len: usize,
 }
 
-#[derive(Drop)]
+#[derive(Clone, Copy)]
 pub struct Edges {
     pub lower: Edge,
     pub upper: Edge,
 }
 
-#[derive(Drop)]
+#[derive(Clone, Copy)]
 pub enum MapLoaded {
     Refused(u64),
     At(MapNode),
 }
 
 // An entry of the map: its node and its index.
-#[derive(Drop)]
+#[derive(Clone, Copy)]
 pub enum Spotted {
     Refused(u64),
     None,
     At(MapNode, u64),
 }
 
-#[derive(Drop)]
+#[derive(Clone, Copy)]
 pub enum Address {
     Refused(u64),
     At(u64),

@@ -24,14 +24,14 @@ use node::{bytes, record, refusal, slot};
 const MOST: u64 = 0x4000000000000000;
 
 // The answer of range: so many records of so many bytes together.
-#[derive(Drop)]
+#[derive(Clone, Copy)]
 pub enum Ranged {
     Refused(u64),
     Done(Tree, u64, u64),
 }
 
 // How many records, and how many bytes they take.
-#[derive(Drop)]
+#[derive(Clone, Copy)]
 pub struct Sum {
     pub count: u64,
     pub length: u64,

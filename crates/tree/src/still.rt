@@ -16,7 +16,7 @@ use node::order::Order;
 use node::{order, slot};
 
 // What came of it. Where the way does not stay as it is, nothing was written.
-#[derive(Drop)]
+#[derive(Clone, Copy)]
 pub enum Still {
     Not,
     Yes(Tree),

@@ -19,13 +19,13 @@ use node::slot;
 // The most nodes on a way: levels 32 to 0, and one more.
 pub const STEPS: usize = 34;
 
-#[derive(Drop)]
+#[derive(Clone, Copy)]
 pub enum Went {
     Refused(u64),
     Arrived,
 }
 
-#[derive(Drop)]
+#[derive(Clone, Copy)]
 pub struct Way {
     pub went: Went,
     pub tree: Tree,

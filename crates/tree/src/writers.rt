@@ -86,7 +86,7 @@ pub fn insert_at(
     requires stored { (length key.now < 2 ^ 16) × (mark < 2 ^ 16) × (mark_length mark ≡ length value.now) }
     ensures put { Put size slots heads.old bytes.old heads.new bytes.new n
         (edited dirty (node_in size heads.old bytes.old n)
-        (insert_at i (record { key = key.entry.now; value = value_of mark value.now })
+        (insert_at i (record { key = key.now; value = value_of mark value.now })
         (node_in size heads.old bytes.old n).entries)) }
     ensures follows { Follows size slots used heads.old bytes.old heads.new bytes.new }
 {

@@ -14,7 +14,6 @@ use Rattle.flush.specs.Space.{Space, chunk_blocks, is_used, zeros, lesser, usabl
 use Rattle.flush.specs.Flush.{Flushing, Flushed, slot_number, write_from, dead_blocks, dead_ids, dirty_reached, ids_wanted, sum_from, fill, flushed, lists_hold}
 use Rattle.flush.specs.Answers.{pairs_of, lists_of, flushed_of}
 use Rattle.flush.specs.declared.flush.Flushing as code
-use Rattle.flush.specs.declared.flush.Flushed as done
 use Rattle.flush.specs.declared.flush.Wanted.{Wanted}
 use Rattle.flush.specs.internal.Lists.{numbers_of, Reported}
 use Rattle.flush.specs.internal.Counts.{dirty_one, id_one, Counted}

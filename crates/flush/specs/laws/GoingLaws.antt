@@ -96,7 +96,8 @@ module _ (size slots n d : ℕ) (t : Tree) (heads bytes part : List ℕ) (count 
   whole_deep xid w e z = let k : suc e - 1 ≡ e = omega arith in rw (← node_records, z, k)
 
   -- children first, then the node
-  whole_is : (xid : ℕ) (w : Flushing) → write_node (state_of size t heads bytes) xid n (write_kids (write_from (d - 1) (state_of size t heads bytes) xid)
+  whole_is : (xid : ℕ) (w : Flushing) → write_node (state_of size t heads bytes) xid n
+      (write_kids (write_from (d - 1) (state_of size t heads bytes) xid)
       (entries_of count part) w) ≡ write_from d (state_of size t heads bytes) xid n w
   whole_is xid w = let y : d ≡ suc (d - 1) = omega (arith, nz) in whole_deep xid w (d - 1) y
 
@@ -190,7 +191,8 @@ module _ (size slots blocks xid n d : ℕ) (t : Tree) (part cs bytes image₀ bm
               ∙ ap (λ (j : ℕ). get_or (entries_of count part) j (record { key = []; value = ghost })) z)
               ∙ ap (λ (es : List Entry). get_or es 0 (record { key = []; value = ghost })) next_is in
               g.left.standing.kids n i k.slot hn
-              (ap (λ (es : List Entry). (get_or es i (record { key = []; value = ghost })).value) entries_are ∙ ap (λ (e : Entry). e.value) q ∙ kid_is)
+              (ap (λ (es : List Entry). (get_or es i (record { key = []; value = ghost })).value) entries_are ∙ ap (λ (e : Entry). e.value) q
+              ∙ kid_is)
 
           pub go_fits : (a b c : ℕ) → Fitting a b c (write_from d (state_of size t heads₀ bytes) xid n
               (flushing_of size t image₀ (space_of bm₀ cs fr₀) heads₀ bytes fs₀ is₀ ps₀ w))

@@ -80,7 +80,8 @@ mark_other bm a b n =
     x = get_or bm (a / 8) 0
 
     changed : eqb (get_or bm (a / 8) 0 / 2 ^ (a % 8) % 2) 1 ≡ false
-        → eqb (get_or (set bm (a / 8) (get_or bm (a / 8) 0 + 2 ^ (a % 8))) (b / 8) 0 / 2 ^ (b % 8) % 2) 1 ≡ eqb (get_or bm (b / 8) 0 / 2 ^ (b % 8) % 2) 1
+        → eqb (get_or (set bm (a / 8) (get_or bm (a / 8) 0 + 2 ^ (a % 8))) (b / 8) 0 / 2 ^ (b % 8) % 2) 1
+        ≡ eqb (get_or bm (b / 8) 0 / 2 ^ (b % 8) % 2) 1
     changed t =
         by_test (eqb (b / 8) (a / 8))
         (λ u. let q : b / 8 ≡ a / 8 = eqb-true (b / 8) (a / 8) u in

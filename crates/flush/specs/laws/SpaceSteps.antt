@@ -491,7 +491,8 @@ module _ (size blocks : ℕ) (cs : List ℕ) where
       ≡ chunks_hold size blocks 0 cs
   chunks_next c left k l e o v d = chunks_on c left k l e o v
 
-  pub chunks_end : (c : ℕ) → length cs ≤ c → chunks_hold size blocks c (drop c cs) ≡ chunks_hold size blocks 0 cs → true ≡ chunks_hold size blocks 0 cs
+  pub chunks_end : (c : ℕ) → length cs ≤ c → chunks_hold size blocks c (drop c cs) ≡ chunks_hold size blocks 0 cs
+      → true ≡ chunks_hold size blocks 0 cs
   unfolding chunks_hold
   chunks_end c k v = rw (drop_of_length-le cs k) at v
 
@@ -549,7 +550,8 @@ pub bitmap_fits : (size blocks : ℕ) (cs : List ℕ) (t : Bool) → t ≡ chunk
 bitmap_fits size blocks cs true p q h k = chunks_fit size blocks cs h k (sym p)
 bitmap_fits size blocks cs false p q h k = never refl q
 
-pub space_chunks : (size blocks : ℕ) (bm cs fs : List ℕ) (t : Bool) → t ≡ chunks_hold size blocks 0 cs → not t ≡ true → false ≡ space_holds size blocks
+pub space_chunks : (size blocks : ℕ) (bm cs fs : List ℕ) (t : Bool) → t ≡ chunks_hold size blocks 0 cs → not t ≡ true
+    → false ≡ space_holds size blocks
     (space_of bm cs fs)
 unfolding space_holds
 space_chunks size blocks bm cs fs true p q = never refl (sym q)

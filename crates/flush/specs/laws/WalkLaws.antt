@@ -3,7 +3,7 @@ use Rattle.std.specs.Prelude.{◌≡◌, refl, length, get_or}
 use Rattle.std.proofs.Math.Path.{ap}
 use Rattle.std.proofs.Common.{◌∙◌, arith, length-append}
 use mathlib.Core.List.{List, [], ◌∷◌, ◌++◌}
-use Prim.Native.Nat.{ℕ, zero, suc, ◌+◌, ◌≤◌}
+use Prim.Native.Nat.{ℕ, zero, suc, ◌≤◌}
 use Rattle.tree.specs.Format.{Entry}
 use Rattle.tree.specs.State.{State, no_node, node_at}
 use Rattle.tree.specs.Workspace.{state_of}
@@ -85,7 +85,8 @@ fitting_less freed ids places w w' g f =
 
 -- ---- a slot outside those in use
 
-pub write_out : (d : ℕ) (s : State) (xid n : ℕ) (w : Flushing) → node_at s n ≡ no_node → get_or w.nodes n no_node ≡ no_node → write_from d s xid n w ≡ w
+pub write_out : (d : ℕ) (s : State) (xid n : ℕ) (w : Flushing) → node_at s n ≡ no_node → get_or w.nodes n no_node ≡ no_node
+    → write_from d s xid n w ≡ w
 unfolding write_from write_node write_kids no_node
 write_out zero s xid n w e f = rw f
 write_out (suc d) s xid n w e f = rw (e, f)

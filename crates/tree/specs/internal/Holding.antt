@@ -68,7 +68,8 @@ link_entries heads used level (e ∷ es) ms = link_value heads used level e.valu
 unfoldable pub hold_slot : ℕ → List ℕ → List ℕ → State → ℕ → ℕ → List ℕ → Result (List ℕ)
 hold_slot size heads bytes s used n ms =
     if_holds
-    (slot_holds size (head_at heads n) (slot_bytes size bytes n) && ((node_in size heads bytes n).dead || node_holds s n (node_in size heads bytes n)))
+    (slot_holds size (head_at heads n) (slot_bytes size bytes n)
+    && ((node_in size heads bytes n).dead || node_holds s n (node_in size heads bytes n)))
     (cond (node_in size heads bytes n).dead (ok ms) (mark_entries used (node_in size heads bytes n).entries ms))
 
 -- every slot from n on, m of them

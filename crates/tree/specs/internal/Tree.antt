@@ -1,6 +1,6 @@
 -- What the values of the code mean, of a bank.
 use Rattle.std.specs.Prelude.{◌≡◌, List, [], ◌∷◌, true, cond, ℕ, ◌<◌}
-use Rattle.node.specs.Result.{Result, ok, refused, ◌>>=◌, ◌>>◌}
+use Rattle.node.specs.Result.{Result, ok, refused, ◌>>=◌}
 use Rattle.node.specs.Entry.{Val, ghost, leaf, disk, mem}
 use Rattle.node.specs.Find.{key_at}
 use Rattle.node.specs.Read.{OnDisk}

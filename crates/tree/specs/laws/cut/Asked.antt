@@ -97,7 +97,8 @@ module _ (l : Lent) (t : Tree) (heads bytes : List ℕ) (n room : ℕ) (e : room
       (λ b. absurd (let y : 11 ≡ 0 = sym (e ∙ rw (a, b)) ∙ z in omega arith)))
       (λ a. absurd (let y : 17 ≡ 0 = sym (e ∙ rw a) ∙ z in omega arith))
 
-pub counted_state : (size n : ℕ) (t : Tree) (heads bytes : List ℕ) → state_of size (counted t n) heads bytes ≡ more_nodes (state_of size t heads bytes) n
+pub counted_state : (size n : ℕ) (t : Tree) (heads bytes : List ℕ)
+    → state_of size (counted t n) heads bytes ≡ more_nodes (state_of size t heads bytes) n
 unfolding state_of counted more_nodes with_info
 counted_state size n t heads bytes = refl
 

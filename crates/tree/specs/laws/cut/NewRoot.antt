@@ -7,7 +7,7 @@ use Rattle.std.proofs.Math.Numerals.{add-one}
 use Rattle.std.proofs.Math.ListN.{length}
 use Rattle.std.proofs.Math.Dec.{leb}
 use borrow.Author.Tests.{le-leb, lt-leb}
-use Rattle.node.specs.laws.base.Tests.{and-false, and_true}
+use Rattle.node.specs.laws.base.Tests.{and-false, and-true}
 use Rattle.node.specs.Find.{key_at}
 use Rattle.node.specs.Fit.{padded, fits_sums}
 use Rattle.tree.specs.State.{node_at}
@@ -64,4 +64,4 @@ module _ (size slots n place : ℕ) (t : Tree) (heads bytes : List ℕ) (r : Rea
     unfolding root_room
     root_sums b h e =
         let z : leb (suc level) 32 ≡ true = le-leb (suc level) 32 (omega arith) in
-        rw (by_sums, z, and_true, ← ea, ← eb) (rw add-one at e)
+        rw (by_sums, z, and-true, ← ea, ← eb) (rw add-one at e)

@@ -3,13 +3,13 @@ use Rattle.std.proofs.Math.Path.{◌≡◌, refl, sym, ap}
 use Rattle.std.proofs.Common.{◌∙◌}
 use Rattle.std.specs.Prelude.{List, [], Bool, not, eqb}
 use Rattle.std.proofs.Math.Bool.{true, false}
-use Prim.Native.Nat.{ℕ, suc, ◌+◌, ◌-◌, ◌*◌, ◌/◌, ◌^◌, ◌≤◌, ◌<◌}
+use Prim.Native.Nat.{ℕ, suc, ◌+◌, ◌*◌, ◌/◌, ◌^◌, ◌≤◌, ◌<◌}
 use native.Mathlib.Omega.{arith}
 use Rattle.std.proofs.Math.ListN.{length}
 use Rattle.std.proofs.Math.Dec.{ltb}
 use borrow.Author.Tests.{le-ltb, lt-ltb, not-true, not-false}
 use Rattle.node.specs.Bytes.{window}
-use Rattle.node.specs.Result.{Result, ok, ◌>>=◌, ◌>>◌}
+use Rattle.node.specs.Result.{Result, ok, ◌>>=◌}
 use Rattle.node.specs.laws.base.Tests.{never}
 use Rattle.node.specs.Order.{less}
 use Rattle.node.specs.Entry.{Val, ghost, leaf, disk, mem}

@@ -13,7 +13,7 @@ use Rattle.node.specs.laws.base.Seal.{window_window, length_bytes_of}
 use Rattle.node.specs.laws.base.Tests.{by_test, and_split}
 use Rattle.node.specs.Result.{Result, ◌>>=◌, ◌>>◌, check}
 use Rattle.node.specs.Order.{pair, pair_key}
-use Rattle.node.specs.Entry.{Val, ghost, leaf, disk, value_length}
+use Rattle.node.specs.Entry.{ghost, leaf, disk, value_length}
 use Rattle.node.specs.Fit.{flag}
 use Rattle.node.specs.Read.{on_disk, parsed, info_at, is_fixed, is_ghost, span_at, value_at, entry_at, read_of}
 use Rattle.node.specs.internal.ReadSteps.{Sound}

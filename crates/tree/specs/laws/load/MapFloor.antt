@@ -10,7 +10,7 @@ use Rattle.std.proofs.Math.ListN.{length, get_or, drop, length-take, drop_of_len
 use Rattle.std.proofs.Math.Seq.{get_or-take}
 use borrow.Author.Tests.{lt-ltb, ltb-true}
 use Rattle.node.specs.Bytes.{window}
-use Rattle.node.specs.Result.{Result, ok, ◌>>=◌, ◌>>◌}
+use Rattle.node.specs.Result.{Result, ok, ◌>>=◌}
 use Rattle.node.specs.laws.base.Results.{checked_ok}
 use Rattle.node.specs.Refusals as refusal
 use Rattle.node.specs.Order.{pair, less}
@@ -83,7 +83,8 @@ module _ (image : List ℕ) (l : Lent) (b : Edges) (level a w : ℕ) (lo up : Li
   child_refused k ex = sym (child_is ∙ rw ex)
 
   module _ (v : Node) (ex : x ≡ read.Loaded v) where
-    pub child_loaded : map_loaded_of image l.size (loaded.At (record { at = a; node = v })) ≡ map_child_at (lent_of image l) level (edges_of image b) w
+    pub child_loaded : map_loaded_of image l.size (loaded.At (record { at = a; node = v }))
+        ≡ map_child_at (lent_of image l) level (edges_of image b) w
     unfolding map_loaded_of read_of map_read lent.block_at lent_of
     child_loaded = sym (child_is ∙ rw ex)
 

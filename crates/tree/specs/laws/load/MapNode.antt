@@ -12,7 +12,7 @@ use borrow.Author.Tests.{le-ltb, lt-ltb, not-true, not-false}
 use Rattle.node.specs.Bytes.{window}
 use Rattle.node.specs.laws.base.Seal.{length_window, window_window}
 use Rattle.node.specs.Order.{pair, less}
-use Rattle.node.specs.Entry.{Entry, Val, ghost}
+use Rattle.node.specs.Entry.{Entry, ghost}
 use Rattle.node.specs.Find.{key_at, val_at, not_above}
 use Rattle.node.specs.Read.{read_node, read_of, span_at, entry_at, entries_from}
 use Rattle.node.specs.internal.ReadSteps.{Laid, Sound}
@@ -67,7 +67,8 @@ module _ (image : List ℕ) (size a : ℕ) (h : a < length image / size) (b : Li
   block_most m = omega (arith, block_long)
 
 module _ (image : List ℕ) (l : Lent) (o a : ℕ) (p : Place) (lower upper : List ℕ) where
-  pub load_out : length image / l.size ≤ a → read_of (lent.block_at (lent_of image l) a) (read.Refused 2) ≡ load_at (lent_of image l) o p lower upper a
+  pub load_out : length image / l.size ≤ a → read_of (lent.block_at (lent_of image l) a) (read.Refused 2)
+      ≡ load_at (lent_of image l) o p lower upper a
   unfolding load_at lent.in_image lent.blocks lent_of read_of
   load_out h = sym (rw (le-ltb a (length image / l.size) h))
 
@@ -165,7 +166,8 @@ module _ (image : List ℕ) (size : ℕ) (d : MapNode) (i : ℕ) where
 
         pub number_mem : (c : Child.Child) (r : ℕ) → x ≡ held.Child c → c ≡ child.Mem r → 0 ≡ disk_number (val_at (map_entries image size d) i)
         unfolding value_means child_means disk_number
-        number_mem c r e f = ap (λ (y : Child.Child). disk_number (child_means y)) (sym f) ∙ ap (λ (y : Held.Val). disk_number (value_means b y)) (sym e)
+        number_mem c r e f = ap (λ (y : Child.Child). disk_number (child_means y)) (sym f)
+            ∙ ap (λ (y : Held.Val). disk_number (value_means b y)) (sym e)
             ∙ ap disk_number (ev ∙ entry_value)
 
 -- ---- keys that are not above a key: i of them passed
@@ -211,7 +213,8 @@ module _ (image : List ℕ) (old key : Edge) where
   unfolding edge_of tighter_upper
   upper_first h k e = rw (not-true old.some h) e
 
-  module _ (x y : List ℕ) (t : Bool) (h : not old.some ≡ false) (ex : x ≡ bound_key (edge_of image old)) (ey : y ≡ bound_key (edge_of image key)) where
+  module _ (x y : List ℕ) (t : Bool) (h : not old.some ≡ false) (ex : x ≡ bound_key (edge_of image old))
+      (ey : y ≡ bound_key (edge_of image key)) where
     same_key_lem : (k : List ℕ) → edge_of image key ≡ k ∷ [] → y ≡ k
     unfolding bound_key
     same_key_lem k e = ey ∙ ap bound_key e

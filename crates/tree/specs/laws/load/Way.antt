@@ -229,7 +229,8 @@ pub way_end : (l : Lent) (size : ℕ) (t : Tree) (heads bytes : List ℕ) (bs : 
 unfolding way_of went_of onto lookup.way_from
 way_end l size t heads bytes bs n d k key way kids whole hd h g inv =
     let z : d ≡ 0 = omega arith in
-    rw (steps_next way kids k n 0 h g) (ap (λ (m : ℕ). onto (steps_of way kids k) (lookup.way_from m l (state_of size t heads bytes) bs n key)) (sym z)
+    rw (steps_next way kids k n 0 h g) (ap (λ (m : ℕ). onto (steps_of way kids k) (lookup.way_from m l (state_of size t heads bytes) bs n key))
+    (sym z)
     ∙ inv)
 
 pub ready_at : (size slots : ℕ) (heads bytes : List ℕ) (x : Loaded) (t : Tree) (c : ℕ) → x ≡ loaded.At t c → ReadyAfter size slots heads bytes x

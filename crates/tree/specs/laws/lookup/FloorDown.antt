@@ -31,7 +31,8 @@ use Rattle.tree.specs.declared.floor.Last.TheVariants as last
 -- ---- a child loaded, and its bounds
 
 module _ (l : Lent) (size : ℕ) (t : Tree) (heads bytes : List ℕ) (b : Bounds) (n i : ℕ) (x : Loaded) (heads' bytes' : List ℕ)
-    (ex : loaded_of size heads' bytes' x ≡ load_child l (state_of size t heads bytes) (bounds_of (state_of size t heads bytes) b) n i) (t' : Tree) (c : ℕ)
+    (ex : loaded_of size heads' bytes' x ≡ load_child l (state_of size t heads bytes) (bounds_of (state_of size t heads bytes) b) n i) (t' : Tree)
+    (c : ℕ)
     (q : x ≡ loaded.At t' c) where
   pub into : ok (record { state = state_of size t' heads' bytes'; slot = c }) ≡ load_child l (state_of size t heads bytes)
       (bounds_of (state_of size t heads bytes) b) n i
@@ -165,7 +166,8 @@ module _ (l : Lent) (size : ℕ) (t : Tree) (heads bytes : List ℕ) (b : Bounds
         (eb : bounds_of (state_of size t heads bytes) inner ≡ child_bounds t.order (bounds_of (state_of size t heads bytes) b)
         (node_at (state_of size t heads bytes) n).entries i)
         (r : Last) (heads'' bytes'' : List ℕ)
-        (er : last_means size heads'' bytes'' r ≡ floor_from (d - 1) l (state_of size t' heads' bytes') (bounds_of (state_of size t' heads' bytes') inner) c
+        (er : last_means size heads'' bytes'' r ≡ floor_from (d - 1) l (state_of size t' heads' bytes')
+        (bounds_of (state_of size t' heads' bytes') inner) c
         key) where
       child_is : load_child l (state_of size t heads bytes) (bounds_of (state_of size t heads bytes) b) n i ≡ ok
           (record { state = state_of size t' heads' bytes'; slot = c })

@@ -181,7 +181,8 @@ module _ (l : lent.Lent) (size : ℕ) (t : Tree) (h0 b0 key : List ℕ) (k : Boo
     way_in : got_way l (state_of size t h1 b0) room key ≡ lookup.get_in l (state_of size t h0 b0) room key
     way_in = ap (λ (s : State). got_way l s room key) es ∙ sym in_is
 
-    pub in_answer : (y : Result (lookup.Got Val)) → y ≡ got_way l (state_of size t h1 b0) room key → y ≡ lookup.get_in l (state_of size t h0 b0) room key
+    pub in_answer : (y : Result (lookup.Got Val)) → y ≡ got_way l (state_of size t h1 b0) room key
+        → y ≡ lookup.get_in l (state_of size t h0 b0) room key
     in_answer y q = q ∙ way_in
 
     pub in_output : (o out : List ℕ) → o ≡ got_output out (got_way l (state_of size t h1 b0) room key)

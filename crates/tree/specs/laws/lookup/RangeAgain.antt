@@ -92,7 +92,8 @@ Later f l s n g = (t : State) (bs : Bounds) → Loads l g.state t → f t bs n �
 -- what is so of the ranges of children is so of those of a node
 module _ (f : State → Bounds → ℕ → Result (Got Entry)) (l : Lent) (level : ℕ) (lo : List ℕ) (hi : List (List ℕ))
     (loads : (s : State) (bs : Bounds) (n : ℕ) (g : Got Entry) → Stands all all s → f s bs n ≡ ok g → Loaded l all all s g.state)
-    (later : (s : State) (bs : Bounds) (n : ℕ) (g : Got Entry) → Stands all all s → (node_at s n).dead ≡ false → (node_at s n).level ≡ level → f s bs n ≡
+    (later : (s : State) (bs : Bounds) (n : ℕ) (g : Got Entry) → Stands all all s → (node_at s n).dead ≡ false → (node_at s n).level ≡ level
+    → f s bs n ≡
     ok g → Later f l s n g) where
   record Entered (s : State) (bs : Bounds) (n m i : ℕ) (g : Got Entry) : Type 0 where
     at : At
@@ -185,7 +186,8 @@ leaf_later l lo hi s bs n g st live lv e t bs' a =
     ap (λ (y : List Entry). ok (record { state = t; answer = y })) (x ∙ ap (λ (h : Got Entry). h.answer) q)
 
 node_later : (d : ℕ) (l : Lent) (lo : List ℕ) (hi : List (List ℕ))
-    → ((s : State) (bs : Bounds) (n : ℕ) (g : Got Entry) → Stands all all s → (node_at s n).dead ≡ false → (node_at s n).level ≡ d → range_from d l lo hi s
+    → ((s : State) (bs : Bounds) (n : ℕ) (g : Got Entry) → Stands all all s → (node_at s n).dead ≡ false → (node_at s n).level ≡ d
+    → range_from d l lo hi s
     bs n ≡ ok g
     → (t : State) (bs' : Bounds) → Loads l g.state t → range_from d l lo hi t bs' n ≡ ok (record { state = t; answer = g.answer }))
     → (s : State) (bs : Bounds) (n : ℕ) (g : Got Entry) → Stands all all s → (node_at s n).dead ≡ false → (node_at s n).level ≡ suc d
@@ -197,7 +199,8 @@ node_later d l lo hi ih s bs n g st live lv e t bs' a =
     let k = (kids_loaded (range_from d l lo hi) l all all (λ t cs k h. range_loaded d l all all lo hi t cs k h) s bs n lo hi m 0 st).at g e in
     let s_t : Loads l s t = loads_then l s g.state t k.loads a in
     let same : length (node_at t n).entries ≡ m = keys_same (node_at t n).entries (node_at s n).entries (s_t.keys n (live_used s n live)) in
-    rw same (kids_later (range_from d l lo hi) l d lo hi (λ s bs n g st q. (range_loaded d l all all lo hi s bs n st).at g q) ih m 0 s bs n g st live lv
+    rw same (kids_later (range_from d l lo hi) l d lo hi (λ s bs n g st q.
+    (range_loaded d l all all lo hi s bs n st).at g q) ih m 0 s bs n g st live lv
     e t bs' a)
 
 -- a range over what an accepted range left, and over every state loaded since

@@ -78,7 +78,8 @@ module _ (t : Tree) where
     omap_val r k e size heads bytes = e ∙ sym (rw (eq-eqb t.order pair o, eq-eqb t.info.key_size 16 k))
 
 -- what is 16 and 16 bytes long fits an object map, and what an accepted edit left of it
-pub omap_fits : (l : Lent) (s t : State) (k v : List ℕ) → is_omap s ≡ true → Safe l s t → length k ≡ 16 → length v ≡ 16 → entry_fits t k (leaf v) ≡ true
+pub omap_fits : (l : Lent) (s t : State) (k v : List ℕ) → is_omap s ≡ true → Safe l s t → length k ≡ 16 → length v ≡ 16
+    → entry_fits t k (leaf v) ≡ true
 unfolding is_omap entry_fits key_fits value_fits is_child keyed keyed_length
 omap_fits l s t k v f a p q =
     let (x, c) = and_split (eqb s.order pair && eqb s.info.key_size 16) (eqb s.info.val_size 16) f in

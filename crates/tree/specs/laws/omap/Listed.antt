@@ -108,7 +108,8 @@ module _ (l : Lent) (size : ℕ) (t : Tree) (heads bytes : List ℕ) (h : truste
 
 -- ---- written to the scratch
 
-module _ (es : List Entry) (s s' : List ℕ) (from : ℕ) (ss : Storables es) (ks : every keyed16 es ≡ true) (w : from + length (records_of es) ≤ length s)
+module _ (es : List Entry) (s s' : List ℕ) (from : ℕ) (ss : Storables es) (ks : every keyed16 es ≡ true)
+    (w : from + length (records_of es) ≤ length s)
     (e : s' ≡ splice s from (records_of es)) where
   list_is : drop from s' ≡ records_of es ++ drop (from + length (records_of es)) s
   list_is = ap (drop from) e ∙ drop_splice s from (records_of es) (omega arith)

@@ -11,7 +11,7 @@ use Rattle.node.specs.Bytes.{splice}
 use Rattle.node.specs.Entry.{Val}
 use Rattle.node.specs.Result.{Result, ok, refused, ◌>>◌, check}
 use Rattle.node.specs.Refusals as refusal
-use Rattle.node.specs.laws.base.Tests.{by_test, and_split, and_true}
+use Rattle.node.specs.laws.base.Tests.{by_test, and_split, and-true}
 use Rattle.node.specs.laws.base.Results.{Holds}
 use Rattle.tree.specs.Lent.{lent_of}
 use Rattle.tree.specs.State.{State}
@@ -89,7 +89,7 @@ module _ (image : List ℕ) (l : Lent) (t : Tree) (heads bytes scratch : List �
     edits_no q =
         let z : (space && held) && wide ≡ false = sym e ∙ not-true a q in
         by_test wide
-        (λ w. let y : space && held ≡ false = sym (and_true (space && held)) ∙ ap (λ (b : Bool). (space && held) && b) (sym w) ∙ z in
+        (λ w. let y : space && held ≡ false = sym (and-true (space && held)) ∙ ap (λ (b : Bool). (space && held) && b) (sym w) ∙ z in
         rw w (called_refused image l t heads bytes (space && held) refl f (ap not y)))
         (λ w. rw w)
 

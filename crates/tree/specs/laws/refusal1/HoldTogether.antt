@@ -1,5 +1,5 @@
 -- Laws of the pass of refusal 1 over the slots: what it computes is that the slots are nodes and hold together. Assumes nothing.
-use Rattle.std.specs.Prelude.{◌≡◌, false, ◌&&◌, ℕ, ◌-◌, ◌≤◌, ◌<◌, length, get_or, ltb, eqb}
+use Rattle.std.specs.Prelude.{◌≡◌, false, ◌&&◌, ℕ, ◌≤◌, ◌<◌, length, get_or, ltb, eqb}
 use Rattle.std.proofs.Math.Path.{refl, ap}
 use Rattle.std.proofs.Common.{sym, ◌∙◌}
 use mathlib.Core.List.{List, [], ◌∷◌}

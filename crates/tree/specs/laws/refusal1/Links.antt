@@ -221,9 +221,11 @@ module _ (heads : List ℕ) (used level n : ℕ) (l ms : List ℕ) where
     unfolding mark_of
     links_no q = ap (λ (b : Bool). mark_of b ks' >>= link_entries heads used level (drop (i + 1) (entries_of n l))) (sym (not-true t q)) ∙ link_turn
 
-    pub links_next : not t ≡ false → link_entries heads used level (drop (i + 1) (entries_of n l)) ks' ≡ link_entries heads used level (entries_of n l) ms
+    pub links_next : not t ≡ false → link_entries heads used level (drop (i + 1) (entries_of n l)) ks'
+        ≡ link_entries heads used level (entries_of n l) ms
     unfolding mark_of
-    links_next q = ap (λ (b : Bool). mark_of b ks' >>= link_entries heads used level (drop (i + 1) (entries_of n l))) (sym (not-false t q)) ∙ link_turn
+    links_next q = ap (λ (b : Bool). mark_of b ks' >>= link_entries heads used level (drop (i + 1) (entries_of n l))) (sym (not-false t q))
+        ∙ link_turn
 
   pub links_end : (i : ℕ) (ks : List ℕ) → n ≤ i → link_entries heads used level (drop i (entries_of n l)) ks ≡ link_entries heads used level
       (entries_of n l) ms

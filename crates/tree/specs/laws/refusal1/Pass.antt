@@ -151,7 +151,8 @@ module _ (size : ℕ) (heads bytes : List ℕ) (s : State) (used : ℕ) (ms : Li
 
       pub slots_next : not b ≡ false → hold_slots size heads bytes s used (used - (n + 1)) (n + 1) ks' ≡ hold_slots size heads bytes s used used 0 ms
       unfolding mark_of
-      slots_next q = ap (λ (x : Bool). mark_of x ks' >>= hold_slots size heads bytes s used (used - (n + 1)) (n + 1)) (sym (not-false b q)) ∙ slots_turn
+      slots_next q = ap (λ (x : Bool). mark_of x ks' >>= hold_slots size heads bytes s used (used - (n + 1)) (n + 1)) (sym (not-false b q))
+          ∙ slots_turn
 
 -- ---- all slots
 

@@ -5,7 +5,7 @@ use Rattle.std.proofs.Common.{◌∙◌, arith, mul-le-mul}
 use Rattle.std.proofs.Math.Bool.{Bool, true, false}
 use Rattle.std.proofs.Math.Dec.{leb, ltb, eqb}
 use borrow.Author.Tests.{le-leb, leb-true, ltb-true, eq-eqb, ne_eqb, eqb-true, not-true, not-false}
-use Rattle.node.specs.laws.base.Tests.{by_test, and_split, and-false, and_both, and_true}
+use Rattle.node.specs.laws.base.Tests.{by_test, and_split, and-false, and_both, and-true}
 use Rattle.node.specs.Order.{known}
 use Rattle.node.specs.Result.{Result, refused, ◌>>◌, check}
 use Rattle.node.specs.Refusals as refusal
@@ -55,7 +55,7 @@ module _ (size slots used : ℕ) (heads bytes : List ℕ) where
 -- of no slot in use a workspace asks no more
 pub room_none : (size slots : ℕ) (heads bytes : List ℕ) → room_holds size slots 0 heads bytes ≡ workspace_holds size slots 0 heads bytes
 unfolding workspace_holds room_holds slots_hold
-room_none size slots heads bytes = sym (and_true (room_holds size slots 0 heads bytes))
+room_none size slots heads bytes = sym (and-true (room_holds size slots 0 heads bytes))
 
 -- ---- what lent sizes grant
 

@@ -80,7 +80,8 @@ module _ (l : Lent) (k : List ℕ) (i : ℕ) (s : State) (x : Step) (ps : List S
   is_taken : taken_on i (x ∷ ps) s ≡ t₂
   unfolding taken_on
   is_taken =
-      ap (λ (j : ℕ). let t : State = touch (x ∷ ps) s in put_node t n (with_entries (node_at t n) (remove_at j (node_at t n).entries))) (sym same_place)
+      ap (λ (j : ℕ). let t : State = touch (x ∷ ps) s in put_node t n (with_entries (node_at t n) (remove_at j (node_at t n).entries)))
+      (sym same_place)
 
   abbrev w : ℕ → ℕ
   w c = on_way c (x ∷ ps)
@@ -113,7 +114,8 @@ module _ (l : Lent) (k : List ℕ) (i : ℕ) (s : State) (x : Step) (ps : List S
             let g : DropFits (drop_emptied (steps_from way kids (suc (j - 1)) (steps - suc (j - 1))) t₂).state (get_or way (j - 1) 0) (get_or kids
             (j - 1) 0)
             (get_or way (suc (j - 1)) 0) =
-            subst (λ (qs : List Step). DropFits (drop_emptied qs t₂).state (get_or way (j - 1) 0) (get_or kids (j - 1) 0) (get_or way (suc (j - 1)) 0))
+            subst (λ (qs : List Step). DropFits (drop_emptied qs t₂).state (get_or way (j - 1) 0) (get_or kids (j - 1) 0)
+            (get_or way (suc (j - 1)) 0))
             (sym (from_cons way kids steps (suc (j - 1)) (omega arith))) f in
             rw is_taken (subst (λ (y : ℕ). DropFits (drop_emptied (steps_from way kids y (steps - y)) t₂).state (get_or way (j - 1) 0) (get_or kids
             (j - 1) 0) (get_or way y 0)) z g);
@@ -203,7 +205,8 @@ module _ (l : Lent) (k : List ℕ) (i : ℕ) (s : State) (x : Step) (ps : List S
     pub shrunk_roomy : Roomy (2 * l.size) v
     shrunk_roomy = rw is_shrunk (roomy_shrunk _ _)
 
-    pub shrunk_cuts : (way kids : List ℕ) (steps : ℕ) → steps_from way kids 0 steps ≡ x ∷ ps → Bare v → CutsFit l (index_keys (x ∷ ps) v) way kids steps
+    pub shrunk_cuts : (way kids : List ℕ) (steps : ℕ) → steps_from way kids 0 steps ≡ x ∷ ps → Bare v
+        → CutsFit l (index_keys (x ∷ ps) v) way kids steps
     shrunk_cuts way kids steps q b = rw is_shrunk (cuts₅ _ _ way kids steps q (rw is_shrunk at b))
 
     pub shrunk_trust : (u : State) → cuts l [] (x ∷ ps) (index_keys (x ∷ ps) v) ≡ ok u → trusted l u ≡ true

@@ -166,7 +166,8 @@ module _ (l : Lent) (s : State) (way kids : List ℕ) (steps : ℕ) (w : ℕ →
   most_at : (j : ℕ) → j < steps → (c : ℕ) → on_way c (step_of way kids j ∷ after j) ≤ on_way c (steps_from way kids 0 steps)
   most_at j h c =
       subst (λ (qs : List Step). on_way c qs ≤ on_way c (steps_from way kids 0 steps)) (from_cons way kids steps j h)
-      (suffix way kids (λ qs. on_way c qs ≤ on_way c (steps_from way kids 0 steps)) (λ x y xs k. le_trans (later c x (y ∷ xs)) k) steps j h (le_refl _))
+      (suffix way kids (λ qs. on_way c qs ≤ on_way c (steps_from way kids 0 steps)) (λ x y xs k. le_trans (later c x (y ∷ xs)) k) steps j h
+      (le_refl _))
 
   used_at : (j : ℕ) → j < steps → (c : ℕ) → 1 ≤ on_way c (step_of way kids j ∷ after j) → c < length s.nodes
   used_at j h = falls_used s (step_of way kids j ∷ after j) (falls_at j h)
@@ -177,7 +178,8 @@ module _ (l : Lent) (s : State) (way kids : List ℕ) (steps : ℕ) (w : ℕ →
   module _ (j : ℕ) (h : j < steps) (u : State) (e : cuts l (step_of way kids j ∷ []) (after j) s ≡ ok u) where
     edited : Edited l w all s u
     edited =
-        (cuts_edited l w w all (step_of way kids j) (after j) s (falls_at j h) (wide (get_or way j 0) (le_trans (here j) (most_at j h (get_or way j 0))))
+        (cuts_edited l w w all (step_of way kids j) (after j) s (falls_at j h)
+        (wide (get_or way j 0) (le_trans (here j) (most_at j h (get_or way j 0))))
         (λ k a b. a) st).at u e
 
     beside : Beside (get_or way j 0) (after j) s u

@@ -68,7 +68,8 @@ unfolding fits room_of
 fits_remove t root level i es f =
     let fs : List Entry = take i es ++ drop (suc i) es in
     rw (without_is i es)
-    (sums_less t root level (length fs) (length es) (keys_length t fs + values_length t fs) (keys_length t es + values_length t es) (length_without i es)
+    (sums_less t root level (length fs) (length es) (keys_length t fs + values_length t fs) (keys_length t es + values_length t es)
+    (length_without i es)
     (omega (arith, keys_without t i es, values_without t i es)) f)
 
 -- ---- a later entry taken out leaves the first

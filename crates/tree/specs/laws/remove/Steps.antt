@@ -1,5 +1,5 @@
 -- Laws of the edit of a remove, as the code does it: the leaf and emptied nodes, index keys, cuts, the root's place. Assumes nothing.
-use Rattle.std.specs.Prelude.{◌≡◌, refl, List, [], ◌∷◌, true, ℕ, suc, ◌-◌, ◌*◌, ◌≤◌, ◌<◌, length, get_or}
+use Rattle.std.specs.Prelude.{◌≡◌, refl, List, [], ◌∷◌, true, ℕ, suc, ◌*◌, ◌≤◌, ◌<◌, length, get_or}
 use Rattle.std.proofs.Common.{sym, subst, ◌∙◌, le_refl, le_trans, arith}
 use Rattle.std.proofs.Math.Path.{ap}
 use Rattle.node.specs.Result.{Result, ok, refused, ◌>>=◌}

@@ -44,7 +44,8 @@ words_wrote size slots used n heads heads' bytes d r hn l e =
     }
 
 module _ (size slots used n : ℕ) (h0 b0 h1 b1 h2 : List ℕ) (d : Head) (r : Ready size slots used h0 b0) (hn : n < used)
-    (l : Lies size (live d) (slot_bytes size b0 n)) (s : Saved size slots used h0 b0 h1 b1 n) (eh : length h1 ≡ length h0) (eb : length b1 ≡ length b0)
+    (l : Lies size (live d) (slot_bytes size b0 n)) (s : Saved size slots used h0 b0 h1 b1 n) (eh : length h1 ≡ length h0)
+    (eb : length b1 ≡ length b0)
     (e : h2 ≡ splice h1 (n * 9) (head_words d)) where
   below : n < slots
   below = omega (arith, r.within)

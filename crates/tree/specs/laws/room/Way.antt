@@ -54,7 +54,8 @@ module _ (l : Lent) (s : State) (k : List ℕ) (w : Way) (h : trusted l s ≡ tr
 -- ---- room: open, floor, put
 
 -- of one slot's list the other slots are none
-first_only : (m : MemNode) (n k : ℕ) → (get_or (m ∷ []) n no_node).dead ≡ false → weight m.entries ≤ k → weight (get_or (m ∷ []) n no_node).entries ≤ k
+first_only : (m : MemNode) (n k : ℕ) → (get_or (m ∷ []) n no_node).dead ≡ false → weight m.entries ≤ k
+    → weight (get_or (m ∷ []) n no_node).entries ≤ k
 unfolding no_node
 first_only m zero k d h = h
 first_only m (suc n) k d h = never refl d

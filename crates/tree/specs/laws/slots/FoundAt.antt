@@ -24,7 +24,8 @@ pub found_at : (size slots : ℕ) (t : Tree) (heads bytes : List ℕ) (n : ℕ) 
 unfolding found_in state_of node_in
 found_at size slots t heads bytes n k l h f u eh el ef =
     let es : List Entry = entries_of (live (head_at heads n)).count (slot_bytes size bytes n) in
-    let q : (node_at (state_of size t heads bytes) n).entries ≡ es = ap (λ (m : MemNode). m.entries) (node_in_lem size t heads bytes n u) ∙ live_entries
+    let q : (node_at (state_of size t heads bytes) n).entries ≡ es = ap (λ (m : MemNode). m.entries) (node_in_lem size t heads bytes n u)
+    ∙ live_entries
     (head_at heads n) (slot_bytes size bytes n) in
     let ff : f ≡ found_in t.order k (live (head_at heads n)).count (slot_bytes size bytes n) = ef ∙ rw (eh, el) in
     let i : f.index ≡ place_of t.order k es = ap (λ (x : Found). x.index) ff in

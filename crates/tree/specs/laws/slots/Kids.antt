@@ -27,4 +27,5 @@ module _ (l : List ℕ) (w : Val) (v : Held.Val) (ev : value_means l v ≡ w) (n
 
   pub kid_mem : (c : Child.Child) (x : ℕ) → v ≡ held.Child c → c ≡ child.Mem x → kid_means (record { loaded = true; slot = x; next = n }) ≡ slots_of w
   unfolding value_means child_means slots_of kid_means
-  kid_mem c x e f = ap (λ (y : Child.Child). slots_of (child_means y)) (sym f) ∙ ap (λ (y : Held.Val). slots_of (value_means l y)) (sym e) ∙ ap slots_of ev
+  kid_mem c x e f = ap (λ (y : Child.Child). slots_of (child_means y)) (sym f) ∙ ap (λ (y : Held.Val). slots_of (value_means l y)) (sym e)
+      ∙ ap slots_of ev

@@ -1,5 +1,5 @@
 -- Laws of undo: a slot saved, written, brought back; what a refused call goes back to. Assumes nothing.
-use Rattle.std.specs.Prelude.{◌≡◌, refl, true, ℕ, ◌+◌, ◌-◌, ◌*◌, ◌≤◌, ◌<◌, length, set, eqb}
+use Rattle.std.specs.Prelude.{◌≡◌, refl, true, ℕ, ◌+◌, ◌*◌, ◌≤◌, ◌<◌, length, set, eqb}
 use Rattle.std.proofs.Common.{sym, ap₂, ◌∙◌, ext_get_or}
 use Rattle.std.proofs.Math.Path.{ap}
 use mathlib.Core.List.{List}
@@ -134,7 +134,8 @@ module _ (size slots : ℕ) where
 
     is_marked : saved_at slots h2 n ≡ 0 → ⊥
     unfolding saved_at
-    is_marked z = let one : get_or h2 (slots * 18 + n) 0 ≡ 1 = ap (λ (x : List ℕ). get_or x (slots * 18 + n) 0) e ∙ get_or-set_same h1 (slots * 18 + n) 1 0
+    is_marked z = let one : get_or h2 (slots * 18 + n) 0 ≡ 1 = ap (λ (x : List ℕ). get_or x (slots * 18 + n) 0) e
+        ∙ get_or-set_same h1 (slots * 18 + n) 1 0
         (omega arith) in omega arith
 
     mark_other : (k : ℕ) → (k ≡ n → ⊥) → saved_at slots h2 k ≡ saved_at slots h k
@@ -212,7 +213,8 @@ module _ (size slots : ℕ) where
         let x : length (nodes_of size h1 b1 used) ≡ used = length_nodes size h1 b1 used in
         let y : length (nodes_of size h0 b0 used) ≡ used = length_nodes size h0 b0 used in
         ext_get_or no_node (nodes_of size h1 b1 used) (nodes_of size h0 b0 used) (omega arith)
-        (λ k q. let u : k < used = omega arith in node_at_lem size h1 b1 used k u ∙ saved_same k (omega arith) ∙ sym (node_at_lem size h0 b0 used k u))
+        (λ k q. let u : k < used = omega arith in node_at_lem size h1 b1 used k u ∙ saved_same k (omega arith)
+        ∙ sym (node_at_lem size h0 b0 used k u))
 
     pub saved_index : (i : ℕ) → n < slots → i < (live (head_at h0 n)).count → i < (live (head_at h1 n)).count
     saved_index i u q = rw (p.words n u) q

@@ -32,7 +32,8 @@ or_right true b h d = never refl d
 or_right false b h d = h
 
 -- a test that every live slot passes, at one of them
-pub live_at : (t : ℕ → MemNode → Bool) (b : ℕ) (ms : List MemNode) (m : ℕ) → every_live t b ms ≡ true → m < length ms → (get_or ms m no_node).dead ≡ false
+pub live_at : (t : ℕ → MemNode → Bool) (b : ℕ) (ms : List MemNode) (m : ℕ) → every_live t b ms ≡ true → m < length ms
+    → (get_or ms m no_node).dead ≡ false
     → t (b + m) (get_or ms m no_node) ≡ true
 unfolding every_live
 live_at t b [] m h k d = absurd (omega arith)
@@ -47,7 +48,8 @@ live_at t b (x ∷ xs) (suc m) h k d =
     rw z at i
 
 -- a slot in use that is not dead holds a node
-pub slot_holds_lem : (s : State) (n : ℕ) → hold_together s ≡ true → n < length s.nodes → (node_at s n).dead ≡ false → node_holds s n (node_at s n) ≡ true
+pub slot_holds_lem : (s : State) (n : ℕ) → hold_together s ≡ true → n < length s.nodes → (node_at s n).dead ≡ false
+    → node_holds s n (node_at s n) ≡ true
 unfolding hold_together node_at
 slot_holds_lem s n h k d =
     let a = and_left (ltb s.root (length s.nodes) && not (node_at s s.root).dead && every_live (node_holds s) 0 s.nodes)

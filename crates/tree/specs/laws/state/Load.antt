@@ -5,7 +5,7 @@ use Rattle.std.proofs.Common.{◌∙◌, arith}
 use Prim.Native.Nat.{ℕ, suc, ◌≤◌, ◌<◌}
 use Rattle.std.proofs.Math.ListN.{length}
 use borrow.Author.Tests.{ltb-true, eqb-true, eqb-false}
-use Rattle.node.specs.Result.{Result, ok, refused, ◌>>=◌, ◌>>◌}
+use Rattle.node.specs.Result.{Result, ok, refused, ◌>>=◌}
 use Rattle.node.specs.laws.base.Results.{no_answer}
 use Rattle.node.specs.Refusals as refusal
 use Rattle.node.specs.Entry.{ghost, disk, mem}
@@ -168,7 +168,8 @@ unfolding load_child
 load_there l s bs n i c q = rw q
 
 -- a child loaded is in a slot
-pub load_child_lem : (l : Lent) (s : State) (bs : Bounds) (n i : ℕ) (a : At) → load_child l s bs n i ≡ ok a → val_at (node_at a.state n).entries i ≡ mem
+pub load_child_lem : (l : Lent) (s : State) (bs : Bounds) (n i : ℕ) (a : At) → load_child l s bs n i ≡ ok a
+    → val_at (node_at a.state n).entries i ≡ mem
     a.slot
 load_child_lem l s bs n i a e =
     by_load l s bs n i a e

@@ -185,7 +185,8 @@ module _ (l : Lent) (s t : State) (k : List ℕ) (v : Val) (e : upsert l s k v �
 
   fitting : entry_fits s k v ≡ true
   unfolding upsert upsert_in
-  fitting = (checked_ok refusal.argument (entry_fits s k v) (upserted l s k v) t (checked_ok refusal.lent (lent_holds l s) (upsert_in l s k v) t e).1).0
+  fitting = (checked_ok refusal.argument (entry_fits s k v) (upserted l s k v) t
+      (checked_ok refusal.lent (lent_holds l s) (upsert_in l s k v) t e).1).0
 
   key : Key s.order k
   unfolding entry_fits key_fits

@@ -295,17 +295,17 @@ counts_edited l w v s t k n a =
           (like_counts t.info k n) a.stands;
     }
 
-made_live : (lv : ℕ) (es : List Entry) → (made lv es).dead ≡ false
+made_live : (lv : ℕ) (xs : List Entry) → (made lv xs).dead ≡ false
 unfolding made
-made_live lv es = refl
+made_live lv xs = refl
 
-made_level : (lv : ℕ) (es : List Entry) → (made lv es).level ≡ lv
+made_level : (lv : ℕ) (xs : List Entry) → (made lv xs).level ≡ lv
 unfolding made
-made_level lv es = refl
+made_level lv xs = refl
 
-made_entries : (lv : ℕ) (es : List Entry) → (made lv es).entries ≡ es
+made_entries : (lv : ℕ) (xs : List Entry) → (made lv xs).entries ≡ xs
 unfolding made
-made_entries lv es = refl
+made_entries lv xs = refl
 
 pub right_live : (t : State) (r lv : ℕ) (es : List Entry) → node_at t r ≡ made lv es → (node_at t r).dead ≡ false
 right_live t r lv es q = ap (λ (m : MemNode). m.dead) q ∙ made_live lv es

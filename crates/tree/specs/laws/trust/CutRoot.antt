@@ -264,7 +264,8 @@ module _ (v : ℕ → ℕ) (s : State) (n r : ℕ) (st : Stands (λ k. names k (
 
 -- ---- the cut of a root
 
-grow_numbers : (s : State) (n r : ℕ) → ((grow_root s n r).order ≡ s.order) × ((grow_root s n r).virtual ≡ s.virtual) × ((grow_root s n r).info ≡ s.info)
+grow_numbers : (s : State) (n r : ℕ) → ((grow_root s n r).order ≡ s.order) × ((grow_root s n r).virtual ≡ s.virtual)
+    × ((grow_root s n r).info ≡ s.info)
 unfolding grow_root with_root add_node put_node with_nodes
 grow_numbers s n r = (refl, refl, refl)
 

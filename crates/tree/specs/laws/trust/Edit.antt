@@ -72,7 +72,8 @@ put_same f s n m e c h =
     (λ t. let q : c ≡ n = eqb-true c n t in let k : n < length s.nodes = omega arith in rw q (ap f (at_put_same s n m k) ∙ e))
     (λ t. ap f (at_put_other s n m c (eqb-false c n t)))
 
-pub steady_put : (l : Lent) (s : State) (n : ℕ) (m : MemNode) → m.level ≡ (node_at s n).level → m.dead ≡ (node_at s n).dead → Steady l s (put_node s n m)
+pub steady_put : (l : Lent) (s : State) (n : ℕ) (m : MemNode) → m.level ≡ (node_at s n).level → m.dead ≡ (node_at s n).dead
+    → Steady l s (put_node s n m)
 steady_put l s n m a b =
     record {
       root = unfold put_node with_nodes in refl;

@@ -143,7 +143,8 @@ own_most c m = by_test m.dead (λ t. rw t (omega arith)) (λ t. rw t (omega arit
 pub own_alive : (c : ℕ) (m : MemNode) → 1 ≤ own c m → m.dead ≡ false
 own_alive c m h = by_test m.dead (λ t. absurd (omega (arith, own_dead c m t))) (λ t. t)
 
-named_set : (c : ℕ) (ns : List MemNode) (n : ℕ) (m : MemNode) → n < length ns → named c (set ns n m) + own c (get_or ns n no_node) ≡ named c ns + own c m
+named_set : (c : ℕ) (ns : List MemNode) (n : ℕ) (m : MemNode) → n < length ns
+    → named c (set ns n m) + own c (get_or ns n no_node) ≡ named c ns + own c m
 unfolding named
 named_set c [] n m h = absurd (omega arith)
 named_set c (x ∷ xs) zero m h = omega arith

@@ -206,7 +206,8 @@ or_unless : (a b : Bool) → (a ≡ false → b ≡ true) → a || b ≡ true
 or_unless true b f = refl
 or_unless false b f = f refl
 
-live_all : (t : ℕ → MemNode → Bool) (b : ℕ) (ms : List MemNode) → ((m : ℕ) → (get_or ms m no_node).dead ≡ false → t (b + m) (get_or ms m no_node) ≡ true)
+live_all : (t : ℕ → MemNode → Bool) (b : ℕ) (ms : List MemNode)
+    → ((m : ℕ) → (get_or ms m no_node).dead ≡ false → t (b + m) (get_or ms m no_node) ≡ true)
     → every_live t b ms ≡ true
 unfolding every_live
 live_all t b [] h = refl

@@ -162,7 +162,8 @@ on_steps way kids (suc k) j h =
     by_test (ltb j k)
     (λ t. omega (arith, on_steps way kids k j (ltb-true j k t)))
     (λ t. let e : j ≡ k = omega (arith, ltb-false j k t) in
-    let z : names (get_or way j 0) (mem (get_or way k 0)) ≡ 1 = ap (λ (i : ℕ). names (get_or way i 0) (mem (get_or way k 0))) e ∙ names_same (get_or way k 0) in
+    let z : names (get_or way j 0) (mem (get_or way k 0)) ≡ 1 = ap (λ (i : ℕ). names (get_or way i 0) (mem (get_or way k 0))) e
+    ∙ names_same (get_or way k 0) in
     omega arith)
 
 -- ---- undo

@@ -258,7 +258,8 @@ module _ (l : Lent) (t : Tree) (h0 b0 way kids : List ℕ) (steps : ℕ) (key : 
 
         -- too large for any node: the cut of the leaf refuses it
         large_cut : every (slim (s.info.node_size - 56)) (put_entry s.order e es) ≡ false
-            → cuts (lent_of [] l) [] ps (index_keys ps (put_in_leaf (touch ps s) (leaf_of ps) key v)) ≡ refused (large_refusal (put_entry s.order e es))
+            → cuts (lent_of [] l) [] ps (index_keys ps (put_in_leaf (touch ps s) (leaf_of ps) key v))
+            ≡ refused (large_refusal (put_entry s.order e es))
         large_cut k =
             let d : Down s (loaded.top ∷ loaded.rest) = rw loaded.steps at loaded.down in
             cuts_slots (lent_of [] l) m (unfold lent_of in refl) [] ps _

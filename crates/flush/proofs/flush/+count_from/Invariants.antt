@@ -1,0 +1,21 @@
+use mathlib.Core.Path.{◌≡◌}
+use lib.ListN.{drop}
+use Rattle.tree.specs.Format.{records_length, entries_of}
+use Rattle.tree.specs.Workspace.{state_of}
+use Rattle.flush.specs.Flush.{sum_kids, sum_from}
+use Rattle.flush.specs.internal.Counts.{dirty_one, id_one, Counted}
+use Prim.Native.Nat.{◌-◌, ◌≤◌}
+use Rattle.flush.proofs.flush.+count_from.Given as goal
+
+abbrev pub decreases-count_from : goal.decreases-count_from
+decreases-count_from l = l.d
+
+abbrev pub invariant-loop-i : goal.invariant-loop-i
+invariant-loop-i l = (l.i ≤ l.h.count) × (l.at ≡ records_length l.i l.part)
+    × Counted l.limit (sum_kids (sum_from dirty_one (l.d - 1) (state_of l.size l.t l.heads l.bytes)) (entries_of l.h.count l.part))
+    (sum_kids (sum_from (id_one l.t.by_id) (l.d - 1) (state_of l.size l.t l.heads l.bytes)) (entries_of l.h.count l.part)) l.initial.sum l.sum
+    (sum_kids (sum_from dirty_one (l.d - 1) (state_of l.size l.t l.heads l.bytes)) (drop l.i (entries_of l.h.count l.part)))
+    (sum_kids (sum_from (id_one l.t.by_id) (l.d - 1) (state_of l.size l.t l.heads l.bytes)) (drop l.i (entries_of l.h.count l.part)))
+
+abbrev pub decreases-loop-i : goal.decreases-loop-i
+decreases-loop-i l = l.h.count - l.i

@@ -1,0 +1,112 @@
+use Rattle.flush.specs.laws.CallLaws.{slots_some, root_alive, standing_is, in_lent, spaced_is, long_are, in_short, all_fits, in_done, untouched, finished_beyond}
+use Rattle.flush.specs.laws.StepLaws.{spaced_held}
+use borrow.Author.Rules.{rules}
+use Rattle.std.proofs.Common.{ap}
+use mathlib.Core.Bool.{not}
+use Rattle.flush.proofs.flush.flush_in.Goals as goal
+
+ruleset laws = (rules, slots_some, root_alive, standing_is, in_lent, spaced_is, long_are, in_short, all_fits, in_done, untouched, finished_beyond, spaced_held)
+
+pub nonzero_div-blocks : goal.nonzero_div-blocks
+nonzero_div-blocks c = search laws
+
+pub lists_hold-requires : goal.lists_hold-requires
+lists_hold-requires c = search laws
+
+pub shape_of-bitmap-then-not-lists_hold : goal.shape_of-bitmap-then-not-lists_hold
+shape_of-bitmap-then-not-lists_hold c = search laws
+
+pub shape_of-free-then-not-lists_hold : goal.shape_of-free-then-not-lists_hold
+shape_of-free-then-not-lists_hold c = search laws
+
+pub shape_of-freed-then-not-lists_hold : goal.shape_of-freed-then-not-lists_hold
+shape_of-freed-then-not-lists_hold c = search laws
+
+pub shape_of-removed-then-not-lists_hold : goal.shape_of-removed-then-not-lists_hold
+shape_of-removed-then-not-lists_hold c = search laws
+
+pub shape_of-ids-then-not-lists_hold : goal.shape_of-ids-then-not-lists_hold
+shape_of-ids-then-not-lists_hold c = search laws
+
+pub shape_of-places-then-not-lists_hold : goal.shape_of-places-then-not-lists_hold
+shape_of-places-then-not-lists_hold c = search laws
+
+pub returns-then-not-lists_hold : goal.returns-then-not-lists_hold
+returns-then-not-lists_hold c = search laws
+
+pub short_of-short-requires : goal.short_of-short-requires
+short_of-short-requires c =
+    let a = c.args in
+    let p = c.requires in
+    record { ready = p.ready; held = spaced_held _ _ _ (spaced_is a.lent a.t _ _ _ p.ready p.bytes_value _ _ _ _ _ _ c.lists_hold.ensures (ap not c.if-not-lists_hold.false)) }
+
+pub shape_of-bitmap-then-short-ne0 : goal.shape_of-bitmap-then-short-ne0
+shape_of-bitmap-then-short-ne0 c = search laws
+
+pub shape_of-free-then-short-ne0 : goal.shape_of-free-then-short-ne0
+shape_of-free-then-short-ne0 c = search laws
+
+pub shape_of-heads-then-short-ne0 : goal.shape_of-heads-then-short-ne0
+shape_of-heads-then-short-ne0 c = search laws
+
+pub shape_of-freed-then-short-ne0 : goal.shape_of-freed-then-short-ne0
+shape_of-freed-then-short-ne0 c = search laws
+
+pub shape_of-removed-then-short-ne0 : goal.shape_of-removed-then-short-ne0
+shape_of-removed-then-short-ne0 c = search laws
+
+pub shape_of-ids-then-short-ne0 : goal.shape_of-ids-then-short-ne0
+shape_of-ids-then-short-ne0 c = search laws
+
+pub shape_of-places-then-short-ne0 : goal.shape_of-places-then-short-ne0
+shape_of-places-then-short-ne0 c = search laws
+
+pub returns-then-short-ne0 : goal.returns-then-short-ne0
+returns-then-short-ne0 c = search laws
+
+pub write_all-all-requires : goal.write_all-all-requires
+write_all-all-requires c =
+    let a = c.args in
+    let p = c.requires in
+    let e = c.lists_hold.ensures in
+    let q = ap not c.if-not-lists_hold.false in
+    record { standing = standing_is a.lent a.t _ _ _ p.ready p.bytes_value; alive = root_alive a.lent a.t _ _ _ p.ready p.bytes_value; spaced = spaced_is a.lent a.t _ _ _ p.ready p.bytes_value _ _ _ _ _ _ e q; freed_len = long_are a.lent a.t _ _ _ p.ready p.bytes_value _ _ _ _ _ _ e q; fitting = all_fits a.lent a.t _ _ _ p.ready p.bytes_value _ _ _ _ _ _ e q _ _ _ c.short_of-short.ensures c.if-short-ne0.false }
+
+pub shape_of-image : goal.shape_of-image
+shape_of-image c = search laws
+
+pub shape_of-bitmap : goal.shape_of-bitmap
+shape_of-bitmap c = search laws
+
+pub shape_of-free : goal.shape_of-free
+shape_of-free c = search laws
+
+pub shape_of-heads : goal.shape_of-heads
+shape_of-heads c = search laws
+
+pub shape_of-freed : goal.shape_of-freed
+shape_of-freed c = search laws
+
+pub shape_of-removed : goal.shape_of-removed
+shape_of-removed c = search laws
+
+pub shape_of-ids : goal.shape_of-ids
+shape_of-ids c = search laws
+
+pub shape_of-places : goal.shape_of-places
+shape_of-places c = search laws
+
+pub returns : goal.returns
+returns c =
+    let a = c.args in
+    let p = c.requires in
+    let x = c.write_all-all.ensures in
+    let k = c.write_all-all.auto in
+    record {
+      answer = in_done a.lent a.t _ _ _ p.ready p.bytes_value _ _ _ _ _ _ c.lists_hold.ensures (ap not c.if-not-lists_hold.false) _ _ _ c.short_of-short.ensures c.if-short-ne0.false _ _ _ _ _ _ _ _ x.flushed;
+      left = (
+        finished_beyond _ _ _ _ _ _ _ _ _ _ _ _ _ _ _ x.left (search (rules, k)) (search (rules, k)) (search (rules, k)) (search (rules, k)),
+        x.left.ready,
+        x.left.alike,
+      );
+    }

@@ -1,0 +1,82 @@
+use Rattle.flush.specs.laws.StepLaws.{left_same, spaced_held, spaced_after, block_few, block_inside, node_clean, node_dirty, node_full, node_wrote, node_room}
+use Rattle.flush.specs.laws.TallyLaws.{words_room}
+use borrow.Author.Rules.{rules}
+use Rattle.flush.proofs.flush.write_node.Goals as goal
+
+ruleset laws = (rules, left_same, spaced_held, spaced_after, block_few, block_inside, node_clean, node_dirty, node_full, node_wrote, node_room, words_room)
+
+pub words_at-h-requires : goal.words_at-h-requires
+words_at-h-requires c = search laws
+
+pub shape_of-heads-then-h-ne1 : goal.shape_of-heads-then-h-ne1
+shape_of-heads-then-h-ne1 c = search laws
+
+pub returns-then-h-ne1 : goal.returns-then-h-ne1
+returns-then-h-ne1 c =
+    let a = c.args in
+    let p = c.requires in
+    record { wrote = node_clean _ _ _ a.t _ _ _ _ _ _ _ a.w p.alive _ c.words_at-h.ensures c.if-h-ne1.true; left = left_same _ _ _ _ _ _ _ _ _ p.standing; spaced = p.spaced_2 }
+
+pub alloc-chosen-requires : goal.alloc-chosen-requires
+alloc-chosen-requires c = search laws
+
+pub enum_known-chosen : goal.enum_known-chosen
+enum_known-chosen c = search laws
+
+pub enum_told-1 : goal.enum_told-1
+enum_told-1 c = search laws
+
+pub shape_of-bitmap-in_default : goal.shape_of-bitmap-in_default
+shape_of-bitmap-in_default c = search laws
+
+pub shape_of-free-in_default : goal.shape_of-free-in_default
+shape_of-free-in_default c = search laws
+
+pub shape_of-heads-in_default : goal.shape_of-heads-in_default
+shape_of-heads-in_default c = search laws
+
+pub returns-in_default : goal.returns-in_default
+returns-in_default c =
+    let a = c.args in
+    let p = c.requires in
+    let x = c.alloc-chosen.ensures in
+    record { wrote = node_full _ _ _ a.t _ _ _ _ _ _ _ a.w p.alive _ c.words_at-h.ensures c.if-h-ne1.false _ x.answer p.standing.same _ x.after c.in_default.is; left = left_same _ _ _ _ _ _ _ _ _ p.standing; spaced = spaced_after _ _ _ _ p.spaced_2 x.after }
+
+pub write_at-requires : goal.write_at-requires
+write_at-requires c =
+    let a = c.args in
+    let p = c.requires in
+    let x = c.alloc-chosen.ensures in
+    let i = c.in-Block.is in
+    let d = c.if-h-ne1.false in
+    record { standing = p.standing; dirty = node_dirty _ _ _ _ _ p.alive _ c.words_at-h.ensures d; size_in_bounds = (block_inside _ _ _ p.spaced_2 _ _ _ x.answer i, block_few _ _ _ p.spaced_2 _ _ _ x.answer i); room = node_room _ _ _ a.t _ _ _ _ _ _ _ a.w p.alive _ c.words_at-h.ensures d _ x.answer p.standing.same _ _ i p.fitting }
+
+pub shape_of-image : goal.shape_of-image
+shape_of-image c = search laws
+
+pub shape_of-bitmap : goal.shape_of-bitmap
+shape_of-bitmap c = search laws
+
+pub shape_of-free : goal.shape_of-free
+shape_of-free c = search laws
+
+pub shape_of-heads : goal.shape_of-heads
+shape_of-heads c = search laws
+
+pub shape_of-freed : goal.shape_of-freed
+shape_of-freed c = search laws
+
+pub shape_of-ids : goal.shape_of-ids
+shape_of-ids c = search laws
+
+pub shape_of-places : goal.shape_of-places
+shape_of-places c = search laws
+
+pub returns : goal.returns
+returns c =
+    let a = c.args in
+    let p = c.requires in
+    let x = c.alloc-chosen.ensures in
+    let i = c.in-Block.is in
+    let y = c.write_at.ensures in
+    record { wrote = node_wrote _ _ _ a.t _ _ _ _ _ _ _ a.w p.alive _ c.words_at-h.ensures c.if-h-ne1.false _ x.answer p.standing.same _ _ i _ _ _ _ _ _ _ x.after y.wrote; left = y.left; spaced = spaced_after _ _ _ _ p.spaced_2 x.after }

@@ -1,0 +1,18 @@
+use Rattle.tree.specs.laws.slots.OneSlot.{ready_part, ready_most, ready_few}
+use Rattle.tree.specs.laws.cut.Asked.{whole_dead, whole_room, whole_used, whole_long, whole_fits}
+use borrow.Author.Rules.{rules}
+use Rattle.tree.proofs.editor.Tree.fits_at.Goals as goal
+
+ruleset laws = (rules, ready_part, ready_most, ready_few, whole_dead, whole_room, whole_used, whole_long, whole_fits)
+
+pub returns-then-h-eq1 : goal.returns-then-h-eq1
+returns-then-h-eq1 c = search laws
+
+pub slot_of-part-requires : goal.slot_of-part-requires
+slot_of-part-requires c = search laws
+
+pub fits-requires : goal.fits-requires
+fits-requires c = search laws
+
+pub returns : goal.returns
+returns c = search laws

@@ -1,0 +1,56 @@
+use mathlib.Core.Path.{refl}
+use native.Mathlib.Omega.{arith}
+use Rattle.tree.specs.laws.cut.Part.{part_index, at_below, used_small, part_source, part_target, part_order, part_state, part_ready, part_follows}
+use borrow.Author.Rules.{rules}
+use Rattle.tree.proofs.editor.Tree.part_in.Goals as goal
+
+ruleset laws = (rules, part_index, at_below, used_small, part_source, part_target, part_order, part_state, part_ready)
+
+pub live_at-h-requires : goal.live_at-h-requires
+live_at-h-requires c = search laws
+
+pub overflow_mul-w : goal.overflow_mul-w
+overflow_mul-w c = search laws
+
+pub overflow_sub-rest : goal.overflow_sub-rest
+overflow_sub-rest c =
+    at_below _ _ _ _ _ c.args.self _ _ _ c.requires.ready_2 c.requires.used_lt_slots.0 c.requires.used_lt_slots.1 c.live_at-h.ensures c.requires.used_lt_slots.2 c.requires.used_lt_slots.3
+
+pub overflow_mul-n : goal.overflow_mul-n
+overflow_mul-n c =
+    omega (arith, part_source _ _ _ _ _ c.args.self _ _ _ c.requires.ready_2 c.requires.used_lt_slots.0 c.requires.used_lt_slots.1 c.live_at-h.ensures c.requires.used_lt_slots.2 c.requires.used_lt_slots.3, part_target _ _ _ _ _ c.args.self _ _ _ c.requires.ready_2 c.requires.used_lt_slots.0 c.requires.used_lt_slots.1 c.live_at-h.ensures c.requires.used_lt_slots.2 c.requires.used_lt_slots.3)
+
+pub overflow_add-n : goal.overflow_add-n
+overflow_add-n c =
+    omega (arith, part_source _ _ _ _ _ c.args.self _ _ _ c.requires.ready_2 c.requires.used_lt_slots.0 c.requires.used_lt_slots.1 c.live_at-h.ensures c.requires.used_lt_slots.2 c.requires.used_lt_slots.3, part_target _ _ _ _ _ c.args.self _ _ _ c.requires.ready_2 c.requires.used_lt_slots.0 c.requires.used_lt_slots.1 c.live_at-h.ensures c.requires.used_lt_slots.2 c.requires.used_lt_slots.3)
+
+pub overflow_mul-c : goal.overflow_mul-c
+overflow_mul-c c =
+    omega (arith, part_source _ _ _ _ _ c.args.self _ _ _ c.requires.ready_2 c.requires.used_lt_slots.0 c.requires.used_lt_slots.1 c.live_at-h.ensures c.requires.used_lt_slots.2 c.requires.used_lt_slots.3, part_target _ _ _ _ _ c.args.self _ _ _ c.requires.ready_2 c.requires.used_lt_slots.0 c.requires.used_lt_slots.1 c.live_at-h.ensures c.requires.used_lt_slots.2 c.requires.used_lt_slots.3)
+
+pub move_up-requires : goal.move_up-requires
+move_up-requires c =
+    (part_order _ _ _ _ _ c.args.self _ _ _ c.requires.ready_2 c.requires.used_lt_slots.0 c.requires.used_lt_slots.1 c.live_at-h.ensures c.requires.used_lt_slots.2 c.requires.used_lt_slots.3, part_target _ _ _ _ _ c.args.self _ _ _ c.requires.ready_2 c.requires.used_lt_slots.0 c.requires.used_lt_slots.1 c.live_at-h.ensures c.requires.used_lt_slots.2 c.requires.used_lt_slots.3)
+
+pub overflow_sub-right : goal.overflow_sub-right
+overflow_sub-right c =
+    part_index _ _ _ _ _ c.args.self _ _ _ c.requires.ready_2 c.requires.used_lt_slots.0 c.requires.used_lt_slots.1 c.live_at-h.ensures c.requires.used_lt_slots.2 c.requires.used_lt_slots.3
+
+pub store-requires : goal.store-requires
+store-requires c = search laws
+
+pub store-requires-2 : goal.store-requires-2
+store-requires-2 c = search laws
+
+pub overflow_add-self : goal.overflow_add-self
+overflow_add-self c = search laws
+
+pub shape_of-heads : goal.shape_of-heads
+shape_of-heads c = search laws
+
+pub shape_of-bytes : goal.shape_of-bytes
+shape_of-bytes c = search laws
+
+pub returns : goal.returns
+returns c =
+    record { after = part_state _ _ _ _ _ _ c.args.self _ _ _ _ _ _ _ c.requires.ready_2 c.requires.used_lt_slots.0 c.requires.used_lt_slots.1 c.live_at-h.ensures c.requires.used_lt_slots.2 c.requires.used_lt_slots.3 refl c.move_up.ensures c.store.ensures c.store-2.ensures refl; ready = part_ready _ _ _ _ _ _ c.args.self _ _ _ _ _ _ _ c.requires.ready_2 c.requires.used_lt_slots.0 c.requires.used_lt_slots.1 c.live_at-h.ensures c.requires.used_lt_slots.2 c.requires.used_lt_slots.3 refl c.move_up.ensures c.store.ensures c.store-2.ensures refl (search rules) (search rules); follows = part_follows _ _ _ _ _ _ c.args.self _ _ _ _ _ _ _ c.requires.ready_2 c.requires.used_lt_slots.0 c.requires.used_lt_slots.1 c.live_at-h.ensures c.requires.used_lt_slots.2 c.requires.used_lt_slots.3 refl c.move_up.ensures c.store.ensures c.store-2.ensures refl c.requires.fact }
