@@ -74,7 +74,15 @@ children (suc n) k = record { key = pair_key k 1; value = disk k } ∷ children 
 
 -- a root at an address, packed; it stores its true counts
 unfoldable pub root_of : BTreeInfo → ℕ → List Entry → List ℕ
-root_of t a es = pack_node (record { oid = a; xid = 1; otype = 0x40000002; subtype = 11; level = 0; root = true; info = with_counts t (length es) 1 }) es
+root_of t a es = pack_node (record {
+  oid = a;
+  xid = 1;
+  otype = 0x40000002;
+  subtype = 11;
+  level = 0;
+  root = true;
+  info = with_counts t (length es) 1;
+}) es
 
 -- 32 blocks of 512, a root at block 0, 64 slots, no map
 unfoldable pub lent512 : List ℕ → Lent

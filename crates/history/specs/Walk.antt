@@ -1,5 +1,5 @@
 -- The walk from a root on an image, each node loaded, slots aside; and trees that are well formed.
-use Rattle.std.specs.Prelude.{List, [], ◌∷◌, ◌++◌, Bool, true, false, cond, ◌&&◌, ℕ, zero, suc, ◌+◌, length, leb, eqb}
+use Rattle.std.specs.Prelude.{List, [], ◌∷◌, ◌++◌, Bool, true, false, cond, ◌&&◌, ℕ, zero, suc, length, leb, eqb}
 use Rattle.tree.specs.Format.{Result, ok, refused, ◌>>=◌, ◌>>◌, check, Entry, val_at, OnDisk, info_at, BTreeInfo, pair, known}
 use Rattle.tree.specs.Refusals as refusal
 use Rattle.tree.specs.Lent.{Lent, sizes_hold, block_at}

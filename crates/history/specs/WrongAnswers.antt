@@ -457,7 +457,8 @@ record_rows =
     }
     ∷ record {
       contract = "slot::below";
-      gives = place_of byte (3 ∷ []) two ∷ number (is_there byte (3 ∷ []) two) ∷ place_of byte (2 ∷ []) two ∷ number (is_there byte (2 ∷ []) two) ∷ [];
+      gives = place_of byte (3 ∷ []) two ∷ number (is_there byte (3 ∷ []) two) ∷ place_of byte (2 ∷ []) two ∷ number (is_there byte (2 ∷ []) two)
+          ∷ [];
       right = 1 ∷ 1 ∷ 1 ∷ 0 ∷ [];
       wrong = 2 ∷ 1 ∷ 1 ∷ 0 ∷ [];
       wrong' = 1 ∷ 1 ∷ 1 ∷ 1 ∷ [];
@@ -736,7 +737,13 @@ tree_rows =
       wrong = 2 ∷ 3 ∷ 2 ∷ 1 ∷ [];
       wrong' = 2 ∷ 4 ∷ 1 ∷ 1 ∷ [];
     }
-    ∷ record { contract = "Tree::get: a value"; gives = got_as (got 3 (1 ∷ 2 ∷ [])); right = 0 ∷ 1 ∷ 9 ∷ []; wrong = 0 ∷ []; wrong' = 0 ∷ 0xFFFF ∷ [] }
+    ∷ record {
+      contract = "Tree::get: a value";
+      gives = got_as (got 3 (1 ∷ 2 ∷ []));
+      right = 0 ∷ 1 ∷ 9 ∷ [];
+      wrong = 0 ∷ [];
+      wrong' = 0 ∷ 0xFFFF ∷ [];
+    }
     ∷ record { contract = "Tree::get: a ghost"; gives = got_as (got 3 (3 ∷ [])); right = 0 ∷ 0xFFFF ∷ []; wrong = 0 ∷ []; wrong' = 0 ∷ 0 ∷ [] }
     ∷ record { contract = "Tree::get: none"; gives = got_as (got 3 (1 ∷ [])); right = 0 ∷ []; wrong = 0 ∷ 1 ∷ 9 ∷ []; wrong' = 0 ∷ 0xFFFF ∷ [] }
     ∷ record {
@@ -749,7 +756,8 @@ tree_rows =
     }
     ∷ record {
       contract = "Tree::get: the output of a value, of a ghost and of a refusal";
-      gives = got_output (5 ∷ 6 ∷ []) (got 2 (1 ∷ 2 ∷ [])) ++ got_output (5 ∷ 6 ∷ []) (got 2 (3 ∷ [])) ++ got_output (5 ∷ 6 ∷ []) (got 0 (1 ∷ 2 ∷ []));
+      gives = got_output (5 ∷ 6 ∷ []) (got 2 (1 ∷ 2 ∷ [])) ++ got_output (5 ∷ 6 ∷ []) (got 2 (3 ∷ []))
+          ++ got_output (5 ∷ 6 ∷ []) (got 0 (1 ∷ 2 ∷ []));
       right = 9 ∷ 6 ∷ 5 ∷ 6 ∷ 5 ∷ 6 ∷ [];
       wrong = 9 ∷ 0 ∷ 5 ∷ 6 ∷ 5 ∷ 6 ∷ [];
       wrong' = 9 ∷ 6 ∷ 5 ∷ 6 ∷ 9 ∷ 6 ∷ [];
@@ -831,7 +839,8 @@ call_rows =
     }
     ∷ record {
       contract = "Tree::omap_drop: every version of an id; an id that has none; a tree that is no object map";
-      gives = map_edited pair 16 (λ l s. omap_drop l s 5) ++ map_edited pair 16 (λ l s. omap_drop l s 4) ++ map_edited byte 16 (λ l s. omap_drop l s 5);
+      gives = map_edited pair 16 (λ l s. omap_drop l s 5) ++ map_edited pair 16 (λ l s. omap_drop l s 4)
+          ++ map_edited byte 16 (λ l s. omap_drop l s 5);
       right = (0 ∷ 0 ∷ []) ++ (0 ∷ 2 ∷ records_of versions) ++ 12 ∷ [];
       wrong = (0 ∷ 1 ∷ records_of (drop 1 versions)) ++ (0 ∷ 2 ∷ records_of versions) ++ 12 ∷ [];
       wrong' = (0 ∷ 0 ∷ []) ++ (0 ∷ 0 ∷ []) ++ 12 ∷ [];

@@ -1,5 +1,5 @@
 -- Refusal 1 comes back only where its condition holds: slots or lent sizes that do not, or in flush chunks or lists. Every call, on any slots.
-use Rattle.std.specs.Prelude.{◌≡◌, refl, List, [], ◌∷◌, Bool, true, false, ◌&&◌, ℕ, ◌-◌}
+use Rattle.std.specs.Prelude.{◌≡◌, refl, List, [], ◌∷◌, Bool, true, false, ◌&&◌, ℕ}
 use Rattle.std.proofs.Common.{sym, ap}
 use Rattle.node.specs.Result.{Result, ok, refused, ◌>>=◌, ◌>>◌, check}
 use Rattle.node.specs.Refusals as refusal

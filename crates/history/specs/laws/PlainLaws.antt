@@ -112,7 +112,8 @@ id_range id k h g =
     (λ e. let w : ltb (u64_at k 0) (suc id) ≡ true = lt-ltb (u64_at k 0) (suc id) (omega (arith, eqb-true (u64_at k 0) id e)) in rw
     (t, a, u, e, z, b, w))
     (λ e.
-    let w : ltb (u64_at k 0) (suc id) ≡ false = le-ltb (u64_at k 0) (suc id) (omega (arith, ltb-false (u64_at k 0) id u, eqb-false (u64_at k 0) id e)) in
+    let w : ltb (u64_at k 0) (suc id) ≡ false = le-ltb (u64_at k 0) (suc id)
+    (omega (arith, ltb-false (u64_at k 0) id u, eqb-false (u64_at k 0) id e)) in
     rw (t, a, u, e, b, w, z) (and-false (eqb (u64_at k 0) (suc id))))))
 
 -- keys removed one after the other

@@ -34,7 +34,8 @@ Every P [] = Unit {0}
 Every P (e ∷ es) = P e × Every P es
 
 -- what a span that holds says of its entry, of all entries
-every_from : (P : Entry → Type 0) (v : Node) (b : List ℕ) → ((i : ℕ) → span_holds v (length b) (span_at v b i) ≡ true → P (entry_at v b i)) → (i n : ℕ)
+every_from : (P : Entry → Type 0) (v : Node) (b : List ℕ) → ((i : ℕ) → span_holds v (length b) (span_at v b i) ≡ true → P (entry_at v b i))
+    → (i n : ℕ)
     → spans_hold v b i n ≡ true → Every P (entries_from v b i n)
 unfolding entries_from spans_hold
 every_from P v b f i zero h = tt

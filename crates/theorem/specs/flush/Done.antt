@@ -35,7 +35,8 @@ total_own rd at f zero m = le_refl _
 total_own rd at f (suc l) m = omega arith
 
 -- a block of a dead slot
-dead_at : {X : Type 0} (a : ℕ) (ns : List MemNode) → ((c : ℕ) → c < length ns → (get_or ns c no_node).dead ≡ true → 1 ≤ uses a (get_or ns c no_node).block
+dead_at : {X : Type 0} (a : ℕ) (ns : List MemNode) → ((c : ℕ) → c < length ns → (get_or ns c no_node).dead ≡ true
+    → 1 ≤ uses a (get_or ns c no_node).block
     → X) → 1 ≤ uses a (dead_blocks ns) → X
 unfolding dead_blocks uses
 dead_at a [] f h = absurd (omega arith)

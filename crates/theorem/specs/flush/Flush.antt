@@ -70,8 +70,10 @@ map_formed_lem x x' bytes size long (m ∷ ms) agree h = go (walk_from (map_disk
         same : (a : ℕ) → 1 ≤ uses a (map_blocks x (m ∷ ms)) → block_at (lent_of x') a ≡ block_at (lent_of x) a
         same a q = unfold block_at in agree a q
 
-    go : (z : Result Walked) → walk_from (map_disk x) m ≡ z → counts_hold (walk_from (map_disk x') m) && lengths_are16 (walk_from (map_disk x') m) ≡ true
-    go (refused n) e = never (and_left (counts_hold (walk_from (map_disk x) m)) (lengths_are16 (walk_from (map_disk x) m)) h) (ap counts_hold e ∙ none n)
+    go : (z : Result Walked) → walk_from (map_disk x) m ≡ z → counts_hold (walk_from (map_disk x') m)
+        && lengths_are16 (walk_from (map_disk x') m) ≡ true
+    go (refused n) e = never (and_left (counts_hold (walk_from (map_disk x) m)) (lengths_are16 (walk_from (map_disk x) m)) h)
+        (ap counts_hold e ∙ none n)
       where
         none : (n : ℕ) → counts_hold (refused n) ≡ false
         none n = unfold counts_hold in refl

@@ -84,7 +84,9 @@ entry_bytes t ko vo e = go (fixed t)
 toc_bytes : (t : BTreeInfo) (ko vo : ℕ) (es : List Entry) → Bytes (toc t ko vo es)
 unfolding toc
 toc_bytes t ko vo [] = bytes_nil
-toc_bytes t ko vo (e ∷ es) = bytes_append _ _ (entry_bytes t ko _ e) (toc_bytes t _ _ es)
+toc_bytes t ko vo (e ∷ es) =
+    let vo' : ℕ = vo + padded t (value_length e.value) in
+    bytes_append _ _ (entry_bytes t ko vo' e) (toc_bytes t (ko + padded t (length e.key)) vo' es)
 
 keys_bytes : (t : BTreeInfo) (es : List Entry) → AllBytes es → Bytes (key_area t es)
 unfolding key_area

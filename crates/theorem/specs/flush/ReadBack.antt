@@ -13,7 +13,7 @@ use Rattle.node.specs.Pack.{numbered, numbered_value}
 use Rattle.node.specs.Read.{OnDisk}
 use Rattle.node.specs.Slot.{MemNode}
 use Rattle.node.specs.laws.base.Tests.{by_test, never}
-use Rattle.tree.specs.Lent.{Lent, blocks, block_at}
+use Rattle.tree.specs.Lent.{Lent, block_at}
 use Rattle.tree.specs.State.{State, node_at, no_node}
 use Rattle.tree.specs.Load.{unbounded, load_block, child_place, adopted}
 use Rattle.flush.specs.Space.{Space}

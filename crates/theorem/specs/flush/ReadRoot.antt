@@ -2,7 +2,7 @@
 use Rattle.std.specs.Prelude.{◌≡◌, Bool, ◌&&◌, length}
 use Rattle.std.proofs.Math.Path.{refl, sym, ap, ap₂}
 use Rattle.std.proofs.Common.{◌∙◌, arith, eq-eqb}
-use mathlib.Core.List.{List, [], map}
+use mathlib.Core.List.{List, []}
 use Rattle.std.proofs.Math.Bool.{true, false, cond}
 use Prim.Native.Nat.{ℕ, ◌+◌, ◌≤◌}
 use Rattle.std.proofs.Math.Dec.{eqb, leb}

@@ -1,6 +1,6 @@
 -- The walk of the disk that flush leaves: it is accepted, gives the plain list, and meets the blocks where flush left the tree's nodes.
 -- Assumes nothing.
-use Rattle.std.specs.Prelude.{◌≡◌, List, ◌∷◌, map, Bool, true, false, cond, ℕ, ◌+◌, ◌≤◌, length, get_or, leb}
+use Rattle.std.specs.Prelude.{◌≡◌, List, ◌∷◌, Bool, true, false, cond, ℕ, ◌+◌, ◌≤◌, length, get_or, leb}
 use Rattle.std.proofs.Math.Path.{refl, sym}
 use Rattle.std.proofs.Common.{ap, ◌∙◌}
 use native.Mathlib.Omega.{arith}
@@ -10,7 +10,7 @@ use Rattle.node.specs.Read.{OnDisk, info_at}
 use Rattle.node.specs.Slot.{MemNode}
 use Rattle.node.specs.laws.base.Tests.{by_test}
 use Rattle.node.specs.declared.info.BTreeInfo.{BTreeInfo}
-use Rattle.tree.specs.Lent.{Lent, blocks, block_at}
+use Rattle.tree.specs.Lent.{Lent, block_at}
 use Rattle.tree.specs.State.{State, node_at, no_node}
 use Rattle.tree.specs.Load.{unbounded, load_block, root_place, root_holds, adopted}
 use Rattle.flush.specs.Space.{Space}

@@ -4,7 +4,7 @@ use Rattle.std.proofs.Math.Path.{refl, ap, subst}
 use Rattle.std.proofs.Common.{sym, ap₂, ◌∙◌, mul-le-mul_right, suc-mul, arith, length-set, get_or-set_same, get_or-set_other, leb-true, leb-false, ltb-true, ltb-false, eqb-true}
 use mathlib.Core.List.{List, [], ◌∷◌, map}
 use Rattle.std.proofs.Math.Bool.{true, false, cond}
-use Prim.Native.Nat.{ℕ, zero, suc, ◌+◌, ◌-◌, ◌*◌, ◌≤◌, ◌<◌}
+use Prim.Native.Nat.{ℕ, zero, suc, ◌+◌, ◌*◌, ◌≤◌, ◌<◌}
 use Rattle.std.proofs.Math.ListN.{set}
 use Rattle.std.proofs.lemmas.Bool.{eqb-false}
 use Rattle.seal.specs.Bytes.{window, splice}
@@ -260,7 +260,8 @@ module _ (s : State) (xid n : ℕ) where
       a_free = (chosen s.info.node_size w.space x xs choice).block.is_free
 
       v_own : get_or v.nodes c no_node ≡ rewritten (node_at s c) a (id_of (node_at s c))
-      v_own = ap (λ (z : List MemNode). get_or z c no_node) v_nodes ∙ get_or-set_same w.nodes c (rewritten (node_at s c) a (id_of (node_at s c))) no_node
+      v_own = ap (λ (z : List MemNode). get_or z c no_node) v_nodes
+          ∙ get_or-set_same w.nodes c (rewritten (node_at s c) a (id_of (node_at s c))) no_node
           (omega (arith, used, r.count))
 
       v_other : (d : ℕ) → (d ≡ c → ⊥) → get_or v.nodes d no_node ≡ get_or w.nodes d no_node
@@ -412,7 +413,8 @@ module _ (s : State) (xid n : ℕ) where
         let z = bare_entry l e.value h in
         let sm : sum_kids (count l) (e ∷ es) ≡ sum_kids (count l) es = sum_none (count l) e es h in
         subst (Wrote (λ x. slots_in rd (node_at s) l x (e ∷ es)) (sum_kids (count l) (e ∷ es)) w) (sym (kids_none (write_from l s xid) e es w h))
-        (wrote_as (λ x. slots_in rd (node_at s) l x es) (λ x. slots_in rd (node_at s) l x (e ∷ es)) (sum_kids (count l) es) (sum_kids (count l) (e ∷ es)) w
+        (wrote_as (λ x. slots_in rd (node_at s) l x es) (λ x. slots_in rd (node_at s) l x (e ∷ es)) (sum_kids (count l) es)
+        (sum_kids (count l) (e ∷ es)) w
         (write_kids (write_from l s xid) es w) (λ x. omega (arith, z x)) (sym sm)
         (walk_writes l ih es w rest r (λ x p. fresh x (omega arith)) (omega (arith, sm, enough)))))
         (λ c q.

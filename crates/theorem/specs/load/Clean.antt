@@ -71,7 +71,8 @@ dead_append (x ∷ ms) m h = ap (λ (z : List ℕ). cond x.dead x.block [] ++ z)
 module _ (g : Start) (τ : Terms) (th : List ℕ) (begins : Begins g) (s : State) (n j r : ℕ) (xs : List Entry) (k : List ℕ) (ys : List Entry)
     (row : (node_at s n).entries ≡ xs ++ record { key = k; value = disk r } ∷ ys) (used : n < length s.nodes) (high : (node_at s n).level ≡ suc j)
     (virtual : s.virtual ≡ g.state.virtual) (root : s.root < length s.nodes) (room : length s.nodes < g.disk.lent.slots)
-    (live : (found g τ r).dead ≡ false) (bare : (at : ℕ → MemNode) (l d : ℕ) → slots (found g τ) at l d (found g τ r) ≡ 0) (flat : Flat g τ th s) where
+    (live : (found g τ r).dead ≡ false) (bare : (at : ℕ → MemNode) (l d : ℕ) → slots (found g τ) at l d (found g τ r) ≡ 0)
+    (flat : Flat g τ th s) where
   abbrev u : State
   u = fetched τ (found g τ) s n j r xs k ys row used high
 

@@ -3,7 +3,6 @@ use Rattle.std.specs.Prelude.{◌≡◌, List, [], ◌∷◌, ◌++◌, Bool, tr
 use Rattle.std.proofs.Math.Path.{refl}
 use Rattle.std.proofs.Common.{sym, ap, ap₂, subst, ◌∙◌, arith, ltb-true, ltb-false, eqb-true}
 use Rattle.std.proofs.lemmas.Bool.{eqb-false}
-use Rattle.node.specs.Result.{ok}
 use Rattle.node.specs.Entry.{Entry, disk, mem}
 use Rattle.node.specs.Slot.{MemNode}
 use Rattle.node.specs.laws.base.Tests.{by_test}

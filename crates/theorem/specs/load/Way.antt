@@ -19,7 +19,7 @@ use Rattle.tree.specs.laws.state.State.{val_used}
 use Rattle.tree.specs.laws.state.Load.{brought, by_load, load_child_lem}
 use Rattle.history.specs.Statement.{Start, uses, Begins, Lends}
 use Rattle.theorem.specs.model.Bounds.{Terms, K, KeyIn}
-use Rattle.theorem.specs.model.Lazy.{node_of, cont, total, slots, Child, Ok, ok_level, ok_live}
+use Rattle.theorem.specs.model.Lazy.{node_of, cont, total, Child, Ok, ok_level, ok_live}
 use Rattle.theorem.specs.model.Lift.{Parts, parts, apart_sums}
 use Rattle.theorem.specs.steps.LeafAndKeys.{Once}
 use Rattle.theorem.specs.steps.Way.{Reads, Owned, Still, still_refl, still_then, Led, led, Loaded, load_loaded}
@@ -66,7 +66,8 @@ module _ (g : Start) (τ : Terms) (th : List ℕ) (begins : Begins g) (l : Lent)
       let v : e.value ≡ disk r = sym at ∙ q in
       let row' : (node_at s n).entries ≡ xs ++ record { key = e.key; value = disk r } ∷ ys =
       row ∙ ap (λ (z : Val). xs ++ record { key = e.key; value = z } ∷ ys) v in
-      let node : node_of (found g τ) (node_at s) e.value ≡ found g τ r = ap (node_of (found g τ) (node_at s)) v ∙ node_disk (found g τ) (node_at s) r in
+      let node : node_of (found g τ) (node_at s) e.value ≡ found g τ r = ap (node_of (found g τ) (node_at s)) v
+      ∙ node_disk (found g τ) (node_at s) r in
       let p₀ : Parts (K τ) (Child τ (Ok τ (found g τ) (node_at s) j) (node_of (found g τ) (node_at s))) lo hi (lo + K τ e.key) xs e ys =
       parts (lo + K τ e.key) xs (omega arith) (λ z. omega arith) (rw row at okn.items) in
       let okr : Ok τ (found g τ) (node_at s) j (K τ e.key) p₀.up_to (found g τ r) = rw node at p₀.own.ok in
@@ -124,7 +125,8 @@ module _ (g : Start) (τ : Terms) (th : List ℕ) (begins : Begins g) (l : Lent)
             ));
       }
 
-  pub below : (s : State) (bs : Bounds) (j n lo hi : ℕ) (xs : List Entry) (e : Entry) (ys : List Entry) (a : At) → (node_at s n).entries ≡ xs ++ e ∷ ys
+  pub below : (s : State) (bs : Bounds) (j n lo hi : ℕ) (xs : List Entry) (e : Entry) (ys : List Entry) (a : At)
+      → (node_at s n).entries ≡ xs ++ e ∷ ys
       → Ok τ (found g τ) (node_at s) (suc j) lo hi (node_at s n) → Owned τ (found g τ) l (Old g) s (suc j) n → load_child l s bs n (length xs) ≡ ok a
       → Loads τ (found g τ) s a.state
       → Below s a.state j e a.slot

@@ -71,7 +71,8 @@ module _ (g : Start) (τ : Terms) (th : List ℕ) (begins : Begins g) (l : Lent)
     pub before : conts (found g τ) (node_at u) j front ≡ conts (found g τ) (node_at s) j xs
     pub holds : conts (found g τ) (node_at u) j back ≡ conts (found g τ) (node_at s) j ys
 
-  pub rest : (s u : State) (j n lo hi : ℕ) (xs ys : List Entry) → Stands s (suc j) n lo hi → (node_at s n).entries ≡ xs ++ ys → Loads τ (found g τ) s u
+  pub rest : (s u : State) (j n lo hi : ℕ) (xs ys : List Entry) → Stands s (suc j) n lo hi → (node_at s n).entries ≡ xs ++ ys
+      → Loads τ (found g τ) s u
       → Rest s u j n xs ys
   rest s u j n lo hi xs ys h row ld =
       let used : n < length s.nodes = live_used s n (ok_live τ (found g τ) (node_at s) (suc j) lo hi (node_at s n) h.ok) in

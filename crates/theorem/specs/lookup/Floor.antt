@@ -112,7 +112,8 @@ module _ (τ : Terms) (k : List ℕ) (kk : KeyIn τ k) where
     floor_right (z ∷ zs) r h = floor_above mid_rows (conts_rows τ rd (node_at s) j (tight r)) (h (suc (K τ k)) (le_refl _))
 
     -- before it: nothing, or entries below the key
-    floor_left : {m : ℕ} (zs : List Entry) → Items (K τ) (Child τ (Ok τ rd (node_at s) j) (node_of rd (node_at s))) lo m zs → (0 < length zs → m ≤ K τ k)
+    floor_left : {m : ℕ} (zs : List Entry) → Items (K τ) (Child τ (Ok τ rd (node_at s) j) (node_of rd (node_at s))) lo m zs
+        → (0 < length zs → m ≤ K τ k)
         → (ws : List Entry)
         → plain_floor τ.order k (conts rd (node_at s) j zs ++ ws) ≡ later (plain_floor τ.order k ws) (last_of (conts rd (node_at s) j zs))
     floor_left [] r h ws = later_none (plain_floor τ.order k ws)

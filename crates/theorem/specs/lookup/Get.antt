@@ -3,7 +3,6 @@ use Rattle.std.specs.Prelude.{◌≡◌, List, [], ◌∷◌, ◌++◌, true, �
 use Rattle.std.proofs.Math.Path.{refl, sym, ap}
 use Rattle.std.proofs.Common.{◌∙◌, append-nil, le_refl, le_trans, arith}
 use Rattle.seal.specs.Bytes.{AreBytes}
-use Rattle.node.specs.Result.{ok}
 use Rattle.node.specs.laws.base.Results.{Holds, holds_ok, holds_bind, holds_check}
 use Rattle.node.specs.Refusals as refusal
 use Rattle.node.specs.Order.{keyed}

@@ -3,7 +3,6 @@ use Rattle.std.specs.Prelude.{◌≡◌, refl, false, length, eqb}
 use Rattle.std.proofs.Common.{sym, ap, ◌∙◌, arith, length-append, ne_eqb}
 use mathlib.Core.List.{List, [], ◌∷◌, ◌++◌, append-nil}
 use Prim.Native.Nat.{ℕ, zero, suc, ◌+◌, ◌-◌, ◌<◌}
-use Rattle.node.specs.Result.{ok}
 use Rattle.node.specs.laws.base.Results.{Holds, holds_ok, holds_bind, holds_imp}
 use Rattle.node.specs.Entry.{Entry}
 use Rattle.node.specs.Find.{last_of}

@@ -11,7 +11,6 @@ use Rattle.std.proofs.Math.ListN.{length, length-append}
 use Rattle.std.proofs.Math.Dec.{ltb}
 use borrow.Author.Tests.{lt-ltb, le-ltb}
 use Rattle.seal.specs.Bytes.{AreBytes}
-use Rattle.node.specs.Result.{ok}
 use Rattle.node.specs.laws.base.Results.{Holds, holds_ok, holds_bind, holds_check, holds_imp}
 use Rattle.node.specs.Refusals as refusal
 use Rattle.node.specs.Order.{keyed, less}
@@ -152,7 +151,8 @@ module _ (g : Start) (τ : Terms) (th : List ℕ) (begins : Begins g) (l : Lent)
     -- the children from child i on, m of them
     abbrev Kids : ℕ → Type 0
     Kids m =
-        (i : ℕ) (s : State) (bs : Bounds) (n lo hi : ℕ) (xs ys : List Entry) → Here s (suc j) n lo hi → (node_at s n).entries ≡ xs ++ ys → length xs ≡ i
+        (i : ℕ) (s : State) (bs : Bounds) (n lo hi : ℕ) (xs ys : List Entry) → Here s (suc j) n lo hi → (node_at s n).entries ≡ xs ++ ys
+        → length xs ≡ i
         → length ys ≡ m
         → Holds (Ranged s (conts (found g τ) (node_at s) j ys)) (range_kids (range_from j l a b) l s bs n a b m i)
 

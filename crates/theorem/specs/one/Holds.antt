@@ -21,7 +21,7 @@ use Rattle.tree.specs.Hold.{hold_together, info_holds, numbers_hold, lent_holds}
 use Rattle.tree.specs.laws.trust.Open.{open_holds}
 use Rattle.history.specs.Statement.{Start, Begins, Lends}
 use Rattle.theorem.specs.model.Bounds.{Terms, K, Items, nil, cons, KeyOk, Row, value_sized}
-use Rattle.theorem.specs.model.Lazy.{node_of, names, slots, Child, Ok, ok_level, ok_live}
+use Rattle.theorem.specs.model.Lazy.{node_of, names, Child, Ok, ok_level, ok_live}
 use Rattle.theorem.specs.steps.Grow.{names_apart}
 use Rattle.theorem.specs.flush.Reach.{reach}
 use Rattle.theorem.specs.model.Good.{Slot, Clean, Kept, found, Suits, Good}

@@ -42,7 +42,8 @@ module _ (τ : Terms) (rd : ℕ → MemNode) (k : List ℕ) (kk : KeyIn τ k) wh
         ≡ slots_in rd (node_at s) l d xs + (names d (mem c) + slots rd (node_at s) l d (node_at s c) + slots_in rd (node_at s) l d ys)
     sum d =
         apart_uses rd (node_at s) l (node_at s n) xs e ys row d
-        ∙ ap₂ (λ (v : Val) (m : MemNode). slots_in rd (node_at s) l d xs + (names d v + slots rd (node_at s) l d m + slots_in rd (node_at s) l d ys)) val
+        ∙ ap₂ (λ (v : Val) (m : MemNode). slots_in rd (node_at s) l d xs
+        + (names d v + slots rd (node_at s) l d m + slots_in rd (node_at s) l d ys)) val
         node_c
 
     sums : (f : MemNode → ℕ) → total rd (node_at s) f (suc l) (node_at s n)

@@ -54,7 +54,8 @@ module _ (τ : Terms) (rd : ℕ → MemNode) (k : List ℕ) (kk : KeyIn τ k) wh
   remove_local = record { right = λ lo m xs ys r h. remove_right τ k kk ys r h; left = λ lo m lo' hi xs ys r r' h. remove_left τ k kk r r' h }
 
   -- one leaf: the bounds are kept
-  remove_rows_lem : {lo lo' hi : ℕ} {es : List Entry} → Items (K τ) (Row τ) lo hi es → lo' ≤ lo → Items (K τ) (Row τ) lo' hi (plain_remove τ.order k es)
+  remove_rows_lem : {lo lo' hi : ℕ} {es : List Entry} → Items (K τ) (Row τ) lo hi es → lo' ≤ lo
+      → Items (K τ) (Row τ) lo' hi (plain_remove τ.order k es)
   unfolding plain_remove
   remove_rows_lem (nil e) z = nil (le_trans z e)
   remove_rows_lem (cons {m = m} {e = x} e p r) z =

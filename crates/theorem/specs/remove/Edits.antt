@@ -19,7 +19,7 @@ use Rattle.theorem.specs.model.Good.{found, Old, Suits, Good}
 use Rattle.theorem.specs.load.Way as flats
 use Rattle.theorem.specs.lookup.Range as ranges
 use Rattle.theorem.specs.upsert.Upsert as upserts
-use Rattle.theorem.specs.upsert.Call as upsertIn
+use Rattle.theorem.specs.upsert.Call as upsert_in
 use Rattle.theorem.specs.remove.Remove as removes
 use Rattle.theorem.specs.remove.Omap as omaps
 

@@ -122,7 +122,10 @@ pair_ok τ id xid o m k =
 value_ok : (τ : Terms) (size address : ℕ) → τ.ksize ≡ 16 → τ.vsize ≡ 16 → ValueOk τ (leaf (omap_value size address))
 unfolding value_sized value_bytes
 value_ok τ size address k v =
-    record { sized = rw (k, v) (eq-eqb (length (omap_value size address)) 16 (length_omap_value size address)); bytes = bytes_omap_value size address }
+    record {
+      sized = rw (k, v) (eq-eqb (length (omap_value size address)) 16 (length_omap_value size address));
+      bytes = bytes_omap_value size address;
+    }
 
 ends_in : (τ : Terms) (id : ℕ) → τ.order ≡ pair → 65536 ≤ τ.most → (k : List ℕ) (ks : List (List ℕ)) → versions_end id ≡ k ∷ ks → KeyIn τ k
 unfolding versions_end

@@ -56,7 +56,8 @@ module _ (τ : Terms) (rd : ℕ → MemNode) where
         ≡ slots_in rd (node_at s) l d xs + (names d (mem c) + slots rd (node_at s) l d (node_at s c) + slots_in rd (node_at s) l d ys)
     kid_sum d =
         apart_uses rd (node_at s) l (node_at s n) xs e ys row d
-        ∙ ap₂ (λ (v : Val) (m : MemNode). slots_in rd (node_at s) l d xs + (names d v + slots rd (node_at s) l d m + slots_in rd (node_at s) l d ys)) val
+        ∙ ap₂ (λ (v : Val) (m : MemNode). slots_in rd (node_at s) l d xs
+        + (names d v + slots rd (node_at s) l d m + slots_in rd (node_at s) l d ys)) val
         node_c
 
     abbrev m : Parts (K τ) (Child τ (Ok τ rd (node_at s) l) (node_of rd (node_at s))) lo hi (lo + K τ e.key) xs e ys

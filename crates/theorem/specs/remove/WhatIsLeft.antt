@@ -38,7 +38,8 @@ pub data Stub (s : State) : ℕ → ℕ → List Step → Type 0 where
 
 -- slots that are dead and empty stay so
 pub off_frame : (u w : State) (ps : List Step)
-    → ((d : ℕ) → (node_at u d).dead ≡ true → (node_at u d).entries ≡ [] → ((node_at w d).dead ≡ true) × ((node_at w d).entries ≡ [])) → Off u ps → Off w ps
+    → ((d : ℕ) → (node_at u d).dead ≡ true → (node_at u d).entries ≡ [] → ((node_at w d).dead ≡ true) × ((node_at w d).entries ≡ [])) → Off u ps
+    → Off w ps
 off_frame u w [] f h = tt
 off_frame u w (x ∷ ps) f h = let g = f x.slot h.0 h.1 in (g.0, g.1, off_frame u w ps f h.2)
 

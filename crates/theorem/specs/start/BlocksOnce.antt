@@ -75,7 +75,8 @@ module _ (τ : Terms) (x : Disk) where
   spot_up k z (none e) = none (omega arith)
   spot_up k z (here e a c d) = here (omega arith) (omega arith) c d
 
-  spot_own : {b l lo hi n : ℕ} (k : ℕ) → k ≡ 1 → stored b ≡ suc l → lo ≤ first_in b → first_in b < hi → Spot b l lo hi n → Spot b (suc l) lo hi (k + n)
+  spot_own : {b l lo hi n : ℕ} (k : ℕ) → k ≡ 1 → stored b ≡ suc l → lo ≤ first_in b → first_in b < hi → Spot b l lo hi n
+      → Spot b (suc l) lo hi (k + n)
   spot_own k z f p q (none e) = here (omega arith) (omega arith) p q
   spot_own k z f p q (here e a c d) = absurd (omega arith)
 

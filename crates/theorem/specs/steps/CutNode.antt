@@ -172,7 +172,8 @@ module _ (τ : Terms) (rd : ℕ → MemNode) (s : State) (l p n lo hi c : ℕ) (
   row' = ap (λ (z : MemNode). z.entries) u_top ∙ ap (insert_at (suc (length xs)) e₂) (ap (λ (z : MemNode). z.entries) p_same ∙ row)
       ∙ insert_after e₂ xs e ys
 
-  agree : (d : ℕ) → 1 ≤ slots_in rd (node_at s) l d xs + slots rd (node_at s) l d (node_at s n) + slots_in rd (node_at s) l d ys → node_at u d ≡ node_at s d
+  agree : (d : ℕ) → 1 ≤ slots_in rd (node_at s) l d xs + slots rd (node_at s) l d (node_at s n) + slots_in rd (node_at s) l d ys
+      → node_at u d ≡ node_at s d
   agree d h = u_other d (one.used d (omega (arith, sum d))) (λ q. p_off d q (omega (arith, sum d))) (λ q. n_off d q h)
 
   fx : Sames τ rd (node_at s) (node_at u) l xs
@@ -217,7 +218,8 @@ module _ (τ : Terms) (rd : ℕ → MemNode) (s : State) (l p n lo hi c : ℕ) (
   parts_use = halves_uses τ rd (node_at s) (node_at u) (node_at s n) (node_at u n)
       (node_at u r) _ _ apart left_row right_row left_level right_level left_dead right_dead l (λ d h. agree d (omega arith))
 
-  parts_sum : (f : MemNode → ℕ) → Steady f → total rd (node_at u) f l (node_at u n) + total rd (node_at u) f l (node_at u r) ≡ total rd (node_at s) f l
+  parts_sum : (f : MemNode → ℕ) → Steady f → total rd (node_at u) f l (node_at u n) + total rd (node_at u) f l (node_at u r)
+      ≡ total rd (node_at s) f l
       (node_at s n)
   unfolding changed made
   parts_sum f h =

@@ -1,9 +1,9 @@
 -- Cuts on a way, bottom up, below its top: what the top holds is as it was, within its bounds. Assumes nothing.
-use Rattle.std.specs.Prelude.{◌≡◌, List, [], ◌∷◌, ◌++◌, ◌||◌, ℕ, suc, ◌+◌, ◌≤◌, take, drop, eqb}
+use Rattle.std.specs.Prelude.{◌≡◌, List, [], ◌∷◌, ◌++◌, ◌||◌, ℕ, suc, ◌≤◌, take, drop, eqb}
 use Rattle.std.proofs.Math.Path.{refl, ap}
 use Rattle.std.proofs.Common.{◌∙◌, arith}
 use Rattle.std.proofs.Math.ListN.{length}
-use Rattle.node.specs.Result.{Result, ok, ◌>>=◌, ◌>>◌}
+use Rattle.node.specs.Result.{Result, ok, ◌>>=◌}
 use Rattle.node.specs.laws.base.Results.{Holds, holds_ok, holds_bind, holds_then}
 use Rattle.node.specs.Entry.{Entry, mem}
 use Rattle.node.specs.Fit.{fits}

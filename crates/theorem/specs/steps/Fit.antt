@@ -206,7 +206,8 @@ more_node u k d = refl
 
 -- the slots under a new root have the levels, entries and marks that they had
 module _ (t : State) (n r d : ℕ) (used : n < length t.nodes) (old : d < length t.nodes) where
-  under_each : {A : Type 0} (f : MemNode → A) → f (with_place (node_at t n) [] []) ≡ f (node_at t n) → f (node_at (grow_root t n r) d) ≡ f (node_at t d)
+  under_each : {A : Type 0} (f : MemNode → A) → f (with_place (node_at t n) [] []) ≡ f (node_at t n)
+      → f (node_at (grow_root t n r) d) ≡ f (node_at t d)
   under_each f e =
       by_test (eqb d n)
       (λ v. let q : d ≡ n = eqb-true d n v in rw q (ap f (grown_old t n r used) ∙ e))
@@ -311,7 +312,8 @@ module _ (l : Lent) (s : State) where
       (λ t. omega (arith, fits_room s.info _ _ _ (or_right (node_at s n).dead _ live t)))
       (λ c _ ps _ room. part_room s.info (node_at s n).level (node_at s n).entries c ps)
 
-  room_below : (p x : Step) (ps : List Step) → (node_at s (leaf_of (x ∷ ps))).dead ≡ false → Holds (Roomy (leaf_of (x ∷ ps))) (cuts l (p ∷ []) (x ∷ ps) s)
+  room_below : (p x : Step) (ps : List Step) → (node_at s (leaf_of (x ∷ ps))).dead ≡ false
+      → Holds (Roomy (leaf_of (x ∷ ps))) (cuts l (p ∷ []) (x ∷ ps) s)
   unfolding cuts leaf_of
   room_below p x [] live = cut_room p x.slot live
   room_below p x (y ∷ ps) live =

@@ -1,6 +1,6 @@
 -- An edit of the leaf, then the index keys of the way, bottom up: the node at the top of the way stands for the plain list's edit of what it held,
 -- within its bounds. Assumes nothing.
-use Rattle.std.specs.Prelude.{◌≡◌, true, false, not, ℕ, suc, ◌+◌, ◌≤◌, ◌<◌, ltb}
+use Rattle.std.specs.Prelude.{◌≡◌, true, false, ℕ, suc, ◌+◌, ◌≤◌, ◌<◌, ltb}
 use Rattle.std.proofs.Math.Path.{refl, ap, ap₂}
 use Rattle.std.proofs.Common.{sym, subst, ◌∙◌, le_refl, arith, length-append, take_at, drop_at, lt-ltb}
 use mathlib.Core.List.{List, [], ◌∷◌, ◌++◌, append-nil}
@@ -243,7 +243,8 @@ module _ (τ : Terms) (rd : ℕ → MemNode) where
       unfolding cont
       lifted =
           let up = lift_holds τ rd (node_at s) (node_at u') l xs (item ∷ []) ys (node_at u' n) row' fx fy in
-          let here : conts rd (node_at u') l (item ∷ []) ≡ op (cont rd (node_at s) l (node_at s c)) = append-nil _ ∙ ap (cont rd (node_at u') l) node_c'
+          let here : conts rd (node_at u') l (item ∷ []) ≡ op (cont rd (node_at s) l (node_at s c)) = append-nil _
+          ∙ ap (cont rd (node_at u') l) node_c'
           ∙ fc.holds ∙ ed.holds in
           let rc = ok_rows τ rd (node_at s) l cut_up.from (first_or (K τ) hi ys) (node_at s c) ok_c in
           let rx = conts_rows τ rd (node_at s) l cut_up.left in

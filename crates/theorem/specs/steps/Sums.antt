@@ -5,7 +5,6 @@ use Rattle.std.proofs.Common.{◌∙◌}
 use Prim.Native.Nat.{ℕ, zero, suc, ◌+◌, ◌≤◌}
 use native.Mathlib.Omega.{arith}
 use Rattle.std.proofs.Math.ListN.{length}
-use Rattle.node.specs.Result.{ok}
 use Rattle.node.specs.laws.base.Results.{Holds, holds_ok, holds_bind}
 use Rattle.node.specs.Entry.{Entry, Val, ghost, leaf, disk, mem}
 use Rattle.node.specs.Slot.{MemNode}
@@ -74,7 +73,8 @@ module _ (τ : Terms) (rd : ℕ → MemNode) (lent : Lent) where
   one m = 1
 
   -- a child's tree has j nodes more, and so has its parent's
-  up_more : (s u : State) (l n c lo hi : ℕ) (xs : List Entry) (e : Entry) (ys : List Entry) (row : (node_at s n).entries ≡ xs ++ e ∷ ys) (val : e.value
+  up_more : (s u : State) (l n c lo hi : ℕ) (xs : List Entry) (e : Entry) (ys : List Entry) (row : (node_at s n).entries ≡ xs ++ e ∷ ys)
+      (val : e.value
       ≡ mem c)
       (once : Once τ rd s (suc l) n) (okn : Ok τ rd (node_at s) (suc l) lo hi (node_at s n)) → (j k : ℕ)
       → Grown τ rd s u l c (K τ e.key) (mid τ rd s l n c lo hi xs e ys row val once okn).up_to

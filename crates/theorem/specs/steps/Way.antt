@@ -13,7 +13,7 @@ use Rattle.std.proofs.Math.Seq.{split_at, length-take-le}
 use Rattle.std.proofs.lemmas.Bool.{eqb-false}
 use Rattle.node.specs.Result.{ok}
 use Rattle.node.specs.laws.base.Results.{Holds, holds_ok, holds_bind}
-use Rattle.node.specs.Entry.{Entry, Val, ghost, leaf, disk, mem}
+use Rattle.node.specs.Entry.{Entry, Val, ghost, disk, mem}
 use Rattle.node.specs.Find.{val_at, key_at, not_above, way_index}
 use Rattle.node.specs.laws.order.Found.{above_before, above_next}
 use Rattle.node.specs.laws.order.Order.{rank_lt, rank_le}
@@ -259,7 +259,8 @@ module _ (τ : Terms) (rd : ℕ → MemNode) (lent : Lent) (Old : ℕ → Type 0
       let row : es ≡ take i es ++ get_or es i none ∷ drop (suc i) es = split_at es i none lt in
       let ln : length (take i es) ≡ i = length-take-le i es (omega arith) in
       let ld : Loaded s l n lo hi (take i es) (get_or es i none) (drop (suc i) es) a =
-      load_loaded s₀ s bs l n lo hi (take i es) (get_or es i none) (drop (suc i) es) a reads st row one okn own (ap (load_child lent s bs n) ln ∙ p) in
+      load_loaded s₀ s bs l n lo hi (take i es) (get_or es i none) (drop (suc i) es) a reads st row one okn own
+      (ap (load_child lent s bs n) ln ∙ p) in
       let to : Toward τ k (take i es) (get_or es i none) (drop (suc i) es) =
       toward k kk l lo hi (node_at s) (node_at s n) okn (take i es) (get_or es i none) (drop (suc i) es) row
       (ln ∙ ap₂ (λ (x : ℕ) (y : List Entry). way_index x k y) o row) in

@@ -3,7 +3,6 @@
 use Rattle.std.specs.Prelude.{◌≡◌, refl, List, [], ℕ, suc, ◌+◌, ◌≤◌, ◌<◌, length, take, drop, ltb, eqb}
 use Rattle.std.proofs.Common.{sym, ap, subst, ◌∙◌, le_trans, arith, ltb-true, ltb-false, eqb-true}
 use Rattle.std.proofs.lemmas.Bool.{eqb-false}
-use Rattle.node.specs.Result.{ok}
 use Rattle.node.specs.laws.base.Results.{Holds, holds_bind}
 use Rattle.node.specs.Entry.{Entry, mem}
 use Rattle.node.specs.Slot.{MemNode}

@@ -128,7 +128,16 @@ module _ (s : State) (n : ℕ) (k : List ℕ) (v : Val) where
 
   pub leaf_info : Numbered (put_in_leaf s n k v).info
   unfolding put_in_leaf with_info grown_longest with_longest with_counts
-  leaf_info = record { flags = refl; node = refl; key = refl; val = refl; key_count = refl; node_count = refl; longest_key = refl; longest_val = refl }
+  leaf_info = record {
+    flags = refl;
+    node = refl;
+    key = refl;
+    val = refl;
+    key_count = refl;
+    node_count = refl;
+    longest_key = refl;
+    longest_val = refl;
+  }
 
 -- ---- what is put is no longer than what holds it
 

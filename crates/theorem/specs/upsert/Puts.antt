@@ -6,7 +6,6 @@ use Rattle.std.proofs.Common.{subst, ◌∙◌, le_refl, arith}
 use Prim.Native.Nat.{ℕ, suc, ◌-◌, ◌^◌, ◌≤◌, ◌<◌, min, max}
 use Rattle.std.proofs.Math.ListN.{length}
 use Rattle.std.proofs.Math.Dec.{ltb}
-use Rattle.node.specs.Result.{ok}
 use Rattle.node.specs.laws.base.Results.{Holds, holds_ok, holds_bind, holds_then, holds_check}
 use Rattle.node.specs.Refusals as refusal
 use Rattle.node.specs.Order.{less, same_key}
@@ -175,7 +174,8 @@ module _ (τ : Terms) (rd : ℕ → MemNode) (lent : Lent) (Old : ℕ → Type 0
       let x₂ : hi ≤ max hi (suc (K τ k)) = omega arith in
       let x₃ : min lo (K τ k) ≤ K τ k = omega arith in
       let x₄ : K τ k < max hi (suc (K τ k)) = omega arith in
-      let okt = ok_wide τ rd (node_at (touch ps s)) l lo (min lo (K τ k)) hi (max hi (suc (K τ k))) (node_at (touch ps s) n) x₁ x₂ (me.ok lo hi okn) in
+      let okt = ok_wide τ rd (node_at (touch ps s)) l lo (min lo (K τ k)) hi (max hi (suc (K τ k))) (node_at (touch ps s) n) x₁ x₂
+      (me.ok lo hi okn) in
       let onet : Once τ rd (touch ps s) l n = record {
         once = λ c. omega (arith, one.once c, me.uses c);
         used = λ c h. let y = one.used c

@@ -1,7 +1,7 @@
 -- The marks, the leaf's edit and the index keys of an upsert together: each slot by itself, the tree's numbers, what the tree holds and its sums.
 -- Assumes nothing.
 use Rattle.std.specs.Prelude.{◌≡◌, refl, List, ◌∷◌, Bool, true, false, cond, not, ℕ, suc, ◌+◌, ◌≤◌, ◌<◌, min, max, length, ltb, eqb}
-use Rattle.std.proofs.Common.{sym, ap, ap₂, ◌∙◌, le_trans, arith, ltb-true, ltb-false, eqb-true}
+use Rattle.std.proofs.Common.{sym, ap, subst, ap₂, ◌∙◌, le_trans, arith, ltb-true, ltb-false, eqb-true}
 use Rattle.std.proofs.lemmas.Bool.{eqb-false}
 use Rattle.node.specs.Entry.{Entry, Val, value_length}
 use Rattle.node.specs.Find.{is_there}
@@ -59,7 +59,7 @@ module _ (τ : Terms) (rd : ℕ → MemNode) (lent : Lent) (k : List ℕ) (v : V
   leaf_is = along_leaf s (Toward τ k) foot l s.root (x ∷ qs) along
 
   on_leaf : 1 ≤ on_way foot (x ∷ qs)
-  on_leaf = rw leaf_is at (leaf_on x qs)
+  on_leaf = subst (λ (c : ℕ). 1 ≤ on_way c (x ∷ qs)) leaf_is (leaf_on x qs)
 
   -- no slot stands twice on the way, and each is in use
   pub on_once : (c : ℕ) → on_way c (x ∷ qs) ≤ 1

@@ -289,7 +289,8 @@ module _ (g : Start) (τ : Terms) (l : Lent) (k : List ℕ) (v : Val) (suits : S
   put_cuts : (th : List ℕ) (s : State) (es : List Entry) (gd : Good g τ th s es) (foot : ℕ) (ps : List Step)
       → Along s (Toward τ k) foot gd.level s.root ps
       → (is_there s.order k (node_at s foot).entries || ltb s.info.key_count (2 ^ 64 - 1)) ≡ true
-      → Holds (λ u. Good g τ (th ++ blocks_on s ps) u (plain_upsert s.order k v es)) (cuts l [] ps (index_keys ps (put_in_leaf (touch ps s) foot k v)))
+      → Holds (λ u. Good g τ (th ++ blocks_on s ps) u (plain_upsert s.order k v es))
+      (cuts l [] ps (index_keys ps (put_in_leaf (touch ps s) foot k v)))
   put_cuts th s es gd foot ps w count =
       let (x, qs, e, q) = along_head s (Toward τ k) foot gd.level s.root ps w in
       subst (λ (z : List Step). Along s (Toward τ k) foot gd.level s.root z
