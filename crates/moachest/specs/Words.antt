@@ -1,7 +1,7 @@
 -- The words of an open tree, what is lent by numbers, and 1 of words that are too few.
 use Rattle.std.specs.Prelude.{List, [], ◌∷◌, Bool, cond, not, ℕ, length, get_or, leb, eqb}
 use Rattle.seal.specs.Bytes.{splice}
-use Rattle.node.specs.Result.{Result, ◌>>=◌, ◌>>◌, check}
+use Rattle.node.specs.Result.{Result, ◌>>◌, check}
 use Rattle.node.specs.Refusals as refusal
 use Rattle.node.specs.declared.info.BTreeInfo.{BTreeInfo}
 use Rattle.tree.specs.declared.editor.Tree.{Tree}

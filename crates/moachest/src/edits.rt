@@ -14,8 +14,7 @@ use crate::{answers, words};
 use tree::refusal;
 
 // Puts the entry of a key: the bytes of `value`, or a ghost, which has none, where `is_ghost` is not 0.
-#[unsafe(no_mangle)]
-pub extern "C" fn moachest_upsert(
+pub fn moachest_upsert(
     tree: &mut [u64],
     image: &[u8],
     heads: &mut [u64],
@@ -32,7 +31,7 @@ pub extern "C" fn moachest_upsert(
     ensures answer { edited_of size heads.new bytes.new (edited_back result tree.new)
         ≡ on_tree tree.old (λ t. edits size slots t heads.old bytes.old scratch.old (λ s.
         upsert (lent_of image.now (lent_numbers size slots mapped map)) s key.now (put_value (yes is_ghost) value.now))) }
-    ensures left { edited_leaves size slots (tree_of tree.old) heads.old bytes.old heads.exit.now bytes.new (edited_back result tree.new) }
+    ensures left { edited_leaves size slots (tree_of tree.old) heads.old bytes.old heads.new bytes.new (edited_back result tree.new) }
     ensures words { tree.new ≡ edited_tree tree.old (edited_back result tree.new) }
 {
     if tree.len() < words::TREE_WORDS {
@@ -56,8 +55,7 @@ pub extern "C" fn moachest_upsert(
 // As the call above, without its tests of what is lent (1). It trusts that `tree`, `heads` and `bytes` are as open or a trusted call on them left
 // them, with the same image and numbers, and leaves them so again; and that the scratch has at least two blocks' worth of bytes.
 // Words that are too few are still refused.
-#[unsafe(no_mangle)]
-pub extern "C" fn moachest_upsert_trusted(
+pub fn moachest_upsert_trusted(
     tree: &mut [u64],
     image: &[u8],
     heads: &mut [u64],
@@ -99,8 +97,7 @@ pub extern "C" fn moachest_upsert_trusted(
 }
 
 // Takes the entry of a key out. `answer` says whether it was there.
-#[unsafe(no_mangle)]
-pub extern "C" fn moachest_remove(
+pub fn moachest_remove(
     tree: &mut [u64],
     image: &[u8],
     heads: &mut [u64],
@@ -114,8 +111,9 @@ pub extern "C" fn moachest_remove(
     answer: &mut [u64],
 ) -> u64
     ensures answer { removed_of size heads.new bytes.new (removed_back result tree.new answer.new)
-        ≡ on_words tree.old answer.old (λ t. edits size slots t heads.old bytes.old scratch.old (λ s. remove (lent_of image.now (lent_numbers size slots mapped map)) s key.now)) }
-    ensures left { removed_leaves size slots (tree_of tree.old) heads.old bytes.old heads.exit.now bytes.new (removed_back result tree.new answer.new) }
+        ≡ on_words tree.old answer.old (λ t. edits size slots t heads.old bytes.old scratch.old
+        (λ s. remove (lent_of image.now (lent_numbers size slots mapped map)) s key.now)) }
+    ensures left { removed_leaves size slots (tree_of tree.old) heads.old bytes.old heads.new bytes.new (removed_back result tree.new answer.new) }
     ensures words { (tree.new ≡ removed_tree tree.old (removed_back result tree.new answer.new))
         × (answer.new ≡ removed_answer answer.old (removed_back result tree.new answer.new)) }
 {
@@ -134,8 +132,7 @@ pub extern "C" fn moachest_remove(
 // As the call above, without its tests of what is lent (1). It trusts that `tree`, `heads` and `bytes` are as open or a trusted call on them left
 // them, with the same image and numbers, and leaves them so again; and that the scratch has at least two blocks' worth of bytes.
 // Words that are too few are still refused.
-#[unsafe(no_mangle)]
-pub extern "C" fn moachest_remove_trusted(
+pub fn moachest_remove_trusted(
     tree: &mut [u64],
     image: &[u8],
     heads: &mut [u64],
@@ -173,8 +170,7 @@ pub extern "C" fn moachest_remove_trusted(
 }
 
 // Takes the versions of an id out and puts one that maps it to an address and a length.
-#[unsafe(no_mangle)]
-pub extern "C" fn moachest_omap_put(
+pub fn moachest_omap_put(
     tree: &mut [u64],
     image: &[u8],
     heads: &mut [u64],
@@ -192,7 +188,7 @@ pub extern "C" fn moachest_omap_put(
     ensures answer { edited_of size heads.new bytes.new (edited_back result tree.new)
         ≡ on_tree tree.old (λ t. edits size slots t heads.old bytes.old scratch.old (λ s.
         omap_put (lent_of image.now (lent_numbers size slots mapped map)) s id xid address length)) }
-    ensures left { edited_leaves size slots (tree_of tree.old) heads.old bytes.old heads.exit.now bytes.new (edited_back result tree.new) }
+    ensures left { edited_leaves size slots (tree_of tree.old) heads.old bytes.old heads.new bytes.new (edited_back result tree.new) }
     ensures words { tree.new ≡ edited_tree tree.old (edited_back result tree.new) }
 {
     if tree.len() < words::TREE_WORDS {
@@ -207,8 +203,7 @@ pub extern "C" fn moachest_omap_put(
 // As the call above, without its tests of what is lent (1). It trusts that `tree`, `heads` and `bytes` are as open or a trusted call on them left
 // them, with the same image and numbers, and leaves them so again; and that the scratch has exactly `(2 * slots + 2) * size` bytes.
 // Words that are too few are still refused.
-#[unsafe(no_mangle)]
-pub extern "C" fn moachest_omap_put_trusted(
+pub fn moachest_omap_put_trusted(
     tree: &mut [u64],
     image: &[u8],
     heads: &mut [u64],
@@ -242,8 +237,7 @@ pub extern "C" fn moachest_omap_put_trusted(
 }
 
 // Takes the versions of an id out.
-#[unsafe(no_mangle)]
-pub extern "C" fn moachest_omap_drop(
+pub fn moachest_omap_drop(
     tree: &mut [u64],
     image: &[u8],
     heads: &mut [u64],
@@ -258,7 +252,7 @@ pub extern "C" fn moachest_omap_drop(
     ensures answer { edited_of size heads.new bytes.new (edited_back result tree.new)
         ≡ on_tree tree.old (λ t. edits size slots t heads.old bytes.old scratch.old (λ s.
         omap_drop (lent_of image.now (lent_numbers size slots mapped map)) s id)) }
-    ensures left { edited_leaves size slots (tree_of tree.old) heads.old bytes.old heads.exit.now bytes.new (edited_back result tree.new) }
+    ensures left { edited_leaves size slots (tree_of tree.old) heads.old bytes.old heads.new bytes.new (edited_back result tree.new) }
     ensures words { tree.new ≡ edited_tree tree.old (edited_back result tree.new) }
 {
     if tree.len() < words::TREE_WORDS {
@@ -273,8 +267,7 @@ pub extern "C" fn moachest_omap_drop(
 // As the call above, without its tests of what is lent (1). It trusts that `tree`, `heads` and `bytes` are as open or a trusted call on them left
 // them, with the same image and numbers, and leaves them so again; and that the scratch has exactly `(2 * slots + 2) * size` bytes.
 // Words that are too few are still refused.
-#[unsafe(no_mangle)]
-pub extern "C" fn moachest_omap_drop_trusted(
+pub fn moachest_omap_drop_trusted(
     tree: &mut [u64],
     image: &[u8],
     heads: &mut [u64],

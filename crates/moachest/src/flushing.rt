@@ -15,8 +15,7 @@ use crate::{answers, words};
 use tree::refusal;
 
 // Writes what was changed and fills the lists; the tree is ended.
-#[unsafe(no_mangle)]
-pub extern "C" fn moachest_flush(
+pub fn moachest_flush(
     tree: &[u64],
     image: &mut [u8],
     bitmap: &mut [u8],
@@ -36,10 +35,11 @@ pub extern "C" fn moachest_flush(
     next: u64,
     answer: &mut [u64],
 ) -> u64
-    ensures answer { flushed_means size (tree_of tree.now) image.new (space_of bitmap.new counts.entry.now free.new) heads.new bytes.now freed.new removed.new ids.new
+    ensures answer { flushed_means size (tree_of tree.now) image.new
+        (space_of bitmap.new counts.now free.new) heads.new bytes.now freed.new removed.new ids.new
         places.new (flushed_back result answer.new)
         ≡ on_words tree.now answer.old (λ t. flushed_in (lent_of image.old (lent_numbers size slots mapped
-        map)) (space_of bitmap.old counts.now free.old) (lists_of freed.old removed.entry.now ids.old places.old) t heads.old bytes.now xid next) }
+        map)) (space_of bitmap.old counts.now free.old) (lists_of freed.old removed.old ids.old places.old) t heads.old bytes.now xid next) }
     ensures left { flushed_leaves size slots (tree_of tree.now) image.old image.new
         (space_of bitmap.old counts.now free.old)
         (space_of bitmap.new counts.now free.new) heads.old heads.new
@@ -62,8 +62,7 @@ pub extern "C" fn moachest_flush(
 }
 
 // The same where the words are enough and the slots are trusted: it leaves their refusal 1 out.
-#[unsafe(no_mangle)]
-pub extern "C" fn moachest_flush_trusted(
+pub fn moachest_flush_trusted(
     tree: &[u64],
     image: &mut [u8],
     bitmap: &mut [u8],
@@ -85,8 +84,10 @@ pub extern "C" fn moachest_flush_trusted(
 ) -> u64
     requires in_bounds { (14 ≤ length tree.now) × (8 ≤ length answer.old) }
     requires ready { Ready size slots (tree_of tree.now).used heads.old bytes.now }
-    requires bytes_value { trusted (lent_of image.old (lent_numbers size slots mapped map)) (state_of size (tree_of tree.now) heads.old bytes.now) ≡ true }
-    ensures answer { flushed_means size (tree_of tree.now) image.new (space_of bitmap.new counts.entry.now free.new) heads.new bytes.now freed.new removed.new ids.new
+    requires bytes_value { trusted (lent_of image.old (lent_numbers size slots mapped map)) (state_of size (tree_of tree.now) heads.old bytes.now)
+        ≡ true }
+    ensures answer { flushed_means size (tree_of tree.now) image.new
+        (space_of bitmap.new counts.now free.new) heads.new bytes.now freed.new removed.new ids.new
         places.new (flushed_back result answer.new)
         ≡ flush_in (lent_of image.old (lent_numbers size slots mapped map)) (space_of bitmap.old counts.now
         free.old) (lists_of freed.old removed.old ids.old places.old)

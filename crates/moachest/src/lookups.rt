@@ -12,8 +12,7 @@ use crate::{answers, words};
 use tree::{lookup, refusal};
 
 // Opens the tree whose root is `root`, with keys in this order, as seen from a transaction. Accepted, `tree` holds its words.
-#[unsafe(no_mangle)]
-pub extern "C" fn moachest_open(
+pub fn moachest_open(
     tree: &mut [u64],
     image: &[u8],
     heads: &mut [u64],
@@ -27,7 +26,7 @@ pub extern "C" fn moachest_open(
     xid: u64,
 ) -> u64
     ensures answer { opened_of size heads.new bytes.new (opened_back result tree.new)
-        ≡ on_tree tree.old (λ t. opened_in (lent_of image.now (lent_numbers size slots mapped map)) heads.entry.now bytes.old root order xid) }
+        ≡ on_tree tree.old (λ t. opened_in (lent_of image.now (lent_numbers size slots mapped map)) heads.old bytes.old root order xid) }
     ensures left { opened_leaves size slots heads.new bytes.new (opened_back result tree.new) }
     ensures trusts { OpenedTrusts image.now (lent_numbers size slots mapped map) heads.new bytes.new
         (opened_back result tree.new) }
@@ -42,8 +41,7 @@ pub extern "C" fn moachest_open(
 }
 
 // What a key holds. `answer` says which, and a value is copied to the start of `out`.
-#[unsafe(no_mangle)]
-pub extern "C" fn moachest_get(
+pub fn moachest_get(
     tree: &mut [u64],
     image: &[u8],
     heads: &mut [u64],
@@ -61,8 +59,8 @@ pub extern "C" fn moachest_get(
         map)) t heads.old bytes.old (length out.old) key.now) }
     ensures output { out.new
         ≡ got_output out.old (on_words tree.old answer.old (λ t. got_in (lent_of image.now
-        (lent_numbers size slots mapped map)) t heads.old bytes.old (length out.old) key.entry.now)) }
-    ensures left { got_leaves size slots (tree_of tree.old) heads.old bytes.old heads.exit.now bytes.new (got_back result tree.new answer.new) }
+        (lent_numbers size slots mapped map)) t heads.old bytes.old (length out.old) key.now)) }
+    ensures left { got_leaves size slots (tree_of tree.old) heads.old bytes.old heads.new bytes.new (got_back result tree.new answer.new) }
     ensures words { (tree.new ≡ got_tree tree.old (got_back result tree.new answer.new))
         × (answer.new ≡ got_answer answer.old (got_back result tree.new answer.new)) }
 {
@@ -80,8 +78,7 @@ pub extern "C" fn moachest_get(
 
 // As the call above, without its tests of what is lent (1). It trusts that `tree`, `heads` and `bytes` are as open or a trusted call on them left
 // them, with the same image and numbers, and leaves them so again. Words that are too few are still refused.
-#[unsafe(no_mangle)]
-pub extern "C" fn moachest_get_trusted(
+pub fn moachest_get_trusted(
     tree: &mut [u64],
     image: &[u8],
     heads: &mut [u64],
@@ -131,8 +128,7 @@ pub extern "C" fn moachest_get_trusted(
 }
 
 // The last entry not above a key. `answer` says whether there is one, and its record is copied to the start of `out`.
-#[unsafe(no_mangle)]
-pub extern "C" fn moachest_floor(
+pub fn moachest_floor(
     tree: &mut [u64],
     image: &[u8],
     heads: &mut [u64],
@@ -150,8 +146,9 @@ pub extern "C" fn moachest_floor(
         ≡ on_words tree.old answer.old (λ t. floored_in (lent_of image.now (lent_numbers size slots mapped
         map)) t heads.old bytes.old (length out.old) key.now) }
     ensures output { out.new
-        ≡ floored_output out.old (on_words tree.old answer.old (λ t. floored_in (lent_of image.entry.now (lent_numbers size slots mapped map)) t heads.old bytes.old (length out.old) key.entry.now)) }
-    ensures left { floored_leaves size slots (tree_of tree.old) heads.old bytes.old heads.exit.now bytes.new (floored_back result tree.new answer.new) }
+        ≡ floored_output out.old (on_words tree.old answer.old
+        (λ t. floored_in (lent_of image.now (lent_numbers size slots mapped map)) t heads.old bytes.old (length out.old) key.now)) }
+    ensures left { floored_leaves size slots (tree_of tree.old) heads.old bytes.old heads.new bytes.new (floored_back result tree.new answer.new) }
     ensures words { (tree.new ≡ floored_tree tree.old (floored_back result tree.new answer.new))
         × (answer.new ≡ floored_answer answer.old (floored_back result tree.new answer.new)) }
 {
@@ -169,8 +166,7 @@ pub extern "C" fn moachest_floor(
 
 // As the call above, without its tests of what is lent (1). It trusts that `tree`, `heads` and `bytes` are as open or a trusted call on them left
 // them, with the same image and numbers, and leaves them so again. Words that are too few are still refused.
-#[unsafe(no_mangle)]
-pub extern "C" fn moachest_floor_trusted(
+pub fn moachest_floor_trusted(
     tree: &mut [u64],
     image: &[u8],
     heads: &mut [u64],
@@ -211,8 +207,7 @@ pub extern "C" fn moachest_floor_trusted(
 }
 
 // The entries from `lo` up to `hi`, without it. `answer` says how many, and their records are copied to the start of `out`.
-#[unsafe(no_mangle)]
-pub extern "C" fn moachest_range(
+pub fn moachest_range(
     tree: &mut [u64],
     image: &[u8],
     heads: &mut [u64],
@@ -231,9 +226,10 @@ pub extern "C" fn moachest_range(
         ≡ on_words tree.old answer.old (λ t. ranged_in (lent_of image.now (lent_numbers size slots mapped
         map)) t heads.old bytes.old (length out.old) lo.now hi.now) }
     ensures output { out.new
-        ≡ ranged_output out.old (on_words tree.old answer.old (λ t. ranged_in (lent_of image.entry.now (lent_numbers size slots mapped map)) t heads.old bytes.old (length out.old) lo.entry.now hi.now)) }
+        ≡ ranged_output out.old (on_words tree.old answer.old
+        (λ t. ranged_in (lent_of image.now (lent_numbers size slots mapped map)) t heads.old bytes.old (length out.old) lo.now hi.now)) }
     ensures long { ranged_length out.new (ranged_back result tree.new answer.new) }
-    ensures left { ranged_leaves size slots (tree_of tree.old) heads.old bytes.old heads.exit.now bytes.new (ranged_back result tree.new answer.new) }
+    ensures left { ranged_leaves size slots (tree_of tree.old) heads.old bytes.old heads.new bytes.new (ranged_back result tree.new answer.new) }
     ensures words { (tree.new ≡ ranged_tree tree.old (ranged_back result tree.new answer.new))
         × (answer.new ≡ ranged_answer answer.old (ranged_back result tree.new answer.new)) }
 {
@@ -251,8 +247,7 @@ pub extern "C" fn moachest_range(
 
 // As the call above, without its tests of what is lent (1). It trusts that `tree`, `heads` and `bytes` are as open or a trusted call on them left
 // them, with the same image and numbers, and leaves them so again. Words that are too few are still refused.
-#[unsafe(no_mangle)]
-pub extern "C" fn moachest_range_trusted(
+pub fn moachest_range_trusted(
     tree: &mut [u64],
     image: &[u8],
     heads: &mut [u64],

@@ -30,8 +30,7 @@ fn worth(n: u64, size: usize) -> u64
 }
 
 // Words of the workspace.
-#[unsafe(no_mangle)]
-pub extern "C" fn moachest_workspace_words(slots: usize) -> u64
+pub fn moachest_workspace_words(slots: usize) -> u64
     ensures { result ≡ workspace_words slots }
 {
     if !is_slots(slots) {
@@ -41,8 +40,7 @@ pub extern "C" fn moachest_workspace_words(slots: usize) -> u64
 }
 
 // Bytes of the workspace.
-#[unsafe(no_mangle)]
-pub extern "C" fn moachest_workspace_bytes(slots: usize, size: usize) -> u64
+pub fn moachest_workspace_bytes(slots: usize, size: usize) -> u64
     ensures { result ≡ workspace_bytes slots size }
 {
     if !is_slots(slots) {
@@ -52,8 +50,7 @@ pub extern "C" fn moachest_workspace_bytes(slots: usize, size: usize) -> u64
 }
 
 // Bytes of the scratch.
-#[unsafe(no_mangle)]
-pub extern "C" fn moachest_scratch_bytes(slots: usize, size: usize) -> u64
+pub fn moachest_scratch_bytes(slots: usize, size: usize) -> u64
     ensures { result ≡ scratch_bytes slots size }
 {
     if !is_slots(slots) {

@@ -44,8 +44,7 @@ fn lent(block: &[u8], slot: &[u8]) -> bool
 }
 
 // Reads a block as a root with this id and copies its entries to the slot: the bytes that they take there, or a refusal's answer.
-#[unsafe(no_mangle)]
-pub extern "C" fn rattle_read_node(block: &[u8], slot: &mut [u8], order: u64, oid: u64) -> u64
+pub fn rattle_read_node(block: &[u8], slot: &mut [u8], order: u64, oid: u64) -> u64
     ensures { answered result slot.new ≡ read_into order oid block.now slot.old }
 {
     if !lent(block, slot) {
@@ -106,8 +105,7 @@ fn records_fit(b: NodeBuild, slot: &[u8], n: usize, used: u64) -> bool
 
 // Packs the n records of a slot, `used` bytes, as a root with the numbers of the root block `like`: false where they are not n records, or do
 // not fit.
-#[unsafe(no_mangle)]
-pub extern "C" fn rattle_pack_node(
+pub fn rattle_pack_node(
     dst: &mut [u8],
     slot: &[u8],
     n: usize,

@@ -6,8 +6,7 @@ ghost use Rattle.speed.specs.Any.{sum_of, sealed_of};
 use seal::checksum;
 
 // An object's sum; of one with no room for a sum, 0.
-#[unsafe(no_mangle)]
-pub extern "C" fn rattle_compute(object: &[u8]) -> u64
+pub fn rattle_compute(object: &[u8]) -> u64
     ensures { result ≡ sum_of object.now }
 {
     if object.len() < 8 {
@@ -16,16 +15,14 @@ pub extern "C" fn rattle_compute(object: &[u8]) -> u64
     checksum::compute(object)
 }
 
-#[unsafe(no_mangle)]
-pub extern "C" fn rattle_verify(object: &[u8]) -> bool
+pub fn rattle_verify(object: &[u8]) -> bool
     ensures { result ≡ verified object.now }
 {
     checksum::verify(object)
 }
 
 // Stores an object's sum; one with no room for a sum stays as it is.
-#[unsafe(no_mangle)]
-pub extern "C" fn rattle_seal(object: &mut [u8])
+pub fn rattle_seal(object: &mut [u8])
     ensures { object.new ≡ sealed_of object.old }
 {
     if object.len() < 8 {

@@ -77,7 +77,8 @@ removed_told size heads bytes R w a w' a' r g h e p q s =
 
 pub flushed_told : (size : ℕ) (t : Tree) (image : List ℕ) (p₀ : Space) (heads bytes freed removed ids places : List ℕ) (R : Result
     Flushed) (a a' : List ℕ) (r : ℕ) (g : Answer) → Numbered R
-    → flushed_means size t image p₀ heads bytes freed removed ids places g ≡ R → r ≡ flushed_number g → a' ≡ flushed_answer a g → flushed_back r a' ≡ g
+    → flushed_means size t image p₀ heads bytes freed removed ids places g ≡ R → r ≡ flushed_number g → a' ≡ flushed_answer a g
+    → flushed_back r a' ≡ g
 unfolding flushed_means
 flushed_told size t image p₀ heads bytes freed removed ids places R a a' r g h e p s =
     rw (p, s) (flushed_back_lem a g (λ x z. h.at x (sym e ∙ ap (flushed_means size t image p₀ heads bytes freed removed ids places) z)))

@@ -1,0 +1,12 @@
+use Rattle.moachest.specs.Words.{lent_numbers}
+use Rattle.moachest.specs.laws.WordLaws.{on_few}
+use Rattle.moachest.specs.laws.CallLaws.{put_called, put_few}
+use Rattle.moachest.proofs.edits.moachest_omap_put.Goals as goal
+
+pub returns-then-tree-lt-TREE_WORDS : goal.returns-then-tree-lt-TREE_WORDS
+returns-then-tree-lt-TREE_WORDS c =
+    let says = put_few _ _ _ _ _ _ _ _ _ (lent_numbers c.args.size c.args.slots c.args.mapped c.args.map) (on_few _ _ c.if-tree-lt-TREE_WORDS.true) in record { answer = says.0; left = says.1.0; words = says.1.1 }
+
+pub returns : goal.returns
+returns c =
+    let says = put_called _ _ _ _ _ _ _ _ _ _ _ _ _ (lent_numbers c.args.size c.args.slots c.args.mapped c.args.map) _ _ _ c.if-tree-lt-TREE_WORDS.false c.lent-lent.ensures c.load-t.ensures (c.omap_put-edited.ensures.answer, c.omap_put-edited.ensures.left) c.leave_edited.ensures.number c.leave_edited.ensures.tree in record { answer = says.0; left = says.1.0; words = says.1.1 }

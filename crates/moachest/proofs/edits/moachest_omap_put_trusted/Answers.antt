@@ -1,0 +1,21 @@
+use Rattle.moachest.specs.Words.{lent_numbers}
+use Rattle.moachest.specs.laws.WordLaws.{on_few}
+use Rattle.moachest.specs.laws.TrustedLaws.{put_trusted, put_few, trusts_loaded, room_all}
+use Rattle.moachest.proofs.edits.moachest_omap_put_trusted.Goals as goal
+
+pub returns-then-tree-lt-TREE_WORDS : goal.returns-then-tree-lt-TREE_WORDS
+returns-then-tree-lt-TREE_WORDS c =
+    let a = c.args in
+    let p = c.requires in
+    let says = put_few _ _ _ _ _ _ _ _ (lent_numbers a.size a.slots a.mapped a.map) p.trusts (on_few _ _ c.if-tree-lt-TREE_WORDS.true) in record { answer = says.0; left = says.1.0; words = says.1.1 }
+
+pub omap_put_in-edited-requires : goal.omap_put_in-edited-requires
+omap_put_in-edited-requires c =
+    let a = c.args in
+    let p = c.requires in
+    record { trusts = trusts_loaded _ _ _ _ (lent_numbers a.size a.slots a.mapped a.map) _ _ c.lent-lent.ensures c.load-t.ensures p.trusts; room = room_all _ _ (lent_numbers a.size a.slots a.mapped a.map) c.lent-lent.ensures p.room }
+
+pub returns : goal.returns
+returns c =
+    let a = c.args in
+    let says = put_trusted _ _ _ _ _ _ _ _ _ _ _ _ (lent_numbers a.size a.slots a.mapped a.map) _ _ _ c.if-tree-lt-TREE_WORDS.false c.lent-lent.ensures c.load-t.ensures (c.omap_put_in-edited.ensures.answer, c.omap_put_in-edited.ensures.left) c.leave_edited.ensures.number c.leave_edited.ensures.tree in record { answer = says.0; left = says.1.0; words = says.1.1 }

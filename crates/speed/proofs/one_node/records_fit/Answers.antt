@@ -1,0 +1,14 @@
+use Rattle.speed.specs.laws.OneNodeLaws.{lie_within, lie_used, fit_none, fit_some}
+use Rattle.std.proofs.Common.{ap}
+use mathlib.Core.Bool.{not}
+use Rattle.speed.proofs.one_node.records_fit.Goals as goal
+
+pub returns-then-not-records_hold : goal.returns-then-not-records_hold
+returns-then-not-records_hold c = fit_none _ _ _ _ _ c.records_hold.ensures (ap not c.if-not-records_hold.true)
+
+pub fits-requires : goal.fits-requires
+fits-requires c =
+    record { sized = (c.requires.0, lie_within _ _ _ _ c.records_hold.ensures (ap not c.if-not-records_hold.false), c.requires.1); used_value = lie_used _ _ _ _ c.records_hold.ensures (ap not c.if-not-records_hold.false) }
+
+pub returns : goal.returns
+returns c = fit_some _ _ _ _ _ c.records_hold.ensures _ (ap not c.if-not-records_hold.false) c.fits.ensures

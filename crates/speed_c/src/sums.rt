@@ -1,0 +1,27 @@
+// The sum of an object: `seal::checksum` for slices of any length.
+ghost use Rattle.std.specs.Prelude.{◌≡◌};
+ghost use Rattle.seal.specs.Checksum.{verified};
+ghost use Rattle.speed.specs.Any.{sum_of, sealed_of};
+
+// An object's sum; of one with no room for a sum, 0.
+#[unsafe(no_mangle)]
+pub extern "C" fn rattle_compute(object: &[u8]) -> u64
+    ensures { result ≡ sum_of object.now }
+{
+    speed::sums::rattle_compute(object)
+}
+
+#[unsafe(no_mangle)]
+pub extern "C" fn rattle_verify(object: &[u8]) -> bool
+    ensures { result ≡ verified object.now }
+{
+    speed::sums::rattle_verify(object)
+}
+
+// Stores an object's sum; one with no room for a sum stays as it is.
+#[unsafe(no_mangle)]
+pub extern "C" fn rattle_seal(object: &mut [u8])
+    ensures { object.new ≡ sealed_of object.old }
+{
+    speed::sums::rattle_seal(object)
+}
