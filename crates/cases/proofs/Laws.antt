@@ -1,20 +1,9 @@
 -- What the program tests, taken back to what the crates below require. Assumes nothing.
-use mathlib.Core.Path.{◌≡◌, refl, sym, ◌∙◌}
-use mathlib.Core.List.{List}
-use mathlib.Core.Bool.{Bool, true, false, not}
-use Prim.Native.Nat.{ℕ, ◌≤◌}
-use native.Mathlib.Omega.{arith}
-use lib.ListN.{length}
+use Rattle.std.proofs.Common.{◌≡◌, refl, List, ℕ, ◌≤◌, length, arith}
 use borrow.Author.Rules.{rules}
-use borrow.Author.Tests.{not-false}
 use Rattle.node.specs.Fit.{Sized}
 use Rattle.node.specs.Records.{records_length}
 use Rattle.node.specs.declared.info.BTreeInfo.{BTreeInfo}
-
--- ---- an answer that is not refused
-
-pub held : (r b : Bool) → r ≡ b → not r ≡ false → b ≡ true
-held r b e h = sym e ∙ not-false r h
 
 -- ---- a node with no entries
 

@@ -33,7 +33,7 @@ const ROOT_TYPE: u64 = 0x40000002;
 const OMAP: u64 = 11;
 
 // The open tree, and the last call's refusal.
-#[derive(Drop)]
+#[derive(Clone, Copy)]
 pub struct Desk {
     pub refusal: u64,
     pub tree: Tree,

@@ -1,20 +1,24 @@
 // The cases P1 to P12 of docs/RULES.md, run: a line a row, with what was computed and whether it is as demanded, and last how many are.
+#![tactic(auto)]
+
 mod desk;
 mod rows;
 mod says;
 
 use rows::Row;
 use script::out;
+use script::out::Out;
+use std::io;
 
 // How much output waits, and how many rows are as demanded.
-#[derive(Drop)]
+#[derive(Clone, Copy)]
 struct Tally {
     at: usize,
     good: u64,
 }
 
 // A row's name.
-fn name(o: &mut [u8], at: usize, k: u64) -> usize {
+fn name(o: &mut Out, at: usize, k: u64) -> usize {
     let n = out::byte(o, at, b'P');
     if k < 10 {
         return out::byte(o, n, 48 + k as u8);
@@ -24,7 +28,7 @@ fn name(o: &mut [u8], at: usize, k: u64) -> usize {
 }
 
 // A row's numbers.
-fn numbers(o: &mut [u8], at: usize, x: Row) -> usize {
+fn numbers(o: &mut Out, at: usize, x: Row) -> usize {
     let a = out::number(o, at, x.a);
     if x.n == 1 {
         return a;
@@ -38,7 +42,7 @@ fn numbers(o: &mut [u8], at: usize, x: Row) -> usize {
 }
 
 // A row's line.
-fn line(t: Tally, o: &mut [u8], k: u64, x: Row) -> Tally {
+fn line(t: Tally, o: &mut Out, k: u64, x: Row) -> Tally {
     let a = name(o, t.at, k);
     let b = numbers(o, a, x);
     if says::same(x, says::says(k)) {
@@ -54,7 +58,7 @@ fn line(t: Tally, o: &mut [u8], k: u64, x: Row) -> Tally {
 }
 
 // The last line.
-fn count(t: Tally, o: &mut [u8]) {
+fn count(t: Tally, o: &mut Out) {
     let a = out::text(o, t.at, b"as demanded:");
     let b = out::number(o, a, t.good);
     let c = out::text(o, b, b" of 12\n");
@@ -69,7 +73,7 @@ fn step(
     heads: &mut [u64],
     work: &mut [u8],
     scratch: &mut [u8],
-    o: &mut [u8],
+    o: &mut Out,
 ) -> Tally {
     let x = rows::gives(k, image, heads, work, scratch);
     line(t, o, k, x)
@@ -81,7 +85,7 @@ fn all(
     heads: &mut [u64],
     work: &mut [u8],
     scratch: &mut [u8],
-    o: &mut [u8],
+    o: &mut Out,
 ) -> Tally {
     let mut t = Tally { at: 0, good: 0 };
     let mut k: u64 = 1;
@@ -92,12 +96,13 @@ fn all(
     t
 }
 
-fn main() {
+fn main(rt: HostRuntime) -> io::Result<()> {
     let mut image = [0u8; desk::IMAGE];
     let mut heads = [0u64; desk::HEADS];
     let mut work = [0u8; desk::WORK];
     let mut scratch = [0u8; desk::SCRATCH];
-    let mut o = [0u8; 4096];
+    let mut o = Out::new(rt.alloc(), rt.stdout(), 4096)?;
     let t = all(&mut image, &mut heads, &mut work, &mut scratch, &mut o);
     count(t, &mut o);
+    o.done()
 }

@@ -10,7 +10,7 @@ use tree::lent::Lent;
 use tree::map;
 use tree::map::Address;
 
-#[derive(Drop)]
+#[derive(Clone, Copy)]
 pub struct Row {
     pub n: u64,
     pub a: u64,

@@ -6,6 +6,7 @@ use node::build::NodeBuild;
 use node::info::BTreeInfo;
 use node::order::Order;
 use node::pack;
+use script::out::Out;
 use script::{out, words};
 use seal::bytes;
 use tree::edited::Edited;
@@ -144,7 +145,7 @@ pub fn make(
     free: &mut [u32],
     heads: &mut [u64],
     bytes: &mut [u8],
-    o: &mut [u8],
+    o: &mut Out,
 ) -> Dock {
     wipe(image, bitmap, free);
     begun(s, image, heads, bytes, o)
@@ -158,7 +159,7 @@ fn wipe(image: &mut [u8], bitmap: &mut [u8], free: &mut [u32]) {
 }
 
 // The line of a new image, whose tree is opened.
-fn begun(s: Dock, image: &[u8], heads: &mut [u64], bytes: &mut [u8], o: &mut [u8]) -> Dock {
+fn begun(s: Dock, image: &[u8], heads: &mut [u64], bytes: &mut [u8], o: &mut Out) -> Dock {
     let at = out::two(o, s.at, b"image", state::BLOCKS as u64, state::SIZE as u64);
     opened(Dock::new(at), image, heads, bytes, 0, 0)
 }
@@ -171,7 +172,7 @@ pub fn put(
     heads: &mut [u64],
     bytes: &mut [u8],
     scratch: &mut [u8],
-    o: &mut [u8],
+    o: &mut Out,
 ) -> Dock {
     if !s.open {
         return s.error(o, b"there is no tree, (new) makes one");
@@ -205,7 +206,7 @@ pub fn put(
 }
 
 // The line of an accepted flush.
-fn report(o: &mut [u8], at: usize, f: Flushed) -> usize {
+fn report(o: &mut Out, at: usize, f: Flushed) -> usize {
     let d = f.done;
     let a = out::two_open(o, at, b"flush", 0, f.root);
     let b = out::number(o, a, d.allocated);
@@ -223,7 +224,7 @@ fn told(
     image: &[u8],
     heads: &mut [u64],
     bytes: &mut [u8],
-    o: &mut [u8],
+    o: &mut Out,
 ) -> Dock {
     match got {
         Answer::Refused(x) => {
@@ -251,7 +252,7 @@ pub fn write(
     removed: &mut [u64],
     ids: &mut [u64],
     places: &mut [u64],
-    o: &mut [u8],
+    o: &mut Out,
 ) -> Dock {
     if !s.open {
         return s.error(o, b"there is no tree, (new) makes one");
@@ -276,7 +277,7 @@ fn flushed(
     removed: &mut [u64],
     ids: &mut [u64],
     places: &mut [u64],
-    o: &mut [u8],
+    o: &mut Out,
 ) -> Dock {
     let t = s.tree;
     let lent = Dock::lent();

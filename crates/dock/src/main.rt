@@ -3,14 +3,18 @@
 //   (put ID XID ADDR)    prints (put REFUSAL ENTRIES)
 //   (flush XID)          prints (flush 0 ROOT ALLOCATED FREED ENTRIES FILL) or (flush REFUSAL); the tree is opened again
 // A refused call and a line that is none of these leave everything as it is. An empty line is passed over.
+#![tactic(auto)]
+
 mod calls;
 mod state;
 
 ghost use Rattle.std.specs.Prelude.{◌<◌};
 
-use script::input::Source;
+use script::input::{Input, Source};
+use script::out::Out;
 use script::{out, words};
 use state::Dock;
+use std::io;
 
 // Line after line, until there is none.
 fn run(
@@ -25,9 +29,9 @@ fn run(
     removed: &mut [u64],
     ids: &mut [u64],
     places: &mut [u64],
-    input: &mut [u8],
+    input: &mut Input,
     line: &mut [u8],
-    o: &mut [u8],
+    o: &mut Out,
 ) {
     let mut s = Dock::new(0);
     let mut src = Source::new();
@@ -70,7 +74,7 @@ fn step(
     removed: &mut [u64],
     ids: &mut [u64],
     places: &mut [u64],
-    o: &mut [u8],
+    o: &mut Out,
 ) -> Dock {
     if src.ended {
         return s;
@@ -101,7 +105,7 @@ fn turn(
     heads: &mut [u64],
     bytes: &mut [u8],
     scratch: &mut [u8],
-    o: &mut [u8],
+    o: &mut Out,
 ) -> Dock {
     if k == calls::NEW {
         return calls::make(s, image, bitmap, free, heads, bytes, o);
@@ -118,7 +122,7 @@ fn turn(
     s
 }
 
-fn main() {
+fn main(rt: HostRuntime) -> io::Result<()> {
     let mut image = [0u8; state::IMAGE];
     let mut bitmap = [0u8; state::SIZE];
     let counts = [state::BLOCKS; 1];
@@ -130,9 +134,9 @@ fn main() {
     let mut removed = [0u64; state::SLOTS];
     let mut ids = [0u64; state::SLOTS];
     let mut places = [0u64; state::SLOTS];
-    let mut input = [0u8; 4096];
+    let mut input = Input::new(rt.alloc(), rt.stdin(), 4096)?;
     let mut line = [0u8; 256];
-    let mut o = [0u8; 4096];
+    let mut o = Out::new(rt.alloc(), rt.stdout(), 4096)?;
     run(
         &mut image,
         &mut bitmap,
@@ -149,4 +153,6 @@ fn main() {
         &mut line,
         &mut o,
     );
+    input.done()?;
+    o.done()
 }

@@ -1,6 +1,7 @@
 // The open tree, and how much output waits.
 use node::info::BTreeInfo;
 use script::out;
+use script::out::Out;
 use tree::editor::Tree;
 use tree::lent::Lent;
 
@@ -23,7 +24,7 @@ pub const WORK: usize = 262144;
 
 pub const SCRATCH: usize = 66560;
 
-#[derive(Drop)]
+#[derive(Clone, Copy)]
 pub struct Dock {
     pub at: usize,
     pub open: bool,
@@ -72,7 +73,7 @@ impl Dock {
     }
 
     // A line that is not taken, and why.
-    pub fn error(mut self, o: &mut [u8], why: &[u8]) -> Dock {
+    pub fn error(mut self, o: &mut Out, why: &[u8]) -> Dock {
         let a = out::text(o, self.at, b"(error: ");
         let b = out::text(o, a, why);
         self.at = out::close(o, b);

@@ -2,9 +2,10 @@
 use crate::state::State;
 use node::record;
 use script::out;
+use script::out::Out;
 
 // An answer that ends in the tree's counts.
-pub fn counts(mut s: State, o: &mut [u8], name: &[u8]) -> State {
+pub fn counts(mut s: State, o: &mut Out, name: &[u8]) -> State {
     let t = s.tree;
     let info = t.info;
     s.at = out::two(o, s.at, name, info.key_count, info.node_count);
@@ -12,7 +13,7 @@ pub fn counts(mut s: State, o: &mut [u8], name: &[u8]) -> State {
 }
 
 // The bytes of a part; nothing where it does not lie there.
-pub fn part(o: &mut [u8], at: usize, s: &[u8], a: usize, e: usize) -> usize {
+pub fn part(o: &mut Out, at: usize, s: &[u8], a: usize, e: usize) -> usize {
     if s.len() < e {
         return at;
     }
@@ -23,7 +24,7 @@ pub fn part(o: &mut [u8], at: usize, s: &[u8], a: usize, e: usize) -> usize {
 }
 
 // A record's key and value, or that it has none. Nothing where no whole record starts there.
-pub fn record(o: &mut [u8], at: usize, found: &[u8], from: usize) -> usize {
+pub fn record(o: &mut Out, at: usize, found: &[u8], from: usize) -> usize {
     if found.len() < from {
         return at;
     }
@@ -50,7 +51,7 @@ fn after(found: &[u8], from: usize) -> usize {
 }
 
 // So many records, one after another.
-pub fn records(o: &mut [u8], at: usize, found: &[u8], count: u64) -> usize {
+pub fn records(o: &mut Out, at: usize, found: &[u8], count: u64) -> usize {
     let mut n = at;
     let mut from: usize = 0;
     let mut i: u64 = 0;

@@ -1,13 +1,14 @@
 // Lines that store bytes, seals, bits and counts of the image as they are given.
 use crate::state::State;
 use flush::space;
+use script::out::Out;
 use script::{number, out, words};
 use seal::checksum;
 
 const MOST_U32: u64 = 0xFFFFFFFF;
 
 // (block ADDR xHEX)
-pub fn block(mut s: State, w: &[u8], image: &mut [u8], o: &mut [u8]) -> State {
+pub fn block(mut s: State, w: &[u8], image: &mut [u8], o: &mut Out) -> State {
     let a = words::number(words::word(w, 1));
     let hex = words::word(w, 2);
     let end = s.image_bytes();
@@ -44,7 +45,7 @@ fn seal_part(image: &mut [u8], start: usize, end: usize) {
 }
 
 // (seal ADDR)
-pub fn seal(mut s: State, w: &[u8], image: &mut [u8], o: &mut [u8]) -> State {
+pub fn seal(mut s: State, w: &[u8], image: &mut [u8], o: &mut Out) -> State {
     let a = words::number(words::word(w, 1));
     if s.blocks as u64 <= a {
         return s.error(o);
@@ -97,7 +98,7 @@ fn mark_all(bitmap: &mut [u8], free: &mut [u32], each: usize, a: usize, n: u64) 
 }
 
 // (mark ADDR COUNT)
-pub fn mark(mut s: State, w: &[u8], bitmap: &mut [u8], free: &mut [u32], o: &mut [u8]) -> State {
+pub fn mark(mut s: State, w: &[u8], bitmap: &mut [u8], free: &mut [u32], o: &mut Out) -> State {
     let a = words::number(words::word(w, 1));
     let n = words::number(words::word(w, 2));
     let blocks = s.blocks as u64;
@@ -128,7 +129,7 @@ fn store(counts: &mut [u32], free: &mut [u32], c: usize, n: u32, f: u32) {
 }
 
 // (count CHUNK BLOCKS FREE)
-pub fn count(mut s: State, w: &[u8], counts: &mut [u32], free: &mut [u32], o: &mut [u8]) -> State {
+pub fn count(mut s: State, w: &[u8], counts: &mut [u32], free: &mut [u32], o: &mut Out) -> State {
     let c = words::number(words::word(w, 1));
     let n = words::number(words::word(w, 2));
     let f = words::number(words::word(w, 3));

@@ -1,6 +1,7 @@
 // Calls on the open tree, but for flush: what is lent of image and workspace, the key and the value.
 use crate::state::State;
 use crate::{edits, kind, limits, lookups};
+use script::out::Out;
 use script::words;
 
 // A call with a key and another, or a value.
@@ -13,7 +14,7 @@ fn with_two(
     heads: &mut [u64],
     bytes: &mut [u8],
     scratch: &mut [u8],
-    o: &mut [u8],
+    o: &mut Out,
 ) -> State {
     if k == kind::RANGE {
         return lookups::range(s, key, value, image, heads, bytes, scratch, o);
@@ -30,7 +31,7 @@ fn with_key(
     heads: &mut [u64],
     bytes: &mut [u8],
     scratch: &mut [u8],
-    o: &mut [u8],
+    o: &mut Out,
 ) -> State {
     if k == kind::GET {
         return lookups::get(s, key, image, heads, bytes, scratch, o);
@@ -55,7 +56,7 @@ fn keyed(
     heads: &mut [u64],
     bytes: &mut [u8],
     scratch: &mut [u8],
-    o: &mut [u8],
+    o: &mut Out,
 ) -> State {
     if k < kind::UPSERT {
         return with_key(s, k, key, image, heads, bytes, scratch, o);
@@ -81,7 +82,7 @@ fn read_key(
     heads: &mut [u64],
     bytes: &mut [u8],
     scratch: &mut [u8],
-    o: &mut [u8],
+    o: &mut Out,
 ) -> State {
     let word = words::word(w, 1);
     let n = words::length(word);
@@ -113,7 +114,7 @@ fn with_room(
     heads: &mut [u64],
     bytes: &mut [u8],
     scratch: &mut [u8],
-    o: &mut [u8],
+    o: &mut Out,
 ) -> State {
     let mut key = [0u8; limits::BYTES];
     let mut value = [0u8; limits::BYTES];
@@ -131,7 +132,7 @@ fn on_tree(
     heads: &mut [u64],
     bytes: &mut [u8],
     scratch: &mut [u8],
-    o: &mut [u8],
+    o: &mut Out,
 ) -> State {
     if k == kind::OPEN {
         return lookups::open(s, w, image, heads, bytes, o);
@@ -157,7 +158,7 @@ pub fn run(
     heads: &mut [u64],
     work: &mut [u8],
     scratch: &mut [u8],
-    o: &mut [u8],
+    o: &mut Out,
 ) -> State {
     let start: usize = 0;
     let all = s.image_bytes();

@@ -1,11 +1,12 @@
 // The edits.
 use crate::answers;
 use crate::state::State;
+use script::out::Out;
 use script::words;
 use tree::edited::{Edited, Removed};
 
 // The answer of an edit, by its name refused and accepted.
-fn edited(mut s: State, got: Edited, name: &[u8], accepted: &[u8], o: &mut [u8]) -> State {
+fn edited(mut s: State, got: Edited, name: &[u8], accepted: &[u8], o: &mut Out) -> State {
     match got {
         Edited::Refused(x) => s.refused(o, name, x),
         Edited::Done(t) => {
@@ -25,7 +26,7 @@ pub fn upsert(
     heads: &mut [u64],
     bytes: &mut [u8],
     scratch: &mut [u8],
-    o: &mut [u8],
+    o: &mut Out,
 ) -> State {
     let t = s.tree;
     let got = t.upsert(image, heads, bytes, scratch, s.lent(), key, is_ghost, value);
@@ -33,7 +34,7 @@ pub fn upsert(
 }
 
 // The answer of remove.
-fn removed(mut s: State, got: Removed, o: &mut [u8]) -> State {
+fn removed(mut s: State, got: Removed, o: &mut Out) -> State {
     match got {
         Removed::Refused(x) => s.refused(o, b"remove", x),
         Removed::Yes(u) => {
@@ -55,7 +56,7 @@ pub fn remove(
     heads: &mut [u64],
     bytes: &mut [u8],
     scratch: &mut [u8],
-    o: &mut [u8],
+    o: &mut Out,
 ) -> State {
     let t = s.tree;
     let got = t.remove(image, heads, bytes, scratch, s.lent(), key);
@@ -70,7 +71,7 @@ pub fn put(
     heads: &mut [u64],
     bytes: &mut [u8],
     scratch: &mut [u8],
-    o: &mut [u8],
+    o: &mut Out,
 ) -> State {
     let id = words::number(words::word(w, 1));
     let xid = words::number(words::word(w, 2));
@@ -89,7 +90,7 @@ pub fn drop_id(
     heads: &mut [u64],
     bytes: &mut [u8],
     scratch: &mut [u8],
-    o: &mut [u8],
+    o: &mut Out,
 ) -> State {
     let id = words::number(words::word(w, 1));
     let t = s.tree;

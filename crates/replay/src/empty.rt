@@ -4,6 +4,7 @@ use crate::state::State;
 use node::build::NodeBuild;
 use node::info::BTreeInfo;
 use node::{fit, pack};
+use script::out::Out;
 use script::{number, out, words};
 
 const BTREE: u64 = 2;
@@ -88,7 +89,7 @@ pub fn run(
     image: &mut [u8],
     bitmap: &mut [u8],
     free: &mut [u32],
-    o: &mut [u8],
+    o: &mut Out,
 ) -> State {
     let a = words::number(words::word(w, 1));
     if s.blocks as u64 <= a {

@@ -2,6 +2,7 @@
 use crate::state::State;
 use crate::{limits, report};
 use flush::flush::Answer;
+use script::out::Out;
 use script::words;
 use seal::bytes;
 
@@ -13,7 +14,7 @@ fn told(
     removed: &[u64],
     ids: &[u64],
     places: &[u64],
-    o: &mut [u8],
+    o: &mut Out,
 ) -> State {
     match got {
         Answer::Refused(x) => s.refused(o, b"flush", x),
@@ -200,7 +201,7 @@ fn listed(
     removed: &mut [u64],
     ids: &mut [u64],
     places: &mut [u64],
-    o: &mut [u8],
+    o: &mut Out,
 ) -> State {
     let xid = words::number(words::word(w, 1));
     let next = words::number(words::word(w, 2));
@@ -233,7 +234,7 @@ fn reported(
     ids: &mut [u64],
     places: &mut [u64],
     old: &mut [u8],
-    o: &mut [u8],
+    o: &mut Out,
 ) -> State {
     if !s.open {
         return s.error(o);
@@ -259,7 +260,7 @@ pub fn run(
     ids: &mut [u64],
     places: &mut [u64],
     old: &mut [u8],
-    o: &mut [u8],
+    o: &mut Out,
 ) -> State {
     let mut freed = [0u64; limits::SLOTS];
     let mut removed = [0u64; limits::SLOTS];

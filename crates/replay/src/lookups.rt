@@ -2,6 +2,7 @@
 use crate::answers;
 use crate::state::{Place, State};
 use node::order::Order;
+use script::out::Out;
 use script::{out, words};
 use tree::floor::Floor;
 use tree::get::Got;
@@ -30,7 +31,7 @@ fn place_of(s: State, w: &[u8]) -> Place {
 }
 
 // The tree that was opened; a refused open keeps the old one.
-fn opened(mut s: State, place: Place, got: Opened, o: &mut [u8]) -> State {
+fn opened(mut s: State, place: Place, got: Opened, o: &mut Out) -> State {
     match got {
         Opened::Refused(x) => s.refused(o, b"open", x),
         Opened::Open(t) => {
@@ -51,7 +52,7 @@ pub fn open(
     image: &[u8],
     heads: &mut [u64],
     bytes: &mut [u8],
-    o: &mut [u8],
+    o: &mut Out,
 ) -> State {
     let p = place_of(s, w);
     let got = lookup::open(image, heads, bytes, s.lent_to(p), p.root, p.order, p.xid);
@@ -59,13 +60,13 @@ pub fn open(
 }
 
 // A text as the answer.
-fn told(mut s: State, o: &mut [u8], text: &[u8]) -> State {
+fn told(mut s: State, o: &mut Out, text: &[u8]) -> State {
     s.at = out::text(o, s.at, text);
     s
 }
 
 // The answer of get.
-fn got(mut s: State, got: Got, found: &[u8], o: &mut [u8]) -> State {
+fn got(mut s: State, got: Got, found: &[u8], o: &mut Out) -> State {
     match got {
         Got::Refused(x) => s.refused(o, b"get", x),
         Got::None(u) => {
@@ -94,7 +95,7 @@ pub fn get(
     heads: &mut [u64],
     bytes: &mut [u8],
     found: &mut [u8],
-    o: &mut [u8],
+    o: &mut Out,
 ) -> State {
     let t = s.tree;
     let g = t.get(image, heads, bytes, s.lent(), key, found);
@@ -102,7 +103,7 @@ pub fn get(
 }
 
 // The answer of floor.
-fn floored(mut s: State, got: Floor, found: &[u8], o: &mut [u8]) -> State {
+fn floored(mut s: State, got: Floor, found: &[u8], o: &mut Out) -> State {
     match got {
         Floor::Refused(x) => s.refused(o, b"floor", x),
         Floor::None(u) => {
@@ -127,7 +128,7 @@ pub fn floor(
     heads: &mut [u64],
     bytes: &mut [u8],
     found: &mut [u8],
-    o: &mut [u8],
+    o: &mut Out,
 ) -> State {
     let t = s.tree;
     let got = t.floor(image, heads, bytes, s.lent(), key, found);
@@ -135,7 +136,7 @@ pub fn floor(
 }
 
 // The answer of range.
-fn ranged(mut s: State, got: Ranged, found: &[u8], o: &mut [u8]) -> State {
+fn ranged(mut s: State, got: Ranged, found: &[u8], o: &mut Out) -> State {
     match got {
         Ranged::Refused(x) => s.refused(o, b"range", x),
         Ranged::Done(u, count, _) => {
@@ -158,7 +159,7 @@ pub fn range(
     heads: &mut [u64],
     bytes: &mut [u8],
     found: &mut [u8],
-    o: &mut [u8],
+    o: &mut Out,
 ) -> State {
     let t = s.tree;
     let got = t.range(image, heads, bytes, s.lent(), lo, hi, found);

@@ -3,6 +3,8 @@
 // Memory is fixed, so a line past one of these prints (error): an image of 4 MiB; slots times block size 256 KiB (64
 // slots of 4,096 bytes, 512 of 512; an image of larger blocks starts with 64 slots, so `open` prints (error) until
 // `slots` says fewer); a line of 132,096 bytes.
+#![tactic(auto)]
+
 mod answers;
 mod blocks;
 mod calls;
@@ -20,9 +22,11 @@ mod walk;
 
 ghost use Rattle.std.specs.Prelude.{◌<◌};
 
-use script::input::Source;
+use script::input::{Input, Source};
+use script::out::Out;
 use script::{out, words};
 use state::State;
+use std::io;
 
 // A line that is no flush.
 fn turn(
@@ -38,7 +42,7 @@ fn turn(
     scratch: &mut [u8],
     ids: &[u64],
     places: &[u64],
-    o: &mut [u8],
+    o: &mut Out,
 ) -> State {
     if k == kind::PASSED {
         return s;
@@ -69,7 +73,7 @@ fn line_of(
     scratch: &mut [u8],
     ids: &mut [u64],
     places: &mut [u64],
-    o: &mut [u8],
+    o: &mut Out,
 ) -> State {
     if k == kind::FLUSH {
         return flushing::run(
@@ -95,7 +99,7 @@ fn step(
     scratch: &mut [u8],
     ids: &mut [u64],
     places: &mut [u64],
-    o: &mut [u8],
+    o: &mut Out,
 ) -> State {
     if src.ended {
         return s;
@@ -135,9 +139,9 @@ fn run(
     scratch: &mut [u8],
     ids: &mut [u64],
     places: &mut [u64],
-    input: &mut [u8],
+    input: &mut Input,
     line: &mut [u8],
-    o: &mut [u8],
+    o: &mut Out,
 ) {
     let mut s = State::new(0, 0, 0);
     let mut src = Source::new();
@@ -152,18 +156,21 @@ fn run(
     out::flush(o, s.at);
 }
 
-// The rest of the memory. The two largest arrays are parameters, so their lengths are known without counting.
-fn begin(image: &mut [u8; limits::IMAGE], work: &mut [u8; limits::WORK]) {
+// The rest of the memory. The three largest arrays are parameters, so their lengths are known without counting.
+fn begin(
+    image: &mut [u8; limits::IMAGE],
+    work: &mut [u8; limits::WORK],
+    scratch: &mut [u8; limits::SCRATCH],
+    input: &mut Input,
+    o: &mut Out,
+) {
     let mut bitmap = [0u8; limits::BITMAP];
     let mut counts = [0u32; limits::CHUNKS];
     let mut free = [0u32; limits::CHUNKS];
     let mut heads = [0u64; limits::HEADS];
-    let mut scratch = [0u8; limits::SCRATCH];
     let mut ids = [0u64; limits::SLOTS];
     let mut places = [0u64; limits::SLOTS];
-    let mut input = [0u8; limits::INPUT];
     let mut line = [0u8; limits::LINE];
-    let mut o = [0u8; limits::OUTPUT];
     run(
         image,
         &mut bitmap,
@@ -171,17 +178,22 @@ fn begin(image: &mut [u8; limits::IMAGE], work: &mut [u8; limits::WORK]) {
         &mut free,
         &mut heads,
         work,
-        &mut scratch,
+        scratch,
         &mut ids,
         &mut places,
-        &mut input,
+        input,
         &mut line,
-        &mut o,
+        o,
     );
 }
 
-fn main() {
+fn main(rt: HostRuntime) -> io::Result<()> {
     let mut image = [0u8; limits::IMAGE];
     let mut work = [0u8; limits::WORK];
-    begin(&mut image, &mut work);
+    let mut scratch = [0u8; limits::SCRATCH];
+    let mut input = Input::new(rt.alloc(), rt.stdin(), limits::INPUT)?;
+    let mut o = Out::new(rt.alloc(), rt.stdout(), limits::OUTPUT)?;
+    begin(&mut image, &mut work, &mut scratch, &mut input, &mut o);
+    input.done()?;
+    o.done()
 }

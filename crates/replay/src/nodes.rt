@@ -11,7 +11,7 @@ const NO_VALUE: usize = 0xFFFF;
 const MOST_SIZE: usize = 65536;
 
 // A node, and its address.
-#[derive(Drop)]
+#[derive(Clone, Copy)]
 pub struct Met {
     pub at: u64,
     pub node: Node,

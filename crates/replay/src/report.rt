@@ -3,10 +3,11 @@ use crate::answers;
 use crate::state::{Place, State};
 use flush::flush::Flushed;
 use flush::space;
+use script::out::Out;
 use script::{number, out};
 
 // A space and number i of a list, if it is there.
-fn item(o: &mut [u8], at: usize, l: &[u64], i: usize) -> usize {
+fn item(o: &mut Out, at: usize, l: &[u64], i: usize) -> usize {
     if l.len() <= i {
         return at;
     }
@@ -14,7 +15,7 @@ fn item(o: &mut [u8], at: usize, l: &[u64], i: usize) -> usize {
 }
 
 // A line of the first n numbers of a list.
-fn list(o: &mut [u8], at: usize, name: &[u8], l: &[u64], n: usize) -> usize {
+fn list(o: &mut Out, at: usize, name: &[u8], l: &[u64], n: usize) -> usize {
     let mut end = out::open(o, at, name);
     let mut i: usize = 0;
     while i < n {
@@ -25,7 +26,7 @@ fn list(o: &mut [u8], at: usize, name: &[u8], l: &[u64], n: usize) -> usize {
 }
 
 // The line of ids and where each was written.
-fn moved(o: &mut [u8], at: usize, ids: &[u64], places: &[u64], n: usize) -> usize {
+fn moved(o: &mut Out, at: usize, ids: &[u64], places: &[u64], n: usize) -> usize {
     let mut end = out::open(o, at, b"moved");
     let mut i: usize = 0;
     while i < n {
@@ -52,7 +53,7 @@ fn is_new(bitmap: &[u8], old: &[u8], a: usize) -> bool {
 
 // The line of a block, if it was written.
 fn wrote(
-    o: &mut [u8],
+    o: &mut Out,
     at: usize,
     image: &[u8],
     bitmap: &[u8],
@@ -72,7 +73,7 @@ fn wrote(
 
 // The blocks written, in the order written: blocks are chosen by rising address.
 pub fn written(
-    o: &mut [u8],
+    o: &mut Out,
     at: usize,
     image: &[u8],
     bitmap: &[u8],
@@ -90,7 +91,7 @@ pub fn written(
 }
 
 // The first line.
-fn first(o: &mut [u8], at: usize, f: Flushed) -> usize {
+fn first(o: &mut Out, at: usize, f: Flushed) -> usize {
     let d = f.done;
     let a = out::two_open(o, at, b"flush", 0, f.root);
     let b = out::number(o, a, d.allocated);
@@ -103,7 +104,7 @@ fn first(o: &mut [u8], at: usize, f: Flushed) -> usize {
 
 // The first four lines.
 pub fn lists(
-    o: &mut [u8],
+    o: &mut Out,
     at: usize,
     f: Flushed,
     freed: &[u64],

@@ -1,6 +1,7 @@
 // Lines that set up the image, the slots and the object map.
 use crate::state::State;
 use crate::{blocks, empty, kind, limits};
+use script::out::Out;
 use script::{number, out, words};
 use seal::bytes;
 use tree::lent;
@@ -70,7 +71,7 @@ fn make(
     bitmap: &mut [u8],
     counts: &mut [u32],
     free: &mut [u32],
-    o: &mut [u8],
+    o: &mut Out,
 ) -> State {
     let blocks = small(w, 1);
     let size = small(w, 2);
@@ -89,7 +90,7 @@ fn make(
 }
 
 // (slots N)
-fn slots(mut s: State, w: &[u8], o: &mut [u8]) -> State {
+fn slots(mut s: State, w: &[u8], o: &mut Out) -> State {
     let n = words::number(words::word(w, 1)) as usize;
     if n == 0 {
         return s.error(o);
@@ -107,7 +108,7 @@ fn slots(mut s: State, w: &[u8], o: &mut [u8]) -> State {
 }
 
 // (map ADDR)
-fn map(mut s: State, w: &[u8], o: &mut [u8]) -> State {
+fn map(mut s: State, w: &[u8], o: &mut Out) -> State {
     let a = words::number(words::word(w, 1));
     s.mapped = true;
     s.map = a;
@@ -116,7 +117,7 @@ fn map(mut s: State, w: &[u8], o: &mut [u8]) -> State {
 }
 
 // (map -)
-fn unmap(mut s: State, o: &mut [u8]) -> State {
+fn unmap(mut s: State, o: &mut Out) -> State {
     s.mapped = false;
     s.map = 0;
     s.at = out::text(o, s.at, b"(map -)\n");
@@ -124,7 +125,7 @@ fn unmap(mut s: State, o: &mut [u8]) -> State {
 }
 
 // A line that sets up no block.
-fn other(s: State, k: u64, w: &[u8], o: &mut [u8]) -> State {
+fn other(s: State, k: u64, w: &[u8], o: &mut Out) -> State {
     if k == kind::SLOTS {
         return slots(s, w, o);
     }
@@ -143,7 +144,7 @@ pub fn run(
     bitmap: &mut [u8],
     counts: &mut [u32],
     free: &mut [u32],
-    o: &mut [u8],
+    o: &mut Out,
 ) -> State {
     if k == kind::IMAGE {
         return make(s, w, image, bitmap, counts, free, o);

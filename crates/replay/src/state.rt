@@ -3,6 +3,7 @@ ghost use Rattle.std.specs.Prelude.{◌≡◌};
 ghost use Rattle.script.specs.Number.{sum_of, product};
 
 use node::info::BTreeInfo;
+use script::out::Out;
 use script::{number, out};
 use tree::editor::Tree;
 use tree::lent::Lent;
@@ -11,7 +12,7 @@ use tree::lent::Lent;
 const WORDS_EACH: usize = 19;
 
 // A root, and how it is found: with a map lent or not, and with the blocks that a flush moved ids to.
-#[derive(Drop)]
+#[derive(Clone, Copy)]
 pub struct Place {
     pub root: u64,
     pub order: u64,
@@ -22,7 +23,7 @@ pub struct Place {
     pub moved: usize,
 }
 
-#[derive(Drop)]
+#[derive(Clone, Copy)]
 pub struct State {
     // How much output waits.
     pub at: usize,
@@ -94,13 +95,13 @@ impl State {
     }
 
     // A line that is not taken.
-    pub fn error(mut self, o: &mut [u8]) -> State {
+    pub fn error(mut self, o: &mut Out) -> State {
         self.at = out::error(o, self.at);
         self
     }
 
     // A refusal by its number.
-    pub fn refused(mut self, o: &mut [u8], name: &[u8], r: u64) -> State {
+    pub fn refused(mut self, o: &mut Out, name: &[u8], r: u64) -> State {
         self.at = out::one(o, self.at, name, r);
         self
     }

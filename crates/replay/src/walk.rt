@@ -5,13 +5,14 @@ use crate::{answers, nodes};
 use node::order::Order;
 use node::read::{Node, Read};
 use node::{read, refusal};
+use script::out::Out;
 use script::{number, out};
 use tree::lent::Lent;
 use tree::map;
 use tree::map::{Address, Edge, Edges};
 
 // How far a walk has come: its refusal, the entries met, how much output waits. A walk that shows nothing counts only.
-#[derive(Drop)]
+#[derive(Clone, Copy)]
 pub struct Tally {
     pub refusal: u64,
     pub count: u64,
@@ -19,7 +20,7 @@ pub struct Tally {
     pub shown: bool,
 }
 
-#[derive(Drop)]
+#[derive(Clone, Copy)]
 pub enum Visit {
     Refused(u64),
     At(Met),
@@ -185,7 +186,7 @@ fn root(image: &[u8], lent: Lent, p: Place, ids: &[u64], places: &[u64]) -> Visi
 }
 
 // Entry i of a leaf.
-fn entry(block: &[u8], v: Node, i: u64, o: &mut [u8], at: usize) -> usize {
+fn entry(block: &[u8], v: Node, i: u64, o: &mut Out, at: usize) -> usize {
     let s = nodes::span_of(block, v, i);
     let a = answers::part(o, at, block, s.key, number::plus(s.key, s.klen));
     if nodes::is_ghost(s) {
@@ -196,7 +197,7 @@ fn entry(block: &[u8], v: Node, i: u64, o: &mut [u8], at: usize) -> usize {
 }
 
 // The entries of a leaf.
-fn entries(block: &[u8], v: Node, o: &mut [u8], at: usize) -> usize {
+fn entries(block: &[u8], v: Node, o: &mut Out, at: usize) -> usize {
     let n = v.nkeys;
     let mut end = at;
     let mut i: u64 = 0;
@@ -208,7 +209,7 @@ fn entries(block: &[u8], v: Node, o: &mut [u8], at: usize) -> usize {
 }
 
 // A leaf.
-fn leaf(image: &[u8], size: usize, m: Met, o: &mut [u8], mut t: Tally) -> Tally {
+fn leaf(image: &[u8], size: usize, m: Met, o: &mut Out, mut t: Tally) -> Tally {
     let v = m.node;
     t.count = number::sum(t.count, v.nkeys);
     if t.shown {
@@ -227,7 +228,7 @@ fn below(
     m: Met,
     b: Edges,
     d: u64,
-    o: &mut [u8],
+    o: &mut Out,
     t: Tally,
 ) -> Tally {
     if d == 0 {
@@ -268,7 +269,7 @@ fn walk(
     p: Place,
     ids: &[u64],
     places: &[u64],
-    o: &mut [u8],
+    o: &mut Out,
     t: Tally,
 ) -> Tally {
     let none = Edge {
@@ -291,7 +292,7 @@ fn walk(
 }
 
 // Walked twice: the answer starts with how many entries there are.
-fn answer(mut s: State, image: &[u8], ids: &[u64], places: &[u64], o: &mut [u8]) -> State {
+fn answer(mut s: State, image: &[u8], ids: &[u64], places: &[u64], o: &mut Out) -> State {
     let p = s.walked;
     let lent = s.lent_to(p);
     let counted = walk(image, lent, p, ids, places, o, begun(s.at, false));
@@ -307,7 +308,7 @@ fn answer(mut s: State, image: &[u8], ids: &[u64], places: &[u64], o: &mut [u8])
 }
 
 // (walk)
-pub fn run(s: State, image: &[u8], ids: &[u64], places: &[u64], o: &mut [u8]) -> State {
+pub fn run(s: State, image: &[u8], ids: &[u64], places: &[u64], o: &mut Out) -> State {
     let start: usize = 0;
     let all = s.image_bytes();
     if !s.seen {

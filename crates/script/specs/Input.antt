@@ -1,5 +1,6 @@
--- Lines of standard input. What was read no contract can say; what becomes of the bytes that stand there it can.
-use Rattle.std.specs.Prelude.{◌≡◌, List, [], ◌∷◌, Bool, true, false, ℕ, ◌+◌, ◌-◌, ◌≤◌, min, length, take, drop, set, ltb, eqb}
+-- Lines of standard input: what becomes of the bytes that stand there, and, where the reader's bytes are known, of those to come.
+use Rattle.std.specs.Prelude.{Option, Some, IsNone, cond, not, ◌&&◌, ◌||◌, ◌^◌, ◌<◌, ◌≡◌, List, [], ◌∷◌, Bool, true, false, ℕ, ◌+◌, ◌-◌, ◌≤◌, min, length, take, drop, set, ltb, eqb}
+use Rattle.std.specs.Io.KnownBytes.{Consumes, IsAtEnd, prepend_known}
 use Rattle.script.specs.declared.input.Source.{Source}
 
 -- before the first line: nothing is read
@@ -81,3 +82,38 @@ pub record Lies (s : Source) (room : ℕ) : Type 0 where
 pub record Next (s : Source) (room : ℕ) : Type 0 where
   pub lies : Lies s room
   pub none : s.ended ≡ true → s.len ≡ 0
+
+-- ---- a reader whose bytes are known
+
+-- whether a line feed is among bytes
+unfoldable pub has_feed : List ℕ → Bool
+has_feed [] = false
+has_feed (b ∷ bs) = eqb b 10 || has_feed bs
+
+-- a line with the bytes before the first line feed; with all where there is none
+unfoldable pub filled : Line → List ℕ → Line
+filled l [] = l
+filled l (b ∷ bs) = pick_line (eqb b 10) l (filled (took l b) bs)
+
+-- the bytes behind the first line feed; none where there is none
+unfoldable pub after_line : List ℕ → List ℕ
+after_line [] = []
+after_line (b ∷ bs) = cond (eqb b 10) bs (after_line bs)
+
+-- a read that gave n bytes, unless it failed: the known bytes begin with them, and none are left where it gave none
+pub record Came {E : Type 0} (f g : Option E) (old new : Option (List ℕ)) (n : ℕ) (input : List ℕ) : Type 0 where
+  pub kept : IsNone g → IsNone f
+  pub came : IsNone g → Consumes old new (take n input)
+  pub done : IsNone g → n ≡ 0 → 0 < length input → IsAtEnd new
+
+-- bytes read into a line: it has those before the first line feed, those behind it are to come, and it ends the input where
+-- there is neither a byte nor a line feed
+pub record Reads (l : Line) (xs : List ℕ) (r : Source) (room input : List ℕ) (now : Option (List ℕ)) : Type 0 where
+  pub line : line_of r room ≡ filled l xs
+  pub rest : prepend_known (left_of r input) now ≡ Some (after_line xs)
+  pub ended : r.ended ≡ (not (has_feed xs) && eqb r.len 0)
+
+-- the same wherever a reader's bytes are known, there is room to read them, and no read failed
+abbrev pub ReadsKnown : {E : Type 0} → Line → Option (List ℕ) → Option E → Source → List ℕ → List ℕ → Option (List ℕ) → Type 0
+ReadsKnown l known g r room input now =
+    (xs : List ℕ) → known ≡ Some xs → length xs < 2 ^ 64 - 1 → 0 < length input → IsNone g → Reads l xs r room input now

@@ -1,6 +1,7 @@
 -- Answers: what stands in the buffer after a text was put there, and how much. Where the buffer is full, what stands there
--- is written and the next byte is the first again; what was written no contract can say.
-use Rattle.std.specs.Prelude.{List, [], ◌∷◌, ◌++◌, cond, ℕ, zero, suc, ◌+◌, ◌/◌, ◌%◌, min, length, set, ltb}
+-- is written and the next byte is the first again.
+use Rattle.std.specs.Prelude.{◌≡◌, Option, IsSome, IsNone, leb, take, List, [], ◌∷◌, ◌++◌, cond, ℕ, zero, suc, ◌+◌, ◌/◌, ◌%◌, min, length, set, ltb}
+use Rattle.std.specs.Io.KnownBytes.{Appends}
 
 -- a buffer's bytes, and how many of them stand there
 pub record Held : Type 0 where
@@ -21,6 +22,24 @@ put h b =
 unfoldable pub puts : Held → List ℕ → Held
 puts h [] = h
 puts h (b ∷ s) = puts (put h b) s
+
+-- what is written as a byte is put: nothing where there is room for it, else all that stands there
+unfoldable pub sent : Held → ℕ → List ℕ
+sent h b = cond (ltb h.at (length h.bytes)) [] h.bytes
+
+-- what is written as a text is put
+unfoldable pub sents : Held → List ℕ → List ℕ
+sents h [] = []
+sents h (b ∷ s) = sent h b ++ sents (put h b) s
+
+-- what is written as so many bytes of a buffer are
+unfoldable pub flushed : Held → List ℕ
+flushed h = cond (leb h.at (length h.bytes)) (take h.at h.bytes) []
+
+-- between two states of an answer's buffer: the first failure stays, and where none is there, the writer's bytes have grown by bs
+pub record Wrote {E : Type 0} (f g : Option E) (old new : Option (List ℕ)) (bs : List ℕ) : Type 0 where
+  pub kept : IsSome f → g ≡ f
+  pub grown : IsNone g → Appends old new bs
 
 -- the decimal digits of n, at most f of them
 unfoldable pub decimal : ℕ → ℕ → List ℕ

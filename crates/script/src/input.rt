@@ -1,10 +1,70 @@
 // Lines of standard input.
-ghost use Rattle.std.specs.Prelude.{◌≡◌, false, length};
-ghost use Rattle.script.specs.Input.{no_line, line_of, took, gathered, gather, left_of, Lies, Next, Ahead};
+ghost use Rattle.std.specs.Prelude.{◌≡◌, ◌≤◌, false, length, IfOk, IsOk, IsNone, MatchOption, Err};
+ghost use Rattle.script.specs.Input.{no_line, line_of, took, gathered, gather, left_of, empty_line, Lies, Next, Ahead, Came, ReadsKnown};
+ghost use Rattle.std.specs.Io.KnownBytes.{prepend_known};
 
 use crate::number;
+use std::alloc::{AllocError, Global};
+use std::io;
+use std::io::{Read, Stdin};
 
+// Room for the bytes read, and where they come from.
 #[derive(Drop)]
+pub struct Input<R = Stdin> {
+    pub bytes: Vec<u8>,
+    from: R,
+    // A read that failed: the input ends there.
+    failed: Option<io::Error>,
+}
+
+impl<R> Input<R> {
+    // Room for so many bytes.
+    pub fn new(alloc: Global, from: R, room: usize) -> Result<Input<R>, AllocError>
+    where
+        R: Drop,
+        ensures room { IfOk result (λ i. length i.bytes.items ≡ room) }
+        ensures from { IfOk result (λ i. i.from ≡ from) }
+        ensures failed { IfOk result (λ i. IsNone i.failed) }
+    {
+        Ok(Input {
+            bytes: vec![in alloc; 0; room]?,
+            from,
+            failed: None,
+        })
+    }
+
+    // Whether every read was answered; else why the last that was not.
+    pub fn done(self) -> io::Result<()>
+    where
+        R: Drop,
+        ensures { MatchOption self.failed (IsOk result) (λ e. result ≡ Err e) }
+    {
+        match self.failed {
+            None => Ok(()),
+            Some(e) => Err(e),
+        }
+    }
+}
+
+impl<R: Read> Input<R> {
+    // Some more bytes, and how many; 0 at the end.
+    fn read(&mut self) -> usize
+        ensures count { result ≤ length self.new.bytes.items }
+        ensures room { length self.new.bytes.items ≡ length self.old.bytes.items }
+        ensures came { Came self.old.failed self.new.failed (R.remaining self.old.from) (R.remaining self.new.from)
+            result self.new.bytes.items }
+    {
+        match self.from.read(&mut self.bytes) {
+            Ok(n) => n,
+            Err(e) => {
+                self.failed = Some(e);
+                0
+            }
+        }
+    }
+}
+
+#[derive(Clone, Copy)]
 pub struct Source {
     // What is left of the bytes read.
     pub from: usize,
@@ -70,20 +130,22 @@ impl Source {
     }
 
     // The rest of a line, of which nothing more is read yet.
-    fn more(mut self, input: &mut [u8], line: &mut [u8]) -> Source
+    fn more<R: Read>(mut self, input: &mut Input<R>, line: &mut [u8]) -> Source
         requires { Lies self (length line.old) × (self.ended ≡ false) }
-        ensures { Next result (length line.new) }
+        ensures line { Next result (length line.new) }
+        ensures room { length input.new.bytes.items ≡ length input.old.bytes.items }
+        ensures reads { ReadsKnown (line_of self line.old) (R.remaining input.old.from) input.new.failed
+            result line.new input.new.bytes.items (R.remaining input.new.from) }
     {
         let mut turns = u64::MAX;
         while 0 < turns {
-            let got = libc::read(0, input);
             self.from = 0;
-            self.end = io::count(got, input);
+            self.end = input.read();
             if self.end == 0 {
                 self.ended = self.len == 0;
                 return self;
             }
-            self = self.copy(input, line);
+            self = self.copy(&input.bytes, line);
             if self.ended {
                 self.ended = false;
                 return self;
@@ -93,11 +155,14 @@ impl Source {
         self
     }
 
-    // The next line, without its line feed; `ended` where there is none. Where more has to be read, no contract can say
-    // what comes: then this one gives bounds only.
-    pub fn next(mut self, input: &mut [u8], line: &mut [u8]) -> Source
-        ensures { Next result (length line.new)
-            × Ahead self input.old line.old result input.new line.new }
+    // The next line, without its line feed; `ended` where there is none.
+    pub fn next<R: Read>(mut self, input: &mut Input<R>, line: &mut [u8]) -> Source
+        ensures line { Next result (length line.new)
+            × Ahead self input.old.bytes.items line.old result input.new.bytes.items line.new }
+        ensures room { length input.new.bytes.items ≡ length input.old.bytes.items }
+        ensures reads { ReadsKnown (empty_line line.old)
+            (prepend_known (left_of self input.old.bytes.items) (R.remaining input.old.from)) input.new.failed
+            result line.new input.new.bytes.items (R.remaining input.new.from) }
     {
         self.len = 0;
         self.long = false;
@@ -105,7 +170,7 @@ impl Source {
         if self.end <= self.from {
             return self.more(input, line);
         }
-        self = self.copy(input, line);
+        self = self.copy(&input.bytes, line);
         if !self.ended {
             return self.more(input, line);
         }

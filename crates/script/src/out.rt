@@ -1,34 +1,89 @@
 // Answers, gathered in a buffer that is written when it is full and at the end. Each function is given how much stands
 // there, and answers how much does then.
-ghost use Rattle.std.specs.Prelude.{◌≡◌, ◌/◌, ◌%◌, ◌<◌};
-ghost use Rattle.script.specs.Out.{held, put, puts, hex_digit, hex_text, number_text, bytes_text, word_text};
+ghost use Rattle.std.specs.Prelude.{◌≡◌, ◌/◌, ◌%◌, ◌<◌, length, IfOk, IsOk, IsNone, MatchOption, Err};
+ghost use Rattle.script.specs.Out.{held, put, puts, sent, sents, flushed, Wrote, hex_digit, hex_text, number_text, bytes_text, word_text};
 ghost use Rattle.script.specs.Out.{open_text, close_text, one_text, two_open_text, two_text, error_text};
 
-// Writes what stands there, and changes nothing: so there is nothing that a contract could say.
-pub fn flush(o: &[u8], at: usize) {
-    if o.len() < at {
-        return;
-    }
-    io::write_all(1, &o[..at]);
+use std::alloc::{AllocError, Global};
+use std::io::{Error, Stdout, Write};
+
+// A buffer of answers, and where it is written.
+#[derive(Drop)]
+pub struct Out<W = Stdout> {
+    pub room: Vec<u8>,
+    to: W,
+    // The first write that failed: no more is written after it.
+    failed: Option<Error>,
 }
 
-pub fn byte(o: &mut [u8], at: usize, b: u8) -> usize
-    ensures { held o.new result ≡ put (held o.old at) b }
+impl<W> Out<W> {
+    // A buffer of so many bytes.
+    pub fn new(alloc: Global, to: W, room: usize) -> Result<Out<W>, AllocError>
+    where
+        W: Drop,
+        ensures room { IfOk result (λ o. length o.room.items ≡ room) }
+        ensures to { IfOk result (λ o. o.to ≡ to) }
+        ensures failed { IfOk result (λ o. IsNone o.failed) }
+    {
+        Ok(Out {
+            room: vec![in alloc; 0; room]?,
+            to,
+            failed: None,
+        })
+    }
+
+    // Whether every write was taken; else why the first was not.
+    pub fn done(self) -> Result<(), Error>
+    where
+        W: Drop,
+        ensures { MatchOption self.failed (IsOk result) (λ e. result ≡ Err e) }
+    {
+        match self.failed {
+            None => Ok(()),
+            Some(e) => Err(e),
+        }
+    }
+}
+
+// Writes what stands there, and leaves it as it is.
+pub fn flush<W: Write>(o: &mut Out<W>, at: usize)
+    ensures room { o.new.room.items ≡ o.old.room.items }
+    ensures written { Wrote o.old.failed o.new.failed (W.contents o.old.to) (W.contents o.new.to)
+        (flushed (held o.old.room.items at)) }
 {
-    if at < o.len() {
-        o[at] = b;
+    if o.room.len() < at {
+        return;
+    }
+    if o.failed.is_some() {
+        return;
+    }
+    if let Err(e) = o.to.write_all(&o.room[..at]) {
+        o.failed = Some(e);
+    }
+}
+
+pub fn byte<W: Write>(o: &mut Out<W>, at: usize, b: u8) -> usize
+    ensures buffer { held o.new.room.items result ≡ put (held o.old.room.items at) b }
+    ensures written { Wrote o.old.failed o.new.failed (W.contents o.old.to) (W.contents o.new.to)
+        (sent (held o.old.room.items at) b) }
+{
+    if at < o.room.len() {
+        o.room[at] = b;
         return at + 1;
     }
-    flush(o, o.len());
-    if o.len() == 0 {
+    let n = o.room.len();
+    flush(o, n);
+    if n == 0 {
         return 0;
     }
-    o[0] = b;
+    o.room[0] = b;
     1
 }
 
-pub fn text(o: &mut [u8], at: usize, s: &[u8]) -> usize
-    ensures { held o.new result ≡ puts (held o.old at) s.now }
+pub fn text<W: Write>(o: &mut Out<W>, at: usize, s: &[u8]) -> usize
+    ensures buffer { held o.new.room.items result ≡ puts (held o.old.room.items at) s.now }
+    ensures written { Wrote o.old.failed o.new.failed (W.contents o.old.to) (W.contents o.new.to)
+        (sents (held o.old.room.items at) s.now) }
 {
     let mut n = at;
     let mut i: usize = 0;
@@ -40,8 +95,10 @@ pub fn text(o: &mut [u8], at: usize, s: &[u8]) -> usize
 }
 
 // A space and a decimal number.
-pub fn number(o: &mut [u8], at: usize, x: u64) -> usize
-    ensures { held o.new result ≡ puts (held o.old at) (number_text x) }
+pub fn number<W: Write>(o: &mut Out<W>, at: usize, x: u64) -> usize
+    ensures buffer { held o.new.room.items result ≡ puts (held o.old.room.items at) (number_text x) }
+    ensures written { Wrote o.old.failed o.new.failed (W.contents o.old.to) (W.contents o.new.to)
+        (sents (held o.old.room.items at) (number_text x)) }
 {
     let mut digits = [0u8; 20];
     let k = io::decimal(x, &mut digits);
@@ -75,8 +132,10 @@ fn lower(b: u8) -> u8
 }
 
 // Two hexadecimal digits a byte.
-fn hex(o: &mut [u8], at: usize, s: &[u8]) -> usize
-    ensures { held o.new result ≡ puts (held o.old at) (hex_text s.now) }
+fn hex<W: Write>(o: &mut Out<W>, at: usize, s: &[u8]) -> usize
+    ensures buffer { held o.new.room.items result ≡ puts (held o.old.room.items at) (hex_text s.now) }
+    ensures written { Wrote o.old.failed o.new.failed (W.contents o.old.to) (W.contents o.new.to)
+        (sents (held o.old.room.items at) (hex_text s.now)) }
 {
     let mut n = at;
     let mut i: usize = 0;
@@ -90,38 +149,48 @@ fn hex(o: &mut [u8], at: usize, s: &[u8]) -> usize
 }
 
 // A space and a byte string.
-pub fn bytes(o: &mut [u8], at: usize, s: &[u8]) -> usize
-    ensures { held o.new result ≡ puts (held o.old at) (bytes_text s.now) }
+pub fn bytes<W: Write>(o: &mut Out<W>, at: usize, s: &[u8]) -> usize
+    ensures buffer { held o.new.room.items result ≡ puts (held o.old.room.items at) (bytes_text s.now) }
+    ensures written { Wrote o.old.failed o.new.failed (W.contents o.old.to) (W.contents o.new.to)
+        (sents (held o.old.room.items at) (bytes_text s.now)) }
 {
     let n = text(o, at, b" x");
     hex(o, n, s)
 }
 
 // A space and words.
-pub fn word(o: &mut [u8], at: usize, s: &[u8]) -> usize
-    ensures { held o.new result ≡ puts (held o.old at) (word_text s.now) }
+pub fn word<W: Write>(o: &mut Out<W>, at: usize, s: &[u8]) -> usize
+    ensures buffer { held o.new.room.items result ≡ puts (held o.old.room.items at) (word_text s.now) }
+    ensures written { Wrote o.old.failed o.new.failed (W.contents o.old.to) (W.contents o.new.to)
+        (sents (held o.old.room.items at) (word_text s.now)) }
 {
     let n = byte(o, at, b' ');
     text(o, n, s)
 }
 
 // An answer's bracket and name.
-pub fn open(o: &mut [u8], at: usize, name: &[u8]) -> usize
-    ensures { held o.new result ≡ puts (held o.old at) (open_text name.now) }
+pub fn open<W: Write>(o: &mut Out<W>, at: usize, name: &[u8]) -> usize
+    ensures buffer { held o.new.room.items result ≡ puts (held o.old.room.items at) (open_text name.now) }
+    ensures written { Wrote o.old.failed o.new.failed (W.contents o.old.to) (W.contents o.new.to)
+        (sents (held o.old.room.items at) (open_text name.now)) }
 {
     let n = byte(o, at, b'(');
     text(o, n, name)
 }
 
-pub fn close(o: &mut [u8], at: usize) -> usize
-    ensures { held o.new result ≡ puts (held o.old at) close_text }
+pub fn close<W: Write>(o: &mut Out<W>, at: usize) -> usize
+    ensures buffer { held o.new.room.items result ≡ puts (held o.old.room.items at) close_text }
+    ensures written { Wrote o.old.failed o.new.failed (W.contents o.old.to) (W.contents o.new.to)
+        (sents (held o.old.room.items at) close_text) }
 {
     text(o, at, b")\n")
 }
 
 // An answer of a name and a number.
-pub fn one(o: &mut [u8], at: usize, name: &[u8], x: u64) -> usize
-    ensures { held o.new result ≡ puts (held o.old at) (one_text name.now x) }
+pub fn one<W: Write>(o: &mut Out<W>, at: usize, name: &[u8], x: u64) -> usize
+    ensures buffer { held o.new.room.items result ≡ puts (held o.old.room.items at) (one_text name.now x) }
+    ensures written { Wrote o.old.failed o.new.failed (W.contents o.old.to) (W.contents o.new.to)
+        (sents (held o.old.room.items at) (one_text name.now x)) }
 {
     let a = open(o, at, name);
     let b = number(o, a, x);
@@ -129,8 +198,10 @@ pub fn one(o: &mut [u8], at: usize, name: &[u8], x: u64) -> usize
 }
 
 // The start of an answer: a name and two numbers.
-pub fn two_open(o: &mut [u8], at: usize, name: &[u8], x: u64, y: u64) -> usize
-    ensures { held o.new result ≡ puts (held o.old at) (two_open_text name.now x y) }
+pub fn two_open<W: Write>(o: &mut Out<W>, at: usize, name: &[u8], x: u64, y: u64) -> usize
+    ensures buffer { held o.new.room.items result ≡ puts (held o.old.room.items at) (two_open_text name.now x y) }
+    ensures written { Wrote o.old.failed o.new.failed (W.contents o.old.to) (W.contents o.new.to)
+        (sents (held o.old.room.items at) (two_open_text name.now x y)) }
 {
     let a = open(o, at, name);
     let b = number(o, a, x);
@@ -138,15 +209,19 @@ pub fn two_open(o: &mut [u8], at: usize, name: &[u8], x: u64, y: u64) -> usize
 }
 
 // An answer of a name and two numbers.
-pub fn two(o: &mut [u8], at: usize, name: &[u8], x: u64, y: u64) -> usize
-    ensures { held o.new result ≡ puts (held o.old at) (two_text name.now x y) }
+pub fn two<W: Write>(o: &mut Out<W>, at: usize, name: &[u8], x: u64, y: u64) -> usize
+    ensures buffer { held o.new.room.items result ≡ puts (held o.old.room.items at) (two_text name.now x y) }
+    ensures written { Wrote o.old.failed o.new.failed (W.contents o.old.to) (W.contents o.new.to)
+        (sents (held o.old.room.items at) (two_text name.now x y)) }
 {
     let c = two_open(o, at, name, x, y);
     close(o, c)
 }
 
-pub fn error(o: &mut [u8], at: usize) -> usize
-    ensures { held o.new result ≡ puts (held o.old at) error_text }
+pub fn error<W: Write>(o: &mut Out<W>, at: usize) -> usize
+    ensures buffer { held o.new.room.items result ≡ puts (held o.old.room.items at) error_text }
+    ensures written { Wrote o.old.failed o.new.failed (W.contents o.old.to) (W.contents o.new.to)
+        (sents (held o.old.room.items at) error_text) }
 {
     text(o, at, b"(error)\n")
 }

@@ -51,7 +51,7 @@ pub took_full : (s : Source) (l : List ℕ) (b : ℕ) → length l ≤ s.len
 unfolding took
 took_full s l b h = rw (le-ltb s.len (length l) h)
 
-between_cons : (input : List ℕ) (e i : ℕ) → i < e → e ≤ length input → between input e i ≡ get_or input i 0 ∷ between input e (i + 1)
+pub between_cons : (input : List ℕ) (e i : ℕ) → i < e → e ≤ length input → between input e i ≡ get_or input i 0 ∷ between input e (i + 1)
 between_cons input e i h k =
     let g : i < length input = omega arith in
     let n : e - i ≡ suc (e - (i + 1)) = omega arith in
@@ -83,7 +83,8 @@ unfolding left_of
 copy_found s z l k input e i p h q n =
     let t : Gathered = gather (line_of z k) z.from (between input e z.from) in
     let f : pick_gathered (eqb (get_or input i 0) 10) (record { line = line_of s l; place = i + 1; whole = true })
-    (gather (took (line_of s l) (get_or input i 0)) (i + 1) (between input e (i + 1))) ≡ t = sym (gather_cons (line_of s l) input e i z.end h q) ∙ p in
+    (gather (took (line_of s l) (get_or input i 0)) (i + 1) (between input e (i + 1))) ≡ t = sym (gather_cons (line_of s l) input e i z.end h q)
+    ∙ p in
     let g : gathered (record { from = i + 1; end = s.end; len = s.len; long = s.long; ended = true }) l ≡ t =
     rw (eq-eqb (get_or input i 0) 10 n) at f in
     g ∙ ap (λ (j : ℕ). gather (line_of z k) z.from (between input j z.from)) q

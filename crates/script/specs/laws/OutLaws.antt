@@ -84,7 +84,7 @@ few_places k n f h g =
     let z : 0 < 10 = omega arith in
     omega (arith, f.fits, pow-le-pow_right z g)
 
-fewest_decimal : (k n : ℕ) → Fits w64 n → IsDigitCount 10 1 n k → last_digits 10 k n ≡ decimal 20 n
+pub fewest_decimal : (k n : ℕ) → Fits w64 n → IsDigitCount 10 1 n k → last_digits 10 k n ≡ decimal 20 n
 fewest_decimal zero n f (a, b, c) = absurd (omega arith)
 fewest_decimal (suc k) n f (a, b, c) =
     let e : suc k - 1 ≡ k = omega arith in

@@ -1,0 +1,2 @@
+-- What only proofs' invariants say.
+pub mod Coming
