@@ -55,7 +55,7 @@ def term_of(text):
     kinds = LINES[name].split()
     if len(words) != len(kinds) or not all(is_word(k, w) for k, w in zip(kinds, words)):
         return None, None
-    return name, ' '.join([name + 'Line', *(WORDS[k][1](w) for k, w in zip(kinds, words))])
+    return name, ' '.join([name + '_line', *(WORDS[k][1](w) for k, w in zip(kinds, words))])
 
 
 # ---- answers as the numbers of world.txt

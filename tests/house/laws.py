@@ -2,24 +2,22 @@
 import collections
 import re
 
-from text import CRATES, PROJECT, modules
+from text import CRATES, PROJECT, modules, sources
 
 TOKEN = re.compile(r'[^\s(){}\[\],;.«»⌜⌝`]+')
 PARTS = re.compile(r'([\s(){}\[\],;.«»⌜⌝]+)')
 DECLARED = re.compile(r'^(\s*)((?:unfoldable |abbrev |opaque )*)(pub )?((?:unfoldable |abbrev )*)(record |data )?([^\s(){}:;=]+)((?:\s+[({][^)}]*[)}])*)\s*:\s')
 NO_NAME = {'use', 'mod', 'unfolding', 'where', 'let', 'in', 'infixr', 'infixl', 'infix', 'module'}
-BROUGHT = re.compile(r'^(?:unfoldable )?(?:pub |ghost )?use Rattle·(\w+?)(?:·specs)?\.specs\.([\w.]+?)(?:\.\{([^}]*)\}| as (\S+?));?\s*$', re.M)
-WHOLE = re.compile(r'Rattle·(\w+?)(?:·specs)?\.specs\.((?:[a-z]\w*\.)*[A-Z]\w*)\.([^\s(){}\[\],;]+)')
+BROUGHT = re.compile(r'^(?:unfoldable )?(?:pub |ghost )?use Rattle\.(\w+)\.specs\.([\w.]+?)(?:\.\{([^}]*)\}| as (\S+?));?\s*$', re.M)
+WHOLE = re.compile(r'Rattle\.(\w+)\.specs\.((?:[a-z]\w*\.)*[A-Z]\w*)\.([^\s(){}\[\],;]+)')
 BOUND = re.compile(r'[({]([^(){}:]+?) : |λ ([^.()]+?)\.')
 
 
 def texts():
     """Every file that may name a law, comments of antt left out."""
     out = {}
-    for place in (CRATES, PROJECT / 'tests'):
-        for p in sorted(place.rglob('*')):
-            if p.suffix not in ('.antt', '.rt', '.edit', '.py', '.txt') or 'target' in p.parts:
-                continue
+    for p in [*sources('*'), *sorted((PROJECT / 'tests').rglob('*'))]:
+        if p.suffix in ('.antt', '.rt', '.edit', '.py', '.txt') and 'target' not in p.relative_to(PROJECT).parts:
             t = p.read_text(errors='replace')
             out[p] = '\n'.join('' if l.lstrip().startswith('--') else l for l in t.split('\n')) if p.suffix == '.antt' else t
     return out
@@ -73,7 +71,7 @@ def order(text):
         rank = {name: i for i, name in enumerate(modules(listing))}
         for p in sorted(base.rglob('*.antt')):
             own = p.relative_to(base).parts[0].removesuffix('.antt')
-            for other in sorted(set(re.findall(rf'Rattle·{crate}·specs\.specs\.{re.escape(within)}(\w+)', text[p]))):
+            for other in sorted(set(re.findall(rf'Rattle\.{crate}\.specs\.{re.escape(within)}(\w+)', text[p]))):
                 if own in rank and rank.get(other, -1) > rank[own]:
                     yield f'{p.relative_to(PROJECT)}: order: uses {other}, which stands below {own} in {listing.relative_to(PROJECT)}'
 
@@ -112,7 +110,7 @@ def taken(text):
             if m.group(3) is not None:
                 names = {x.strip().split(' as ')[0] for x in m.group(3).split(',')}
             else:
-                names = set(re.findall(rf'(?<![\w·.]){re.escape(m.group(4))}\.([^\s(){{}}\[\],;.]+)', t))
+                names = set(re.findall(rf'(?<![\w.]){re.escape(m.group(4))}\.([^\s(){{}}\[\],;.]+)', t))
             out[m.group(1), m.group(2)] |= names
         for m in WHOLE.finditer(t):
             out[m.group(1), m.group(2)].add(m.group(3).rstrip('.'))
@@ -125,7 +123,7 @@ def dead(text):
     for p, name, lines, i, j, _, _ in declarations(text):
         crate, _, *path = p.relative_to(CRATES).with_suffix('').parts
         rest = [x for x in lines[:i] + lines[j:] if not x.startswith('use ')]
-        own = {name, name.strip('_')}
+        own = {name, name.strip('◌')}
         if name not in brought[crate, '.'.join(path)] and not any(t.group(0) in own for x in rest for t in TOKEN.finditer(x)):
             out.append(f'{short(p)}:{name}')
     return out

@@ -5,10 +5,21 @@ from pathlib import Path
 PROJECT = Path(__file__).resolve().parent.parent.parent
 CRATES = PROJECT / 'crates'
 WIDTH = 150  # columns of a line in specs/ and src/; rust/rustfmt.toml says the same of Rust
-CITED = re.compile(r'^(?:unfoldable )?(?:pub )?use Rattle·(\w+)(?:·specs)?\.specs\.((?:[a-z]\w*\.)*\w+)', re.M)
+CITED = re.compile(r'^(?:unfoldable )?(?:pub )?use Rattle\.(\w+)\.specs\.((?:[a-z]\w*\.)*\w+)', re.M)
 UNFOLDABLE = re.compile(r'^unfoldable pub (\S+) :', re.M)
 MODULES = re.compile(r'^pub mod (\w+)', re.M)
+GENERATED = re.compile(r'\s*(?:(?:unfoldable )?pub )?(?:ghost )?use |\s*unfolding |\s+Rattle\.')
 SENTENCE = re.compile(r'^.*?[^\s.]\.(?=\s+[A-Z`(]|$)')
+
+
+def sources(pattern):
+    """The files under crates/ of a pattern; what rt makes in a crate's out/ is none of them."""
+    return sorted(p for p in CRATES.rglob(pattern) if 'out' not in p.relative_to(CRATES).parts[1:2])
+
+
+def generated(line):
+    """Whether a line is one that nobody lays out by hand: of a `use` item or of an `unfolding` line."""
+    return GENERATED.match(line) is not None
 
 
 def modules(listing):
