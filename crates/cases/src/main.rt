@@ -101,7 +101,7 @@ fn main(rt: HostRuntime) -> io::Result<()> {
     let mut heads = [0u64; desk::HEADS];
     let mut work = [0u8; desk::WORK];
     let mut scratch = [0u8; desk::SCRATCH];
-    let mut o = Out::new(rt.alloc(), rt.stdout(), 4096)?;
+    let mut o = Out::new(rt.stdout());
     let t = all(&mut image, &mut heads, &mut work, &mut scratch, &mut o);
     count(t, &mut o);
     o.done()

@@ -134,9 +134,9 @@ fn main(rt: HostRuntime) -> io::Result<()> {
     let mut removed = [0u64; state::SLOTS];
     let mut ids = [0u64; state::SLOTS];
     let mut places = [0u64; state::SLOTS];
-    let mut input = Input::new(rt.alloc(), rt.stdin(), 4096)?;
+    let mut input = Input::new(rt.stdin());
     let mut line = [0u8; 256];
-    let mut o = Out::new(rt.alloc(), rt.stdout(), 4096)?;
+    let mut o = Out::new(rt.stdout());
     run(
         &mut image,
         &mut bitmap,

@@ -1,4 +1,5 @@
 // What fits in the program's fixed memory (main.rt says it in words).
+use script::{input, out};
 
 // Bytes of an image.
 pub const IMAGE: usize = 4194304;
@@ -26,6 +27,11 @@ pub const LINE: usize = 132096;
 
 pub const BYTES: usize = 66048;
 
+// Bytes read at once, and bytes of answers gathered before they are written: the room that `script` has.
 pub const INPUT: usize = 16384;
 
 pub const OUTPUT: usize = 32768;
+
+const _: () = prove!(INPUT == input::ROOM);
+
+const _: () = prove!(OUTPUT == out::ROOM);

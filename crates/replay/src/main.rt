@@ -191,8 +191,8 @@ fn main(rt: HostRuntime) -> io::Result<()> {
     let mut image = [0u8; limits::IMAGE];
     let mut work = [0u8; limits::WORK];
     let mut scratch = [0u8; limits::SCRATCH];
-    let mut input = Input::new(rt.alloc(), rt.stdin(), limits::INPUT)?;
-    let mut o = Out::new(rt.alloc(), rt.stdout(), limits::OUTPUT)?;
+    let mut input = Input::new(rt.stdin());
+    let mut o = Out::new(rt.stdout());
     begin(&mut image, &mut work, &mut scratch, &mut input, &mut o);
     input.done()?;
     o.done()

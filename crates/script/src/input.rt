@@ -1,36 +1,37 @@
 // Lines of standard input.
-ghost use Rattle.std.specs.Prelude.{◌≡◌, ◌≤◌, false, length, IfOk, IsOk, IsNone, MatchOption, Err};
+ghost use Rattle.std.specs.Prelude.{◌≡◌, ◌≤◌, false, length, IsOk, IsNone, MatchOption, Err};
 ghost use Rattle.script.specs.Input.{no_line, line_of, took, gathered, gather, left_of, empty_line, Lies, Next, Ahead, Came, ReadsKnown};
 ghost use Rattle.std.specs.Io.KnownBytes.{prepend_known};
 
 use crate::number;
-use std::alloc::{AllocError, Global};
 use std::io;
 use std::io::{Read, Stdin};
+
+// How many bytes are read at once.
+pub const ROOM: usize = 16384;
 
 // Room for the bytes read, and where they come from.
 #[derive(Drop)]
 pub struct Input<R = Stdin> {
-    pub bytes: Vec<u8>,
+    pub bytes: [u8; ROOM],
     from: R,
     // A read that failed: the input ends there.
     failed: Option<io::Error>,
 }
 
 impl<R> Input<R> {
-    // Room for so many bytes.
-    pub fn new(alloc: Global, from: R, room: usize) -> Result<Input<R>, AllocError>
+    // Nothing read yet.
+    pub fn new(from: R) -> Input<R>
     where
         R: Drop,
-        ensures room { IfOk result (λ i. length i.bytes.items ≡ room) }
-        ensures from { IfOk result (λ i. i.from ≡ from) }
-        ensures failed { IfOk result (λ i. IsNone i.failed) }
+        ensures from { result.from ≡ from }
+        ensures failed { IsNone result.failed }
     {
-        Ok(Input {
-            bytes: vec![in alloc; 0; room]?,
+        Input {
+            bytes: [0; ROOM],
             from,
             failed: None,
-        })
+        }
     }
 
     // Whether every read was answered; else why the last that was not.
@@ -49,10 +50,10 @@ impl<R> Input<R> {
 impl<R: Read> Input<R> {
     // Some more bytes, and how many; 0 at the end.
     fn read(&mut self) -> usize
-        ensures count { result ≤ length self.new.bytes.items }
-        ensures room { length self.new.bytes.items ≡ length self.old.bytes.items }
+        ensures count { result ≤ length self.new.bytes }
+        ensures room { length self.new.bytes ≡ length self.old.bytes }
         ensures came { Came self.old.failed self.new.failed (R.remaining self.old.from) (R.remaining self.new.from)
-            result self.new.bytes.items }
+            result self.new.bytes }
     {
         match self.from.read(&mut self.bytes) {
             Ok(n) => n,
@@ -133,9 +134,9 @@ impl Source {
     fn more<R: Read>(mut self, input: &mut Input<R>, line: &mut [u8]) -> Source
         requires { Lies self (length line.old) × (self.ended ≡ false) }
         ensures line { Next result (length line.new) }
-        ensures room { length input.new.bytes.items ≡ length input.old.bytes.items }
+        ensures room { length input.new.bytes ≡ length input.old.bytes }
         ensures reads { ReadsKnown (line_of self line.old) (R.remaining input.old.from) input.new.failed
-            result line.new input.new.bytes.items (R.remaining input.new.from) }
+            result line.new input.new.bytes (R.remaining input.new.from) }
     {
         let mut turns = u64::MAX;
         while 0 < turns {
@@ -158,11 +159,11 @@ impl Source {
     // The next line, without its line feed; `ended` where there is none.
     pub fn next<R: Read>(mut self, input: &mut Input<R>, line: &mut [u8]) -> Source
         ensures line { Next result (length line.new)
-            × Ahead self input.old.bytes.items line.old result input.new.bytes.items line.new }
-        ensures room { length input.new.bytes.items ≡ length input.old.bytes.items }
+            × Ahead self input.old.bytes line.old result input.new.bytes line.new }
+        ensures room { length input.new.bytes ≡ length input.old.bytes }
         ensures reads { ReadsKnown (empty_line line.old)
-            (prepend_known (left_of self input.old.bytes.items) (R.remaining input.old.from)) input.new.failed
-            result line.new input.new.bytes.items (R.remaining input.new.from) }
+            (prepend_known (left_of self input.old.bytes) (R.remaining input.old.from)) input.new.failed
+            result line.new input.new.bytes (R.remaining input.new.from) }
     {
         self.len = 0;
         self.long = false;

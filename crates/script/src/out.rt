@@ -1,35 +1,36 @@
 // Answers, gathered in a buffer that is written when it is full and at the end. Each function is given how much stands
 // there, and answers how much does then.
-ghost use Rattle.std.specs.Prelude.{◌≡◌, ◌/◌, ◌%◌, ◌<◌, length, IfOk, IsOk, IsNone, MatchOption, Err};
+ghost use Rattle.std.specs.Prelude.{◌≡◌, ◌/◌, ◌%◌, ◌<◌, IsOk, IsNone, MatchOption, Err};
 ghost use Rattle.script.specs.Out.{held, put, puts, sent, sents, flushed, Wrote, hex_digit, hex_text, number_text, bytes_text, word_text};
 ghost use Rattle.script.specs.Out.{open_text, close_text, one_text, two_open_text, two_text, error_text};
 
-use std::alloc::{AllocError, Global};
 use std::io::{Error, Stdout, Write};
+
+// How many bytes of answers are gathered before they are written.
+pub const ROOM: usize = 32768;
 
 // A buffer of answers, and where it is written.
 #[derive(Drop)]
 pub struct Out<W = Stdout> {
-    pub room: Vec<u8>,
+    pub room: [u8; ROOM],
     to: W,
     // The first write that failed: no more is written after it.
     failed: Option<Error>,
 }
 
 impl<W> Out<W> {
-    // A buffer of so many bytes.
-    pub fn new(alloc: Global, to: W, room: usize) -> Result<Out<W>, AllocError>
+    // An empty buffer.
+    pub fn new(to: W) -> Out<W>
     where
         W: Drop,
-        ensures room { IfOk result (λ o. length o.room.items ≡ room) }
-        ensures to { IfOk result (λ o. o.to ≡ to) }
-        ensures failed { IfOk result (λ o. IsNone o.failed) }
+        ensures to { result.to ≡ to }
+        ensures failed { IsNone result.failed }
     {
-        Ok(Out {
-            room: vec![in alloc; 0; room]?,
+        Out {
+            room: [0; ROOM],
             to,
             failed: None,
-        })
+        }
     }
 
     // Whether every write was taken; else why the first was not.
@@ -47,9 +48,9 @@ impl<W> Out<W> {
 
 // Writes what stands there, and leaves it as it is.
 pub fn flush<W: Write>(o: &mut Out<W>, at: usize)
-    ensures room { o.new.room.items ≡ o.old.room.items }
+    ensures room { o.new.room ≡ o.old.room }
     ensures written { Wrote o.old.failed o.new.failed (W.contents o.old.to) (W.contents o.new.to)
-        (flushed (held o.old.room.items at)) }
+        (flushed (held o.old.room at)) }
 {
     if o.room.len() < at {
         return;
@@ -63,9 +64,9 @@ pub fn flush<W: Write>(o: &mut Out<W>, at: usize)
 }
 
 pub fn byte<W: Write>(o: &mut Out<W>, at: usize, b: u8) -> usize
-    ensures buffer { held o.new.room.items result ≡ put (held o.old.room.items at) b }
+    ensures buffer { held o.new.room result ≡ put (held o.old.room at) b }
     ensures written { Wrote o.old.failed o.new.failed (W.contents o.old.to) (W.contents o.new.to)
-        (sent (held o.old.room.items at) b) }
+        (sent (held o.old.room at) b) }
 {
     if at < o.room.len() {
         o.room[at] = b;
@@ -81,9 +82,9 @@ pub fn byte<W: Write>(o: &mut Out<W>, at: usize, b: u8) -> usize
 }
 
 pub fn text<W: Write>(o: &mut Out<W>, at: usize, s: &[u8]) -> usize
-    ensures buffer { held o.new.room.items result ≡ puts (held o.old.room.items at) s.now }
+    ensures buffer { held o.new.room result ≡ puts (held o.old.room at) s.now }
     ensures written { Wrote o.old.failed o.new.failed (W.contents o.old.to) (W.contents o.new.to)
-        (sents (held o.old.room.items at) s.now) }
+        (sents (held o.old.room at) s.now) }
 {
     let mut n = at;
     let mut i: usize = 0;
@@ -96,9 +97,9 @@ pub fn text<W: Write>(o: &mut Out<W>, at: usize, s: &[u8]) -> usize
 
 // A space and a decimal number.
 pub fn number<W: Write>(o: &mut Out<W>, at: usize, x: u64) -> usize
-    ensures buffer { held o.new.room.items result ≡ puts (held o.old.room.items at) (number_text x) }
+    ensures buffer { held o.new.room result ≡ puts (held o.old.room at) (number_text x) }
     ensures written { Wrote o.old.failed o.new.failed (W.contents o.old.to) (W.contents o.new.to)
-        (sents (held o.old.room.items at) (number_text x)) }
+        (sents (held o.old.room at) (number_text x)) }
 {
     let mut digits = [0u8; 20];
     let k = io::decimal(x, &mut digits);
@@ -133,9 +134,9 @@ fn lower(b: u8) -> u8
 
 // Two hexadecimal digits a byte.
 fn hex<W: Write>(o: &mut Out<W>, at: usize, s: &[u8]) -> usize
-    ensures buffer { held o.new.room.items result ≡ puts (held o.old.room.items at) (hex_text s.now) }
+    ensures buffer { held o.new.room result ≡ puts (held o.old.room at) (hex_text s.now) }
     ensures written { Wrote o.old.failed o.new.failed (W.contents o.old.to) (W.contents o.new.to)
-        (sents (held o.old.room.items at) (hex_text s.now)) }
+        (sents (held o.old.room at) (hex_text s.now)) }
 {
     let mut n = at;
     let mut i: usize = 0;
@@ -150,9 +151,9 @@ fn hex<W: Write>(o: &mut Out<W>, at: usize, s: &[u8]) -> usize
 
 // A space and a byte string.
 pub fn bytes<W: Write>(o: &mut Out<W>, at: usize, s: &[u8]) -> usize
-    ensures buffer { held o.new.room.items result ≡ puts (held o.old.room.items at) (bytes_text s.now) }
+    ensures buffer { held o.new.room result ≡ puts (held o.old.room at) (bytes_text s.now) }
     ensures written { Wrote o.old.failed o.new.failed (W.contents o.old.to) (W.contents o.new.to)
-        (sents (held o.old.room.items at) (bytes_text s.now)) }
+        (sents (held o.old.room at) (bytes_text s.now)) }
 {
     let n = text(o, at, b" x");
     hex(o, n, s)
@@ -160,9 +161,9 @@ pub fn bytes<W: Write>(o: &mut Out<W>, at: usize, s: &[u8]) -> usize
 
 // A space and words.
 pub fn word<W: Write>(o: &mut Out<W>, at: usize, s: &[u8]) -> usize
-    ensures buffer { held o.new.room.items result ≡ puts (held o.old.room.items at) (word_text s.now) }
+    ensures buffer { held o.new.room result ≡ puts (held o.old.room at) (word_text s.now) }
     ensures written { Wrote o.old.failed o.new.failed (W.contents o.old.to) (W.contents o.new.to)
-        (sents (held o.old.room.items at) (word_text s.now)) }
+        (sents (held o.old.room at) (word_text s.now)) }
 {
     let n = byte(o, at, b' ');
     text(o, n, s)
@@ -170,27 +171,27 @@ pub fn word<W: Write>(o: &mut Out<W>, at: usize, s: &[u8]) -> usize
 
 // An answer's bracket and name.
 pub fn open<W: Write>(o: &mut Out<W>, at: usize, name: &[u8]) -> usize
-    ensures buffer { held o.new.room.items result ≡ puts (held o.old.room.items at) (open_text name.now) }
+    ensures buffer { held o.new.room result ≡ puts (held o.old.room at) (open_text name.now) }
     ensures written { Wrote o.old.failed o.new.failed (W.contents o.old.to) (W.contents o.new.to)
-        (sents (held o.old.room.items at) (open_text name.now)) }
+        (sents (held o.old.room at) (open_text name.now)) }
 {
     let n = byte(o, at, b'(');
     text(o, n, name)
 }
 
 pub fn close<W: Write>(o: &mut Out<W>, at: usize) -> usize
-    ensures buffer { held o.new.room.items result ≡ puts (held o.old.room.items at) close_text }
+    ensures buffer { held o.new.room result ≡ puts (held o.old.room at) close_text }
     ensures written { Wrote o.old.failed o.new.failed (W.contents o.old.to) (W.contents o.new.to)
-        (sents (held o.old.room.items at) close_text) }
+        (sents (held o.old.room at) close_text) }
 {
     text(o, at, b")\n")
 }
 
 // An answer of a name and a number.
 pub fn one<W: Write>(o: &mut Out<W>, at: usize, name: &[u8], x: u64) -> usize
-    ensures buffer { held o.new.room.items result ≡ puts (held o.old.room.items at) (one_text name.now x) }
+    ensures buffer { held o.new.room result ≡ puts (held o.old.room at) (one_text name.now x) }
     ensures written { Wrote o.old.failed o.new.failed (W.contents o.old.to) (W.contents o.new.to)
-        (sents (held o.old.room.items at) (one_text name.now x)) }
+        (sents (held o.old.room at) (one_text name.now x)) }
 {
     let a = open(o, at, name);
     let b = number(o, a, x);
@@ -199,9 +200,9 @@ pub fn one<W: Write>(o: &mut Out<W>, at: usize, name: &[u8], x: u64) -> usize
 
 // The start of an answer: a name and two numbers.
 pub fn two_open<W: Write>(o: &mut Out<W>, at: usize, name: &[u8], x: u64, y: u64) -> usize
-    ensures buffer { held o.new.room.items result ≡ puts (held o.old.room.items at) (two_open_text name.now x y) }
+    ensures buffer { held o.new.room result ≡ puts (held o.old.room at) (two_open_text name.now x y) }
     ensures written { Wrote o.old.failed o.new.failed (W.contents o.old.to) (W.contents o.new.to)
-        (sents (held o.old.room.items at) (two_open_text name.now x y)) }
+        (sents (held o.old.room at) (two_open_text name.now x y)) }
 {
     let a = open(o, at, name);
     let b = number(o, a, x);
@@ -210,18 +211,18 @@ pub fn two_open<W: Write>(o: &mut Out<W>, at: usize, name: &[u8], x: u64, y: u64
 
 // An answer of a name and two numbers.
 pub fn two<W: Write>(o: &mut Out<W>, at: usize, name: &[u8], x: u64, y: u64) -> usize
-    ensures buffer { held o.new.room.items result ≡ puts (held o.old.room.items at) (two_text name.now x y) }
+    ensures buffer { held o.new.room result ≡ puts (held o.old.room at) (two_text name.now x y) }
     ensures written { Wrote o.old.failed o.new.failed (W.contents o.old.to) (W.contents o.new.to)
-        (sents (held o.old.room.items at) (two_text name.now x y)) }
+        (sents (held o.old.room at) (two_text name.now x y)) }
 {
     let c = two_open(o, at, name, x, y);
     close(o, c)
 }
 
 pub fn error<W: Write>(o: &mut Out<W>, at: usize) -> usize
-    ensures buffer { held o.new.room.items result ≡ puts (held o.old.room.items at) error_text }
+    ensures buffer { held o.new.room result ≡ puts (held o.old.room at) error_text }
     ensures written { Wrote o.old.failed o.new.failed (W.contents o.old.to) (W.contents o.new.to)
-        (sents (held o.old.room.items at) error_text) }
+        (sents (held o.old.room at) error_text) }
 {
     text(o, at, b"(error)\n")
 }

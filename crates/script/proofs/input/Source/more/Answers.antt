@@ -10,7 +10,7 @@ returns-then-self-eq0-clause-reads g c = λ xs h i j k.
 pub returns-then-self-clause-reads : goal.returns-then-self-clause-reads
 returns-then-self-clause-reads g c = λ xs h i j k.
     coming_feed _ _ _ xs _ _ _ _ _ c.loop-turns.self c.copy-self.result _ _ (c.loop-turns.invariant.coming xs h (c.read.ensures.came.kept k))
-    c.read.ensures.came k c.read.ensures.count (rw c.deref.ensures.value at c.copy-self.ensures.1) c.copy-self.ensures.2 c.if-self.true
+    c.read.ensures.came k c.read.ensures.count c.copy-self.ensures.1 c.copy-self.ensures.2 c.if-self.true
 
 pub loop-turns-preserved : goal.loop-turns-preserved
 loop-turns-preserved g c = record {
@@ -19,7 +19,7 @@ loop-turns-preserved g c = record {
   room = c.read.ensures.room ∙ c.loop-turns.invariant.room;
   coming = λ xs h k.
       coming_turn _ _ _ xs _ _ _ _ _ c.loop-turns.self c.copy-self.result _ _ (c.loop-turns.invariant.coming xs h (c.read.ensures.came.kept k))
-      c.read.ensures.came k c.read.ensures.count (rw c.deref.ensures.value at c.copy-self.ensures.1) c.if-self-eq0.false c.if-self.false
+      c.read.ensures.came k c.read.ensures.count c.copy-self.ensures.1 c.if-self-eq0.false c.if-self.false
       c.loop-turns-test.true;
 }
 
