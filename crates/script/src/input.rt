@@ -15,7 +15,7 @@ pub const ROOM: usize = 16384;
 pub struct Input<R = Stdin> {
     pub bytes: [u8; ROOM],
     from: R,
-    // A read that failed: the input ends there.
+    // The last read that failed: it counts as one that gave no byte.
     failed: Option<io::Error>,
 }
 
