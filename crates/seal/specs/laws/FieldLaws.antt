@@ -1,10 +1,9 @@
 -- Laws of little-endian numbers and of fields at an offset, each once over the width. Assumes nothing.
-use Rattle.std.specs.Prelude.{◌≡◌, refl, List, [], ◌∷◌, ◌++◌, ℕ, zero, suc, ◌+◌, ◌*◌, ◌/◌, ◌%◌, ◌^◌, ◌≤◌, ◌<◌, length, take, drop, get_or, set}
-use Rattle.std.proofs.Common.{sym, ap, ◌∙◌, zero-add, suc-add, one-mul, mul_assoc, mul-add, div-one, add_assoc, mul_comm, add-one, arith, drop-drop, get_or-drop}
-use Rattle.std.proofs.Math.Nat.{pow-zero, pow-succ', div-div-eq-div-mul}
-use Rattle.std.proofs.lemmas.List.Edits.{sets-eq}
-use Rattle.seal.specs.Bytes.{window, splice, le, bytes_of, field_at, u16_at, AreBytes}
-use Rattle.seal.specs.laws.WindowLaws.{length_window, window_add, window_one, window_window, splice_two, window_splice_before, window_splice_after, window_splice_same}
+use Rattle.std.specs.Prelude.{◌≡◌, refl, List, [], ◌∷◌, ◌++◌, ℕ, zero, suc, ◌+◌, ◌*◌, ◌/◌, ◌^◌, ◌≤◌, ◌<◌, length, take, drop, get_or}
+use Rattle.std.proofs.Common.{sym, ap, ◌∙◌, zero-add, one-mul, mul_assoc, mul-add, add_assoc, mul_comm, arith, drop-drop, get_or-drop}
+use Rattle.std.proofs.Math.Nat.{pow-zero, pow-succ'}
+use Rattle.seal.specs.Bytes.{window, splice, le, bytes_of, field_at, AreBytes}
+use Rattle.seal.specs.laws.WindowLaws.{length_window, window_add, window_one, window_window, window_splice_before, window_splice_after, window_splice_same}
 
 pub length_bytes_of : (n x : ℕ) → length (bytes_of n x) ≡ n
 unfolding bytes_of
@@ -29,12 +28,7 @@ le_bytes_of (suc n) x h =
     let below : x / 256 < 256 ^ n = omega (arith, rw pow-succ' at h) in
     rw (le_bytes_of n (x / 256) below) (omega arith)
 
-pub bytes_of_add : (n m x : ℕ) → bytes_of (n + m) x ≡ bytes_of n x ++ bytes_of m (x / 256 ^ n)
-unfolding bytes_of
-bytes_of_add zero m x = simp (zero-add, pow-zero, div-one)
-bytes_of_add (suc n) m x = rw (suc-add, bytes_of_add n m (x / 256), div-div-eq-div-mul, pow-succ')
-
--- ---- reads and writes put together from halves
+-- ---- a field put together
 
 -- two fields side by side are one
 pub field_join : (n m : ℕ) (l : List ℕ) (i a b : ℕ) → i + (n + m) ≤ length l → a ≡ field_at n l i → b ≡ field_at m l (i + n)
@@ -42,30 +36,10 @@ pub field_join : (n m : ℕ) (l : List ℕ) (i a b : ℕ) → i + (n + m) ≤ le
 unfolding field_at
 field_join n m l i a b h p q = rw (p, q, mul_comm (le (window (i + n) m l)) (256 ^ n)) (sym (le_window i n m l (omega arith)))
 
+-- a field of one byte is that byte
 pub field_one : (l : List ℕ) (i : ℕ) → i < length l → get_or l i 0 ≡ field_at 1 l i
 unfolding field_at le
 field_one l i h = rw (window_one i l h) (omega arith)
-
-pub u16_join : (l : List ℕ) (i a b : ℕ) → i + 2 ≤ length l → a ≡ get_or l i 0 → b ≡ get_or l (i + 1) 0 → a + b * 256 ≡ u16_at l i
-u16_join l i a b h p q =
-    let h0 : i < length l = omega arith in
-    let h1 : i + 1 < length l = omega arith in
-    field_join 1 1 l i a b h (p ∙ field_one l i h0) (q ∙ field_one l (i + 1) h1)
-
-pub put_two : (l : List ℕ) (i x : ℕ) → i + 2 ≤ length l → set (set l i (x % 256)) (i + 1) (x / 256 % 256) ≡ splice l i (bytes_of 2 x)
-unfolding splice bytes_of
-put_two l i x h = rw add-one (sets-eq (x % 256 ∷ x / 256 % 256 ∷ []) l i h)
-
--- l with the low n bytes of x, and then with m of the rest after them
-pub put_join : (l l₁ l₂ : List ℕ) (i n m x : ℕ) → i + (n + m) ≤ length l → l₁ ≡ splice l i (bytes_of n x)
-    → l₂ ≡ splice l₁ (i + n) (bytes_of m (x / 256 ^ n)) → l₂ ≡ splice l i (bytes_of (n + m) x)
-put_join l l₁ l₂ i n m x h p q =
-    let e : length (bytes_of n x) ≡ n = length_bytes_of n x in
-    let f : length (bytes_of m (x / 256 ^ n)) ≡ m = length_bytes_of m (x / 256 ^ n) in
-    q ∙ ap (λ (k : List ℕ). splice k (i + n) (bytes_of m (x / 256 ^ n))) p
-    ∙ ap (λ (k : ℕ). splice (splice l i (bytes_of n x)) (i + k) (bytes_of m (x / 256 ^ n))) (sym e)
-    ∙ splice_two l i (bytes_of n x) (bytes_of m (x / 256 ^ n)) (omega arith)
-    ∙ ap (splice l i) (sym (bytes_of_add n m x))
 
 -- ---- a field read after a write
 

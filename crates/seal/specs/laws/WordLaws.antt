@@ -1,71 +1,68 @@
--- Laws of a copy that goes by words of 8 bytes, of which the last may overlap the one before. Assumes nothing.
-use Rattle.std.specs.Prelude.{◌≡◌, refl, List, [], ◌∷◌, ◌++◌, ℕ, suc, ◌+◌, ◌-◌, ◌*◌, ◌/◌, ◌%◌, ◌≤◌, ◌<◌, length, take, drop, get_or}
-use Rattle.std.proofs.Common.{sym, ap, ap₂, ◌∙◌, append_assoc, arith, Fits, length-append, length-drop, take-add, drop-drop, take_at, length-take-le, take_all}
-use Rattle.std.specs.Int.{w8}
-use Rattle.std.proofs.Math.Seq.{drop-append-add}
-use Rattle.seal.specs.Bytes.{window, splice, le, bytes_of, field_at, u64_at, AreBytes}
-use Rattle.seal.specs.laws.WindowLaws.{length_window, length_splice, splice_two, splice_run}
-use Rattle.seal.specs.laws.FieldLaws.{bytes_take, bytes_drop}
+-- Laws of a field that is read and written by way of a word of 8 bytes, as std converts it. Assumes nothing.
+use Rattle.std.specs.Prelude.{◌≡◌, refl, List, [], ◌∷◌, ◌++◌, ℕ, zero, suc, ◌+◌, ◌*◌, ◌-◌, ◌/◌, ◌%◌, ◌^◌, ◌≤◌, ◌<◌, length, take, drop, get_or, replicate}
+use Rattle.std.proofs.Common.{sym, ap, ◌∙◌, arith, length-append, length-drop, length-take-le, take-suc, take_all}
+use Rattle.std.proofs.Math.Nat.{pow-suc, div-one, div-div-eq-div-mul}
+use Rattle.std.proofs.lemmas.List.{length-replicate, drop-replicate}
+use Rattle.std.specs.Int.{w64, from_le_bytes, to_le_bytes, sum_through, byte_worth, bytes_low_first}
+use Rattle.seal.specs.Bytes.{window, splice, le, bytes_of, field_at}
+use Rattle.seal.specs.laws.FieldLaws.{le_append, length_bytes_of}
+use Rattle.seal.specs.laws.PartLaws.{part_stored}
 
-bytes_back : (l : List ℕ) → AreBytes l → bytes_of (length l) (le l) ≡ l
-unfolding le bytes_of
-bytes_back [] h = refl
-bytes_back (x ∷ xs) h =
-    let p : x < 256 = h 0 in
-    let m : (x + 256 * le xs) % 256 ≡ x = omega arith in
-    let d : (x + 256 * le xs) / 256 ≡ le xs = omega arith in
-    rw (m, d, bytes_back xs (λ (j : ℕ). h (suc j)))
+-- ---- read
 
-window_back : (w : List ℕ) (n : ℕ) → length w ≡ n → AreBytes w → bytes_of n (le w) ≡ w
-window_back w n e h = rw (← e) (bytes_back w h)
+le_zeros : (k : ℕ) → le (replicate k 0) ≡ 0
+unfolding le
+le_zeros zero = refl
+le_zeros (suc k) = rw (le_zeros k) refl
 
--- a word that was read, stored
-pub word_moved : (l d k : List ℕ) (i p x : ℕ) → ((j : ℕ) → Fits w8 (get_or l j 0)) → i + 8 ≤ length l → x ≡ u64_at l i → k ≡ splice d p (bytes_of 8 x)
-    → k ≡ splice d p (window i 8 l)
+-- std's sum of what each byte is worth
+sum_is_le : (l : List ℕ) (k : ℕ) → k < length l → sum_through (λ i. byte_worth i (get_or l i 0)) k ≡ le (take (suc k) l)
+unfolding le
+sum_is_le [] zero h = absurd (omega arith)
+sum_is_le (x ∷ l) zero h = omega arith
+sum_is_le l (suc k) h =
+    let h' : k < length l = omega arith in
+    let e : length (take (suc k) l) ≡ suc k = length-take-le (suc k) l (omega arith) in
+    rw (sum_is_le l k h', take-suc l (suc k) 0 h, le_append, e) (omega arith)
+
+word_is_le : (l : List ℕ) → length l ≡ 8 → from_le_bytes w64 l ≡ le l
+word_is_le l e = sum_is_le l 7 (omega arith) ∙ ap le (take_all 8 l (omega arith))
+
+-- n bytes before zeros spell what they spell alone
+pub field_read : (n i x : ℕ) (l d : List ℕ) → n ≤ 8 → i + n ≤ length l → d ≡ take (i + n - i) (drop i l)
+    → x ≡ from_le_bytes w64 (d ++ drop n (replicate 8 0)) → x ≡ field_at n l i
 unfolding field_at window
-word_moved l d k i p x h r ex ek =
-    let w : AreBytes (window i 8 l) = bytes_take 8 (drop i l) (bytes_drop i l (λ (j : ℕ). (h j).fits)) in
-    ek ∙ ap (λ (y : ℕ). splice d p (bytes_of 8 y)) ex ∙ ap (splice d p) (window_back (window i 8 l) 8 (length_window i 8 l r) w)
+field_read n i x l d h r e f =
+    let k : i + n - i ≡ n = omega arith in
+    let e' : d ≡ take n (drop i l) = rw k at e in
+    let m : length d ≡ n = ap length e' ∙ length-take-le n (drop i l) (rw length-drop (omega arith)) in
+    let z : List ℕ = replicate (8 - n) 0 in
+    let w : length (d ++ z) ≡ 8 = simp (length-append, length-replicate) (omega arith) in
+    let p : le (d ++ z) ≡ le d = rw (le_append d z, le_zeros (8 - n)) (omega arith) in
+    let q : x ≡ from_le_bytes w64 (d ++ z) = rw drop-replicate at f in
+    q ∙ word_is_le (d ++ z) w ∙ p ∙ ap le e'
 
-pub word_next : (l s t src : List ℕ) (at k last : ℕ) → s ≡ splice l at (take k src) → at + length src ≤ length l → last + 8 ≡ length src → k < last
-    → t ≡ splice s (at + k) (window k 8 src) → t ≡ splice l at (take (k + 8) src)
-unfolding window
-word_next l s t src at k last e room el g q =
-    let h : k + 8 ≤ length src = omega arith in
-    let lt : length (take k src) ≡ k = length-take-le k src (omega arith) in
-    let lw : length (window k 8 src) ≡ 8 = length_window k 8 src h in
-    splice_run l s t at (take k src) (at + k) (window k 8 src) (omega arith) (omega arith) e q ∙ ap (splice l at) (sym (take-add k 8 src))
+-- ---- write
 
--- a run stored where a shorter one was
-splice_over : (m : List ℕ) (p : ℕ) (x y : List ℕ) → length x ≤ length y → p + length y ≤ length m → splice (splice m p x) p y ≡ splice m p y
-unfolding splice
-splice_over m p x y h room =
-    let a : List ℕ = take p m ++ x in
-    let r : List ℕ = drop (p + length x) m in
-    let lt : length (take p m) ≡ p = length-take-le p m (omega arith) in
-    let la : length a + (length y - length x) ≡ p + length y = omega (arith, length-append (take p m) x) in
-    let lm : p + length x + (length y - length x) ≡ p + length y = omega arith in
-    ap₂ (λ (u v : List ℕ). u ++ y ++ v)
-    (ap (take p) (append_assoc (take p m) x r) ∙ take_at (take p m) (x ++ r) p lt)
-    (ap (λ (n : ℕ). drop n (a ++ r)) (sym la) ∙ drop-append-add a r (length y - length x) ∙ drop-drop (length y - length x) (p + length x) m
-    ∙ ap (λ (n : ℕ). drop n m) lm)
+-- std's list of bytes, each found by itself
+low_is_bytes : (i k x : ℕ) → bytes_low_first i k x ≡ bytes_of k (x / 256 ^ i)
+unfolding bytes_of
+low_is_bytes i zero x = refl
+low_is_bytes zero (suc k) x = simp div-one (ap (λ (q : List ℕ). x % 256 ∷ q) (low_is_bytes 1 k x))
+low_is_bytes (suc i) (suc k) x =
+    let p : 256 ^ suc (suc i) ≡ 256 ^ suc i * 256 = pow-suc 256 (suc i) in
+    rw (low_is_bytes (suc (suc i)) k x, div-div-eq-div-mul, p)
 
-pub word_last : (l s t src : List ℕ) (at k last : ℕ) → s ≡ splice l at (take k src) → at + length src ≤ length l → last + 8 ≡ length src → last ≤ k
-    → k ≤ last + 8 → t ≡ splice s (at + last) (window last 8 src) → t ≡ splice l at src
-unfolding window
-word_last l s t src at k last e room el h g q =
-    let x : List ℕ = take (k - last) (drop last src) in
-    let w : List ℕ = window last 8 src in
-    let m : List ℕ = splice l at (take last src) in
-    let ek : last + (k - last) ≡ k = omega arith in
-    let la : length (take last src) ≡ last = length-take-le last src (omega arith) in
-    let lx : length x ≡ k - last = length-take-le (k - last) (drop last src) (rw length-drop (omega arith)) in
-    let lw : length w ≡ 8 = length_window last 8 src (omega arith) in
-    let lm : length m ≡ length l = length_splice l at (take last src) (omega arith) in
-    let parts : take k src ≡ take last src ++ x = ap (λ (n : ℕ). take n src) (sym ek) ∙ take-add last (k - last) src in
-    let two : s ≡ splice m (at + last) x =
-    e ∙ ap (splice l at) parts ∙ sym (splice_two l at (take last src) x (omega arith)) ∙ ap (λ (n : ℕ). splice m (at + n) x) la in
-    let over : t ≡ splice m (at + last) w = q ∙ ap (λ (v : List ℕ). splice v (at + last) w) two ∙ splice_over m (at + last) x w (omega arith)
-    (omega arith) in
-    splice_run l m t at (take last src) (at + last) w (omega arith) (omega arith) refl over
-    ∙ ap (splice l at) (sym (take-add last 8 src) ∙ take_all (last + 8) src (omega arith))
+take_bytes_of : (n m x : ℕ) → n ≤ m → take n (bytes_of m x) ≡ bytes_of n x
+unfolding bytes_of
+take_bytes_of zero m x h = refl
+take_bytes_of (suc n) zero x h = absurd (omega arith)
+take_bytes_of (suc n) (suc m) x h = ap (λ (q : List ℕ). x % 256 ∷ q) (take_bytes_of n m (x / 256) (omega arith))
+
+pub field_written : (n i x : ℕ) (l w d : List ℕ) → n ≤ 8 → i + n ≤ length l → w ≡ to_le_bytes w64 x → d ≡ take n w
+    → take i l ++ (d ++ drop (i + n - i) (drop i l)) ≡ splice l i (bytes_of n x)
+field_written n i x l w d h r e f =
+    let k : i + n - i ≡ n = omega arith in
+    let o : w ≡ bytes_of 8 x = e ∙ low_is_bytes 0 8 x ∙ ap (bytes_of 8) (div-one x) in
+    let v : d ≡ bytes_of n x = f ∙ ap (take n) o ∙ take_bytes_of n 8 x h in
+    rw k (part_stored l i n d (bytes_of n x) (sym (length_bytes_of n x)) v)

@@ -1,29 +1,6 @@
-use borrow.Author.Rules.{rules}
-use Rattle.seal.specs.laws.WindowLaws.{copy_start, clear_next, clear_done}
+use Rattle.std.proofs.Common.{rules}
+use Rattle.seal.specs.laws.PartLaws.{part_cleared}
 use Rattle.seal.proofs.bytes.clear.Goals as goal
 
-ruleset laws = (rules, copy_start, clear_next, clear_done)
-
-pub loop-k-init : goal.loop-k-init
-loop-k-init c = search laws
-
-pub overflow_add-s : goal.overflow_add-s
-overflow_add-s c = search laws
-
-pub bounds-s-a : goal.bounds-s-a
-bounds-s-a c = search laws
-
-pub overflow_add-k : goal.overflow_add-k
-overflow_add-k c = search laws
-
-pub loop-k-smaller : goal.loop-k-smaller
-loop-k-smaller c = search laws
-
-pub loop-k-preserved : goal.loop-k-preserved
-loop-k-preserved c = search laws
-
-pub shape_of-s : goal.shape_of-s
-shape_of-s c = search laws
-
 pub returns : goal.returns
-returns c = search laws
+returns c = part_cleared _ _ _ _ (search rules) (c.fill.ensures.after (λ y e. e))
