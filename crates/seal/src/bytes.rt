@@ -4,6 +4,7 @@ ghost use Rattle.std.specs.Prelude.{◌≡◌, ◌+◌, ◌≤◌, ◌<◌, ◌^
 ghost use Rattle.seal.specs.Bytes.{field_at, u16_at, u32_at, u64_at, splice, moved, bytes_of};
 
 // The field of N bytes at offset i.
+#[tactic(auto, using(crate::specs::laws::WordLaws::field_read, crate::specs::laws::WordLaws::field_read_fits))]
 pub fn field_at<const N: usize>(s: &[u8], i: usize) -> u64
     requires width { N ≤ 8 }
     requires room { i + N ≤ length s.now }
@@ -16,6 +17,7 @@ pub fn field_at<const N: usize>(s: &[u8], i: usize) -> u64
 }
 
 // The N lowest bytes of x, stored as the field of N bytes at offset i.
+#[tactic(auto, using(crate::specs::laws::WordLaws::field_written))]
 pub fn put_field<const N: usize>(s: &mut [u8], i: usize, x: u64)
     requires width { N ≤ 8 }
     requires room { i + N ≤ length s.old }
@@ -25,6 +27,7 @@ pub fn put_field<const N: usize>(s: &mut [u8], i: usize, x: u64)
 }
 
 // All of `src`, stored in `dst` from `at` on.
+#[tactic(auto, using(crate::specs::laws::PartLaws::part_stored))]
 pub fn copy_to(src: &[u8], dst: &mut [u8], at: usize)
     requires { at + length src.now ≤ length dst.old }
     ensures { dst.new ≡ splice dst.old at src.now }
@@ -33,6 +36,7 @@ pub fn copy_to(src: &[u8], dst: &mut [u8], at: usize)
 }
 
 // n bytes from a moved to b, whether the two runs overlap or not.
+#[tactic(auto, using(crate::specs::laws::MoveLaws::moved_within))]
 pub fn shift(s: &mut [u8], a: usize, b: usize, n: usize)
     requires { (a + n ≤ length s.old) × (b + n ≤ length s.old) }
     ensures { s.new ≡ moved s.old a b n }
@@ -41,6 +45,7 @@ pub fn shift(s: &mut [u8], a: usize, b: usize, n: usize)
 }
 
 // Zeros from a on, n of them.
+#[tactic(auto, using(crate::specs::laws::PartLaws::part_cleared))]
 pub fn clear(s: &mut [u8], a: usize, n: usize)
     requires { a + n ≤ length s.old }
     ensures { s.new ≡ splice s.old a (replicate n 0) }

@@ -3,7 +3,7 @@ ghost use Rattle.std.specs.Prelude.{◌≡◌, ◌≤◌, ◌<◌, ◌^◌, leng
 ghost use Rattle.seal.specs.Bytes.{splice};
 ghost use Rattle.seal.specs.Obj.{o_oid, header_at, header_bytes, kind_of, storage_of};
 
-use crate::bytes::{put_u32, put_u64, u32_at, u64_at};
+use crate::bytes::{field_at, put_field};
 
 // Where the fields of `obj_phys_t` lie, and where it ends: specs/Obj.antt has the same table.
 const O_CKSUM: usize = 0;
@@ -46,36 +46,39 @@ impl ObjHeader {
         ensures { (result ≡ header_at b.now) × (result.obj_type < 2 ^ 32) × (result.subtype < 2 ^ 32) }
     {
         ObjHeader {
-            cksum: u64_at(b, O_CKSUM),
-            oid: u64_at(b, O_OID),
-            xid: u64_at(b, O_XID),
-            obj_type: u32_at(b, O_TYPE),
-            subtype: u32_at(b, O_SUBTYPE),
+            cksum: field_at::<8>(b, O_CKSUM),
+            oid: field_at::<8>(b, O_OID),
+            xid: field_at::<8>(b, O_XID),
+            obj_type: field_at::<4>(b, O_TYPE),
+            subtype: field_at::<4>(b, O_SUBTYPE),
         }
     }
 
     // Stores all but the checksum: that is the seal's, which comes when the object is whole.
+    #[tactic(auto, using(crate::specs::laws::ObjLaws::write_law))]
     pub fn write(self, b: &mut [u8])
         requires { 32 ≤ length b.old }
         ensures { b.new ≡ splice b.old o_oid.offset (header_bytes self) }
     {
-        put_u64(b, O_OID, self.oid);
-        put_u64(b, O_XID, self.xid);
-        put_u32(b, O_TYPE, self.obj_type);
-        put_u32(b, O_SUBTYPE, self.subtype);
+        put_field::<8>(b, O_OID, self.oid);
+        put_field::<8>(b, O_XID, self.xid);
+        put_field::<4>(b, O_TYPE, self.obj_type);
+        put_field::<4>(b, O_SUBTYPE, self.subtype);
     }
 
-    // What the object is: the type's bits under OBJECT_TYPE_MASK.
+    // What the object is: the type's bits under OBJECT_TYPE_MASK. A number and no enum: of the 65,536 kinds that a type can have few have names.
+    #[tactic(auto, using(crate::specs::laws::ObjLaws::kind_masked))]
     pub fn kind(self) -> u64
         ensures { result ≡ kind_of self.obj_type }
     {
-        self.obj_type % 65536
+        self.obj_type & OBJECT_TYPE_MASK
     }
 
-    // How the object is found: the type's bits under OBJ_STORAGETYPE_MASK, of which OBJ_PHYSICAL is the lower.
+    // How the object is found: the type's bits under OBJ_STORAGETYPE_MASK. A number and no enum: one of the four classes has no name.
+    #[tactic(auto, using(crate::specs::laws::ObjLaws::storage_masked))]
     pub fn storage(self) -> u64
         ensures { result ≡ storage_of self.obj_type }
     {
-        self.obj_type / OBJ_PHYSICAL % 4 * OBJ_PHYSICAL
+        self.obj_type & OBJ_STORAGETYPE_MASK
     }
 }

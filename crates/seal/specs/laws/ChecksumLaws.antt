@@ -1,9 +1,13 @@
 -- Laws of the words and the two sums, and of loops that add them up. Assumes nothing.
-use Rattle.std.specs.Prelude.{◌≡◌, refl, List, [], ◌∷◌, ◌++◌, ℕ, ◌+◌, ◌-◌, ◌*◌, ◌/◌, ◌%◌, ◌≤◌, ◌<◌, length, take, drop, eqb, false}
-use Rattle.std.proofs.Common.{sym, ap, ap₂, ◌∙◌, arith, length-drop, take-append-drop, drop-drop, take_all, length-take-le, le-leb, eq-eqb, ne_eqb}
-use Rattle.std.proofs.lemmas.Bool.{lt-leb}
-use Rattle.seal.specs.Bytes.{window, le, field_at, u32_at, u64_at, splice, bytes_of}
-use Rattle.seal.specs.Checksum.{M, words, s1, s2, stored_for, fletcher, verified, sealed}
+use Rattle.std.specs.Prelude.{◌≡◌, refl, List, [], ◌∷◌, ◌++◌, ℕ, zero, suc, ◌+◌, ◌-◌, ◌*◌, ◌/◌, ◌%◌, ◌≤◌, ◌<◌, length, take, drop, get_or, min, bit_or, ◌^◌}
+use Rattle.std.specs.Simd.{first_chunks}
+use Rattle.std.proofs.lemmas.Nat.{or_shifted}
+use Rattle.std.proofs.Common.{sym, ap, ap₂, ◌∙◌, arith, add-one, append-nil, length-append, length-drop, drop-drop, drop-cons}
+use Rattle.std.proofs.lemmas.List.{take_rest}
+use Rattle.seal.specs.Bytes.{window, le, field_at, u32_at}
+use Rattle.seal.specs.Checksum.{M, words, s1, s2, stored_for, fletcher}
+use Rattle.seal.specs.laws.FieldLaws.{field_window}
+use Rattle.std.proofs.Math.ListN.{drop_of_length-le}
 
 -- ---- words
 
@@ -41,15 +45,6 @@ words_next l i h =
 pub words_end : (l : List ℕ) (i : ℕ) → length l - i < 4 → words (drop i l) ≡ []
 words_end l i h = words_short (drop i l) (rw length-drop h)
 
--- the words from i on are those of a chunk of n bytes and those after it
-pub words_chunk : (l : List ℕ) (i n : ℕ) → n ≤ length l - i → n % 4 ≡ 0 → words (drop i l) ≡ words (take n (drop i l)) ++ words (drop (i + n) l)
-words_chunk l i n h d =
-    let k : n ≤ length (drop i l) = rw length-drop h in
-    let e : length (take n (drop i l)) ≡ n = length-take-le n (drop i l) k in
-    let z : length (take n (drop i l)) % 4 ≡ 0 = omega arith in
-    ap words (sym (take-append-drop n (drop i l))) ∙ words_append (take n (drop i l)) (drop n (drop i l)) z
-    ∙ ap (λ (r : List ℕ). words (take n (drop i l)) ++ words r) (drop-drop n i l)
-
 -- ---- sums
 
 pub s1_append : (a : ℕ) (u v : List ℕ) → s1 a (u ++ v) ≡ s1 (s1 a u) v
@@ -73,137 +68,128 @@ unfolding s2
 s2_mod a a' b b' [] h k = k
 s2_mod a a' b b' (w ∷ ws) h k = s2_mod (a + w) (a' + w) (b + (a + w)) (b' + (a' + w)) ws (omega arith) (omega arith)
 
--- ---- one word more
+-- ---- two words a turn, v onto `even` and u onto `odd`, and the ends: with nothing left, and with one word left
 
-pub s1_next : (l : List ℕ) (i x w : ℕ) → 4 ≤ length l - i → w ≡ u32_at l i → s1 x (words (drop i l)) ≡ s1 (x + w) (words (drop (i + 4) l))
+-- the words of runs of eight bytes
+unfoldable pub pair_words : List (List ℕ) → List ℕ
+pair_words [] = []
+pair_words (p ∷ ps) = u32_at p 0 ∷ u32_at p 4 ∷ pair_words ps
+
+pair_next : (ps : List (List ℕ)) (k : ℕ) (d : List ℕ) → k < length ps → pair_words (drop k ps) ≡ u32_at (get_or ps k d) 0 ∷ u32_at (get_or ps k d) 4
+    ∷ pair_words (drop (k + 1) ps)
+unfolding pair_words
+pair_next ps k d h = rw (add-one, drop-cons ps k d)
+
+-- the words of a run are those of its pairs and those of what is left
+words_pairs : (l : List ℕ) (k : ℕ) → k * 8 ≤ length l → words l ≡ pair_words (first_chunks 8 k l) ++ words (drop (k * 8) l)
+unfolding pair_words words field_at window
+words_pairs l zero h = refl
+words_pairs l (suc k) h =
+    let r : List ℕ = drop 8 l in
+    let e : 8 + k * 8 ≡ suc k * 8 = omega arith in
+    let p : words l ≡ u32_at l 0 ∷ u32_at l 4 ∷ words r = words_next l 0 (omega arith) ∙ ap (λ (q : List ℕ). u32_at l 0 ∷ q)
+    (words_next l 4 (omega arith)) in
+    let u : u32_at (take 8 l) 0 ≡ u32_at l 0 = field_window 4 0 8 l 0 (omega arith) in
+    let v : u32_at (take 8 l) 4 ≡ u32_at l 4 = field_window 4 0 8 l 4 (omega arith) in
+    let i : words r ≡ pair_words (first_chunks 8 k r) ++ words (drop (k * 8) r) = words_pairs r k (rw length-drop (omega arith)) in
+    let d : drop (k * 8) r ≡ drop (suc k * 8) l = drop-drop (k * 8) 8 l ∙ ap (λ (n : ℕ). drop n l) e in
+    cc
+
+pub pair_turn_1 : (ps : List (List ℕ)) (k even odd v u r : ℕ) (d : List ℕ) → k < length ps → v ≡ u32_at (get_or ps k d) 0 → u ≡ u32_at (get_or ps k d) 4
+    → s1 (even + odd) (pair_words (drop k ps)) ≡ r
+    → s1 (even + v + (odd + u)) (pair_words (drop (k + 1) ps)) ≡ r
 unfolding s1
-s1_next l i x w h e = rw e (ap (s1 x) (words_next l i h))
+pair_turn_1 ps k even odd v u r d h e f q =
+    let a : even + v + (odd + u) ≡ even + odd + v + u = omega arith in
+    rw (a, e, f) (rw (pair_next ps k d h) at q)
 
-pub s2_next : (l : List ℕ) (i x y w : ℕ) → 4 ≤ length l - i → w ≡ u32_at l i → s2 x y (words (drop i l)) ≡ s2 (x + w) (y + (x + w))
-    (words (drop (i + 4) l))
+pub pair_turn_2 : (ps : List (List ℕ)) (k even odd evens odds y v u r : ℕ) (d : List ℕ) → k < length ps → odd ≤ odds → v ≡ u32_at (get_or ps k d) 0
+    → u ≡ u32_at (get_or ps k d) 4
+    → s2 (even + odd) (y + 2 * (evens + odds) - odd) (pair_words (drop k ps)) ≡ r
+    → s2 (even + v + (odd + u)) (y + 2 * (evens + (even + v) + (odds + (odd + u))) - (odd + u)) (pair_words (drop (k + 1) ps)) ≡ r
 unfolding s2
-s2_next l i x y w h e = rw e (ap (s2 x y) (words_next l i h))
-
--- ---- a turn that adds two words, v to `even` and u to `odd`, and the ends: with nothing left, and with one word left
-
-pub pair_start_1 : (a : ℕ) (ws : List ℕ) → s1 (a + 0) ws ≡ s1 a ws
-pair_start_1 a ws = let e : a + 0 ≡ a = omega arith in rw e
-
-pub pair_start_2 : (a b : ℕ) (ws : List ℕ) → s2 (a + 0) (b + 2 * (0 + 0) - 0) ws ≡ s2 a b ws
-pair_start_2 a b ws =
-    let e : a + 0 ≡ a = omega arith in
-    let f : b + 2 * (0 + 0) - 0 ≡ b = omega arith in
-    rw (f, e)
-
-pub pair_turn_1 : (l : List ℕ) (i even odd v u r : ℕ) → i < length l / 8 * 8 → i % 8 ≡ 0 → v ≡ u32_at l i → u ≡ u32_at l (i + 4)
-    → s1 (even + odd) (words (drop i l)) ≡ r
-    → s1 (even + v + (odd + u)) (words (drop (i + 8) l)) ≡ r
-pair_turn_1 l i even odd v u r h m e f q =
-    let x : ℕ = even + odd in
-    let a : even + v + (odd + u) ≡ x + v + u = omega arith in
-    let b : i + 8 ≡ i + 4 + 4 = omega arith in
-    rw (a, b) (sym (s1_next l i x v (omega arith) e ∙ s1_next l (i + 4) (x + v) u (omega arith) f)) ∙ q
-
-pub pair_turn_2 : (l : List ℕ) (i even odd evens odds y v u r : ℕ) → i < length l / 8 * 8 → i % 8 ≡ 0 → odd ≤ odds → v ≡ u32_at l i
-    → u ≡ u32_at l (i + 4)
-    → s2 (even + odd) (y + 2 * (evens + odds) - odd) (words (drop i l)) ≡ r
-    → s2 (even + v + (odd + u)) (y + 2 * (evens + (even + v) + (odds + (odd + u))) - (odd + u)) (words (drop (i + 8) l)) ≡ r
-pair_turn_2 l i even odd evens odds y v u r h m o e f q =
+pair_turn_2 ps k even odd evens odds y v u r d h o e f q =
     let x : ℕ = even + odd in
     let z : ℕ = y + 2 * (evens + odds) - odd in
     let a : even + v + (odd + u) ≡ x + v + u = omega arith in
-    let b : i + 8 ≡ i + 4 + 4 = omega arith in
-    let d : y + 2 * (evens + (even + v) + (odds + (odd + u))) - (odd + u) ≡ z + (x + v) + (x + v + u) = omega arith in
-    rw (d, a, b) (sym (s2_next l i x z v (omega arith) e ∙ s2_next l (i + 4) (x + v) (z + (x + v)) u (omega arith) f)) ∙ q
+    let b : y + 2 * (evens + (even + v) + (odds + (odd + u))) - (odd + u) ≡ z + (x + v) + (x + v + u) = omega arith in
+    rw (b, a, e, f) (rw (pair_next ps k d h) at q)
 
-pub none_left_1 : (l : List ℕ) (i x r : ℕ) → length l - i < 4 → s1 x (words (drop i l)) ≡ r → x ≡ r
-unfolding s1
-none_left_1 l i x r h q = sym (ap (s1 x) (words_end l i h)) ∙ q
+-- x and y are the two sums of all pairs: what is left goes on from them
+pairs_done : (l rest : List ℕ) (ps : List (List ℕ)) (k a b x y : ℕ) → ps ≡ first_chunks 8 (length l / 8) l → length ps ≤ k
+    → rest ≡ drop (length l / 8 * 8) l
+    → s1 x (pair_words (drop k ps)) ≡ s1 a (pair_words ps) → s2 x y (pair_words (drop k ps)) ≡ s2 a b (pair_words ps)
+    → (s1 x (words rest) ≡ s1 a (words l)) × (s2 x y (words rest) ≡ s2 a b (words l))
+unfolding pair_words s1 s2
+pairs_done l rest ps k a b x y e h f p q =
+    let z : drop k ps ≡ [] = drop_of_length-le ps h in
+    let m : words l ≡ pair_words ps ++ words rest = rw (e, f) (words_pairs l (length l / 8) (omega arith)) in
+    let p' : x ≡ s1 a (pair_words ps) = rw z at p in
+    let q' : y ≡ s2 a b (pair_words ps) = rw z at q in
+    (rw (m, s1_append, ← p'), rw (m, s2_append, ← p', ← q'))
 
-pub none_left_2 : (l : List ℕ) (i x y r : ℕ) → length l - i < 4 → s2 x y (words (drop i l)) ≡ r → y ≡ r
-unfolding s2
-none_left_2 l i x y r h q = sym (ap (s2 x y) (words_end l i h)) ∙ q
+pub none_left : (l rest : List ℕ) (ps : List (List ℕ)) (k a b x y : ℕ) → ps ≡ first_chunks 8 (length l / 8) l → length ps ≤ k
+    → rest ≡ drop (length l / 8 * 8) l → length rest < 4
+    → s1 x (pair_words (drop k ps)) ≡ s1 a (pair_words ps) → s2 x y (pair_words (drop k ps)) ≡ s2 a b (pair_words ps)
+    → (x ≡ s1 a (words l)) × (y ≡ s2 a b (words l))
+unfolding s1 s2
+none_left l rest ps k a b x y e h f n p q =
+    let d = pairs_done l rest ps k a b x y e h f p q in
+    (rw (words_short rest n) at d.0, rw (words_short rest n) at d.1)
 
-pub one_left_1 : (l : List ℕ) (i x w r : ℕ) → 4 ≤ length l - i → length l / 8 * 8 ≤ i → w ≡ u32_at l i → s1 x (words (drop i l)) ≡ r → x + w ≡ r
-one_left_1 l i x w r h k e q = none_left_1 l (i + 4) (x + w) r (omega arith) (sym (s1_next l i x w h e) ∙ q)
-
-pub one_left_2 : (l : List ℕ) (i x y w r : ℕ) → 4 ≤ length l - i → length l / 8 * 8 ≤ i → w ≡ u32_at l i → s2 x y (words (drop i l)) ≡ r
-    → y + (x + w) ≡ r
-one_left_2 l i x y w r h k e q = none_left_2 l (i + 4) (x + w) (y + (x + w)) r (omega arith) (sym (s2_next l i x y w h e) ∙ q)
+pub one_left : (l rest : List ℕ) (ps : List (List ℕ)) (k a b x y w : ℕ) → ps ≡ first_chunks 8 (length l / 8) l → length ps ≤ k
+    → rest ≡ drop (length l / 8 * 8) l → 4 ≤ length rest → length rest < 8 → w ≡ u32_at rest 0
+    → s1 x (pair_words (drop k ps)) ≡ s1 a (pair_words ps) → s2 x y (pair_words (drop k ps)) ≡ s2 a b (pair_words ps)
+    → (x + w ≡ s1 a (words l)) × (y + (x + w) ≡ s2 a b (words l))
+unfolding s1 s2
+one_left l rest ps k a b x y w e h f n m g p q =
+    let d = pairs_done l rest ps k a b x y e h f p q in
+    let o : words rest ≡ w ∷ [] = words_next rest 0 (omega arith) ∙ ap₂ (λ (v : ℕ) (r : List ℕ). v ∷ r) (sym g) (words_end rest 4 (omega arith)) in
+    (rw o at d.0, rw o at d.1)
 
 -- ---- a turn that adds one chunk and reduces, and the end
 
-pub chunk_turn_1 : (l : List ℕ) (i x t r : ℕ) → 4096 ≤ length l - i → t ≡ s1 x (words (take (i + 4096 - i) (drop i l)))
-    → s1 x (words (drop i l)) % M ≡ r
-    → s1 (t % M) (words (drop (i + 4096) l)) % M ≡ r
-chunk_turn_1 l i x t r h e q =
-    let k : i + 4096 - i ≡ 4096 = omega arith in
-    let z : 4096 % 4 ≡ 0 = refl in
-    let v : List ℕ = words (drop (i + 4096) l) in
-    let e' : t ≡ s1 x (words (take 4096 (drop i l))) = rw k at e in
-    s1_mod (t % M) t v (omega arith) ∙ ap (λ (n : ℕ). s1 n v % M) e'
-    ∙ ap (λ (n : ℕ). n % M) (sym (s1_append x (words (take 4096 (drop i l))) v) ∙ ap (s1 x) (sym (words_chunk l i 4096 h z))) ∙ q
+-- the words of a run are those of its first chunk and those of what is left
+words_chunk : (l c r : List ℕ) → l ≡ c ++ r → length c ≡ min 4096 (length l) → words l ≡ words c ++ words r
+unfolding words
+words_chunk l c [] e h = rw (append-nil, e, append-nil)
+words_chunk l c (x ∷ r) e h =
+    let n : length l ≡ length c + suc (length r) = rw (e, length-append) in
+    ap words e ∙ words_append c (x ∷ r) (omega arith)
 
-pub chunk_turn_2 : (l : List ℕ) (i x y t u r : ℕ) → 4096 ≤ length l - i → t ≡ s1 x (words (take (i + 4096 - i) (drop i l)))
-    → u ≡ s2 x y (words (take (i + 4096 - i) (drop i l)))
-    → s2 x y (words (drop i l)) % M ≡ r → s2 (t % M) (u % M) (words (drop (i + 4096) l)) % M ≡ r
-chunk_turn_2 l i x y t u r h e f q =
-    let k : i + 4096 - i ≡ 4096 = omega arith in
-    let z : 4096 % 4 ≡ 0 = refl in
-    let v : List ℕ = words (drop (i + 4096) l) in
-    let e' : t ≡ s1 x (words (take 4096 (drop i l))) = rw k at e in
-    let f' : u ≡ s2 x y (words (take 4096 (drop i l))) = rw k at f in
-    s2_mod (t % M) t (u % M) u v (omega arith) (omega arith) ∙ ap₂ (λ (n m : ℕ). s2 n m v % M) e' f'
-    ∙ ap (λ (n : ℕ). n % M) (sym (s2_append x y (words (take 4096 (drop i l))) v) ∙ ap (s2 x y) (sym (words_chunk l i 4096 h z))) ∙ q
+pub chunk_turn : (l c r : List ℕ) (n a b x y x' y' t u : ℕ) → l ≡ c ++ r → length c ≡ min n (length l) → n ≡ 4096
+    → x ≡ s1 a (words c) → y ≡ s2 a b (words c) → x' ≡ x % M → y' ≡ y % M
+    → s1 a (words l) % M ≡ t → s2 a b (words l) % M ≡ u
+    → (s1 x' (words r) % M ≡ t) × (s2 x' y' (words r) % M ≡ u)
+chunk_turn l c r n a b x y x' y' t u e h k f g f' g' p q =
+    let m : words l ≡ words c ++ words r = words_chunk l c r e (rw k at h) in
+    let p' : s1 x (words r) % M ≡ t = rw (m, s1_append, ← f) at p in
+    let q' : s2 x y (words r) % M ≡ u = rw (m, s2_append, ← f, ← g) at q in
+    (s1_mod x' x (words r) (omega arith) ∙ p', s2_mod x' x y' y (words r) (omega arith) (omega arith) ∙ q')
 
--- all that is left from i on
-pub rest : (l : List ℕ) (i : ℕ) → take (length l - i) (drop i l) ≡ drop i l
-rest l i = take_all (length l - i) (drop i l) (rw length-drop (omega arith))
-
-pub chunk_stop_1 : (l : List ℕ) (i x t r : ℕ) → t ≡ s1 x (words (take (length l - i) (drop i l))) → s1 x (words (drop i l)) % M ≡ r → t % M ≡ r
-chunk_stop_1 l i x t r e q = ap (λ (n : ℕ). n % M) (e ∙ ap (λ (k : List ℕ). s1 x (words k)) (rest l i)) ∙ q
-
-pub chunk_stop_2 : (l : List ℕ) (i x y u r : ℕ) → u ≡ s2 x y (words (take (length l - i) (drop i l))) → s2 x y (words (drop i l)) % M ≡ r → u % M ≡ r
-chunk_stop_2 l i x y u r e q = ap (λ (n : ℕ). n % M) (e ∙ ap (λ (k : List ℕ). s2 x y (words k)) (rest l i)) ∙ q
+pub chunks_end : (l : List ℕ) (x y t u : ℕ) → length l ≡ 0 → x < M → y < M → s1 x (words l) % M ≡ t → s2 x y (words l) % M ≡ u → (x ≡ t) × (y ≡ u)
+unfolding s1 s2
+chunks_end l x y t u e h k p q =
+    let z : words l ≡ [] = words_short l (omega arith) in
+    let p' : x % M ≡ t = rw z at p in
+    let q' : y % M ≡ u = rw z at q in
+    (omega arith, omega arith)
 
 -- ---- the stored number, from sums that are reduced
 
--- a part of a sum may be reduced
-mod_left : (x c : ℕ) → (x % M + c) % M ≡ (x + c) % M
-mod_left x c = omega arith
-
-mod_right : (x y : ℕ) → (x + y % M) % M ≡ (x + y) % M
-mod_right x y = omega arith
-
 pub stored_reduced : (x y t u c1 c2 : ℕ) → t ≡ x % M → u ≡ y % M → c1 ≡ M - (t + u) % M → c2 ≡ M - (t + c1) % M
-    → c2 * 4294967296 + c1 ≡ stored_for x y
+    → c2 * 2 ^ 32 + c1 ≡ stored_for x y
 unfolding stored_for
 stored_reduced x y t u c1 c2 e f p q =
-    let a : c1 ≡ M - (x + y) % M = p ∙ rw (e, f) (ap (λ (n : ℕ). M - n) (mod_left x (y % M) ∙ mod_right x y)) in
-    let b : c2 ≡ M - (x + c1) % M = q ∙ rw e (ap (λ (n : ℕ). M - n) (mod_left x c1)) in
-    ap (λ (n : ℕ). n * 4294967296 + c1) b ∙ ap (λ (n : ℕ). (M - (x + n) % M) * 4294967296 + n) a
+    let a : c1 ≡ M - (x + y) % M = omega arith in
+    let b : c2 ≡ M - (x + c1) % M = omega arith in
+    rw (b, a)
 
 pub compute_law : (l : List ℕ) (t u c1 c2 : ℕ) → t ≡ s1 0 (words (take (length l - 8) (drop 8 l))) % M
     → u ≡ s2 0 0 (words (take (length l - 8) (drop 8 l))) % M
-    → c1 ≡ M - (t + u) % M → c2 ≡ M - (t + c1) % M → c2 * 4294967296 + c1 ≡ fletcher l
+    → c1 ≡ M - (t + u) % M → c2 ≡ M - (t + c1) % M → bit_or (c2 * 2 ^ 32 % 2 ^ 64) c1 ≡ fletcher l
 unfolding fletcher
 compute_law l t u c1 c2 e f p q =
-    stored_reduced (s1 0 (words (drop 8 l))) (s2 0 0 (words (drop 8 l))) t u c1 c2 (rw (rest l 8) at e) (rw (rest l 8) at f) p q
-
--- ---- the three ways out of `verify`, and `seal`
-
-pub verify_short : (l : List ℕ) → length l < 32 → false ≡ verified l
-unfolding verified
-verify_short l h = rw (lt-leb 32 (length l) h)
-
-pub verify_part : (l : List ℕ) → 32 ≤ length l → (length l % 4 ≡ 0 → ⊥) → false ≡ verified l
-unfolding verified
-verify_part l h d = rw (le-leb 32 (length l) h, ne_eqb (length l % 4) 0 d)
-
-pub verify_whole : (l : List ℕ) (a b : ℕ) → 32 ≤ length l → length l % 4 ≡ 0 → a ≡ u64_at l 0 → b ≡ fletcher l → eqb a b ≡ verified l
-unfolding verified
-verify_whole l a b h d e f = rw (le-leb 32 (length l) h, eq-eqb (length l % 4) 0 d, e, f)
-
-pub seal_law : (l k : List ℕ) (c : ℕ) → c ≡ fletcher l → k ≡ splice l 0 (bytes_of 8 c) → k ≡ sealed l
-unfolding sealed
-seal_law l k c e f = rw e at f
+    let w : c2 * 2 ^ 32 % 2 ^ 64 ≡ c2 * 2 ^ 32 = omega arith in
+    let o : bit_or (c2 * 2 ^ 32) c1 ≡ c2 * 2 ^ 32 + c1 = or_shifted c2 32 c1 (omega arith) in
+    rw (w, o) (stored_reduced (s1 0 (words (drop 8 l))) (s2 0 0 (words (drop 8 l))) t u c1 c2 (rw (take_rest l 8) at e) (rw (take_rest l 8) at f) p q)

@@ -1,17 +1,27 @@
 -- Laws of the object header: what is written is read again. Assumes nothing.
-use Rattle.std.specs.Prelude.{◌≡◌, refl, List, ◌++◌, ℕ, ◌≤◌, length}
+use Rattle.std.specs.Prelude.{◌≡◌, refl, List, ◌++◌, ℕ, ◌+◌, ◌*◌, ◌/◌, ◌%◌, ◌^◌, ◌≤◌, length, bit_and}
+use Rattle.std.specs.Int.Bits.{and_zero_r}
+use Rattle.std.proofs.lemmas.Nat.{and_mask, and_block, shr_split}
 use Rattle.std.proofs.Common.{sym, ap, ◌∙◌, arith, length-append}
 use Rattle.seal.specs.Bytes.{splice, bytes_of, field_at, u64_at}
 use Rattle.seal.specs.laws.WindowLaws.{length_splice, splice_run}
 use Rattle.seal.specs.laws.FieldLaws.{length_bytes_of, field_same, field_before}
-use Rattle.seal.specs.Obj.{header_at, header_bytes, Fits}
+use Rattle.seal.specs.Obj.{header_at, header_bytes, Fits, kind_of, storage_of}
 use Rattle.seal.specs.declared.obj.ObjHeader.{ObjHeader}
 
--- five fields make the header
-pub parse_law : (l : List ℕ) (c o x t u : ℕ) → c ≡ field_at 8 l 0 → o ≡ field_at 8 l 8 → x ≡ field_at 8 l 16 → t ≡ field_at 4 l 24
-    → u ≡ field_at 4 l 28
-    → ◌≡◌ {A = ObjHeader} (record { cksum = c; oid = o; xid = x; obj_type = t; subtype = u }) (header_at l)
-parse_law l c o x t u p q r s v = rw (p, q, r, s, v)
+-- the masks of a type's parts
+pub kind_masked : (t : ℕ) → bit_and t 0xFFFF ≡ kind_of t
+kind_masked t = and_mask t 16
+
+pub storage_masked : (t : ℕ) → bit_and t 0xC0000000 ≡ storage_of t
+storage_masked t =
+    let a : ℕ = t / 2 ^ 30 in
+    let r : ℕ = t % 2 ^ 30 in
+    let e : a * 2 ^ 30 + r ≡ t = shr_split t 30 in
+    let b : bit_and (a * 2 ^ 30 + r) 0xC0000000 ≡ bit_and a 3 * 2 ^ 30 + bit_and r 0 = and_block 30 a 3 r 0 (omega arith) (omega arith) in
+    let m : bit_and a 3 ≡ a % 4 = and_mask a 2 in
+    let z : bit_and r 0 ≡ 0 = and_zero_r r in
+    rw e at b ∙ rw (m, z) (omega arith)
 
 -- four fields, one after the other, are the header's bytes
 pub write_law : (l l₁ l₂ l₃ l₄ : List ℕ) (h : ObjHeader) → 32 ≤ length l → l₁ ≡ splice l 8 (bytes_of 8 h.oid)

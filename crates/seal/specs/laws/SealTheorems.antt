@@ -1,7 +1,7 @@
 -- What the seal is good for: theorems on the definitions of Checksum. Assumes nothing.
-use Rattle.std.specs.Prelude.{◌≡◌, refl, List, [], ◌∷◌, Bool, true, false, ◌&&◌, ◌↔◌, ℕ, ◌+◌, ◌-◌, ◌*◌, ◌%◌, ◌^◌, ◌≤◌, ◌<◌, length, drop, leb, eqb}
+use Rattle.std.specs.Prelude.{◌≡◌, refl, List, [], ◌∷◌, true, ◌&&◌, ◌↔◌, ℕ, ◌+◌, ◌-◌, ◌*◌, ◌%◌, ◌^◌, ◌≤◌, ◌<◌, length, drop, leb, eqb}
 use Rattle.std.proofs.Common.{sym, ap, ◌∙◌, zero-add, arith, drop_at, le-leb, eq-eqb, leb-true, eqb-true}
-use Rattle.std.proofs.lemmas.Bool.{false≢true}
+use Rattle.std.proofs.lemmas.Bool.{and_parts}
 use Rattle.seal.specs.Bytes.{splice, bytes_of, u32_at, u64_at, AreBytes}
 use Rattle.seal.specs.laws.WindowLaws.{length_splice}
 use Rattle.seal.specs.laws.FieldLaws.{length_bytes_of, field_same, field_join, field_fits, bytes_bytes_of, bytes_splice}
@@ -83,12 +83,9 @@ stored_of_words x y lo hi e f =
     let b : hi ≡ M - (x + (M - (x + y) % M)) % M = f ∙ ap (λ (n : ℕ). M - (x + n) % M) e in
     omega arith
 
--- modulo M: the low word is what x + y lacks, the high word what x and the low word lack
-low_balances : (x y lo : ℕ) → lo ≡ M - (x + y) % M → (x + y + lo) % M ≡ 0
-low_balances x y lo e = omega arith
-
-high_balances : (x lo hi : ℕ) → hi ≡ M - (x + lo) % M → (x + lo + hi) % M ≡ 0
-high_balances x lo hi e = omega arith
+-- modulo M: a word is what a number lacks, the low word what x + y lacks, the high word what x and the low word lack
+word_balances : (x w : ℕ) → w ≡ M - x % M → (x + w) % M ≡ 0
+word_balances x w e = omega arith
 
 sum_balances : (x y lo hi : ℕ) → (x + y + lo) % M ≡ 0 → (x + lo + hi) % M ≡ 0 → (y + (x + lo) + (x + lo + hi)) % M ≡ 0
 sum_balances x y lo hi r s = omega arith
@@ -96,23 +93,12 @@ sum_balances x y lo hi r s = omega arith
 low_alone : (x y lo hi : ℕ) → (x + lo + hi) % M ≡ 0 → (y + (x + lo) + (x + lo + hi)) % M ≡ 0 → (x + y + lo) % M ≡ 0
 low_alone x y lo hi s t = omega arith
 
-low_unique : (x y lo : ℕ) → 0 < lo → lo < 2 ^ 32 → (x + y + lo) % M ≡ 0 → lo ≡ M - (x + y) % M
-low_unique x y lo z f e = omega arith
-
-high_unique : (x lo hi : ℕ) → 0 < hi → hi < 2 ^ 32 → (x + lo + hi) % M ≡ 0 → hi ≡ M - (x + lo) % M
-high_unique x lo hi z f e = low_unique x lo hi z f e
+word_unique : (x w : ℕ) → 0 < w → w < 2 ^ 32 → (x + w) % M ≡ 0 → w ≡ M - x % M
+word_unique x w z f e = omega arith
 
 -- the stored sum is its two words
 pub stored_words : (l : List ℕ) → 8 ≤ length l → u32_at l 0 + u32_at l 4 * 2 ^ 32 ≡ u64_at l 0
 stored_words l h = field_join 4 4 l 0 (u32_at l 0) (u32_at l 4) h refl refl
-
-and_left : (a b : Bool) → (a && b) ≡ true → a ≡ true
-and_left true b e = refl
-and_left false b e = e
-
-and_right : (a b : Bool) → (a && b) ≡ true → b ≡ true
-and_right true b e = e
-and_right false b e = absurd (false≢true e)
 
 -- an object of bytes that verifies has both sums 0
 pub verified_balanced : (l : List ℕ) → AreBytes l → verified l ≡ true → Balanced l
@@ -122,18 +108,17 @@ verified_balanced l h v =
     let y : ℕ = s2 0 0 (words (drop 8 l)) in
     let lo : ℕ = u32_at l 0 in
     let hi : ℕ = u32_at l 4 in
-    let ab : (leb 32 (length l) && eqb (length l % 4) 0) ≡ true = and_left (leb 32 (length l) && eqb (length l % 4) 0)
-    (eqb (u64_at l 0) (stored_for x y)) v in
-    let n : 32 ≤ length l = leb-true 32 (length l) (and_left (leb 32 (length l)) (eqb (length l % 4) 0) ab) in
-    let d : length l % 4 ≡ 0 = eqb-true (length l % 4) 0 (and_right (leb 32 (length l)) (eqb (length l % 4) 0) ab) in
-    let e : u64_at l 0 ≡ stored_for x y = eqb-true (u64_at l 0) (stored_for x y)
-    (and_right (leb 32 (length l) && eqb (length l % 4) 0) (eqb (u64_at l 0) (stored_for x y)) v) in
+    let tests = and_parts (leb 32 (length l) && eqb (length l % 4) 0) (eqb (u64_at l 0) (stored_for x y)) v in
+    let shape = and_parts (leb 32 (length l)) (eqb (length l % 4) 0) tests.0 in
+    let n : 32 ≤ length l = leb-true 32 (length l) shape.0 in
+    let d : length l % 4 ≡ 0 = eqb-true (length l % 4) 0 shape.1 in
+    let e : u64_at l 0 ≡ stored_for x y = eqb-true (u64_at l 0) (stored_for x y) tests.1 in
     let f : lo < 2 ^ 32 = field_fits 4 l 0 h in
     let w : lo + hi * 2 ^ 32 ≡ stored_for x y = stored_words l (omega arith) ∙ e in
     let p : lo ≡ M - (x + y) % M = low_of_stored x y lo hi f w in
     let q : hi ≡ M - (x + lo) % M = high_of_stored x y lo hi f w in
-    let r : (x + y + lo) % M ≡ 0 = low_balances x y lo p in
-    let s : (x + lo + hi) % M ≡ 0 = high_balances x lo hi q in
+    let r : (x + y + lo) % M ≡ 0 = word_balances (x + y) lo p in
+    let s : (x + lo + hi) % M ≡ 0 = word_balances (x + lo) hi q in
     record {
       long = n;
       whole = d;
@@ -157,8 +142,8 @@ balanced_verified l h b =
     let g : hi < 2 ^ 32 = field_fits 4 l 4 h in
     let s : (x + lo + hi) % M ≡ 0 = rw (first_of_all l) at b.first in
     let t : (y + (x + lo) + (x + lo + hi)) % M ≡ 0 = rw (second_of_all l) at b.second in
-    let p : lo ≡ M - (x + y) % M = low_unique x y lo b.low f (low_alone x y lo hi s t) in
-    let q : hi ≡ M - (x + lo) % M = high_unique x lo hi b.high g s in
+    let p : lo ≡ M - (x + y) % M = word_unique (x + y) lo b.low f (low_alone x y lo hi s t) in
+    let q : hi ≡ M - (x + lo) % M = word_unique (x + lo) hi b.high g s in
     let e : u64_at l 0 ≡ stored_for x y = sym (stored_words l (omega arith)) ∙ stored_of_words x y lo hi p q in
     rw (le-leb 32 (length l) n, eq-eqb (length l % 4) 0 b.whole, eq-eqb (u64_at l 0) (stored_for x y) e)
 

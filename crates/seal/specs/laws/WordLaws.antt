@@ -1,11 +1,11 @@
 -- Laws of a field that is read and written by way of a word of 8 bytes, as std converts it. Assumes nothing.
 use Rattle.std.specs.Prelude.{◌≡◌, refl, List, [], ◌∷◌, ◌++◌, ℕ, zero, suc, ◌+◌, ◌*◌, ◌-◌, ◌/◌, ◌%◌, ◌^◌, ◌≤◌, ◌<◌, length, take, drop, get_or, replicate}
-use Rattle.std.proofs.Common.{sym, ap, ◌∙◌, arith, length-append, length-drop, length-take-le, take-suc, take_all}
+use Rattle.std.proofs.Common.{Fits, sym, ap, ◌∙◌, arith, length-append, length-drop, length-take-le, take-suc, take_all}
 use Rattle.std.proofs.Math.Nat.{pow-suc, div-one, div-div-eq-div-mul}
 use Rattle.std.proofs.lemmas.List.{length-replicate, drop-replicate}
-use Rattle.std.specs.Int.{w64, from_le_bytes, to_le_bytes, sum_through, byte_worth, bytes_low_first}
+use Rattle.std.specs.Int.{w8, w64, from_le_bytes, to_le_bytes, sum_through, byte_worth, bytes_low_first}
 use Rattle.seal.specs.Bytes.{window, splice, le, bytes_of, field_at}
-use Rattle.seal.specs.laws.FieldLaws.{le_append, length_bytes_of}
+use Rattle.seal.specs.laws.FieldLaws.{le_append, length_bytes_of, field_fits}
 use Rattle.seal.specs.laws.PartLaws.{part_stored}
 
 -- ---- read
@@ -41,6 +41,11 @@ field_read n i x l d h r e f =
     let p : le (d ++ z) ≡ le d = rw (le_append d z, le_zeros (8 - n)) (omega arith) in
     let q : x ≡ from_le_bytes w64 (d ++ z) = rw drop-replicate at f in
     q ∙ word_is_le (d ++ z) w ∙ p ∙ ap le e'
+
+-- so it is below what its width can hold
+pub field_read_fits : (n i x : ℕ) (l d : List ℕ) → n ≤ 8 → i + n ≤ length l → d ≡ take (i + n - i) (drop i l)
+    → x ≡ from_le_bytes w64 (d ++ drop n (replicate 8 0)) → ((j : ℕ) → Fits w8 (get_or l j 0)) → x < 256 ^ n
+field_read_fits n i x l d h r e f b = rw (field_read n i x l d h r e f) (field_fits n l i (λ (j : ℕ). (b j).fits))
 
 -- ---- write
 
