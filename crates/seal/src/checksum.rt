@@ -7,7 +7,10 @@ ghost use Rattle.seal.specs.Checksum.{M, words, s1, s2, fletcher, verified, seal
 use crate::bytes::{field_at, put_field};
 use crate::obj::OBJ_HEADER_SIZE;
 
-const MODULUS: u64 = 0xFFFF_FFFF;
+// How many values a word has.
+const WORD: u64 = 0x1_0000_0000;
+
+const MODULUS: u64 = WORD - 1;
 
 // How many bytes are summed before the sums are reduced: 1,024 words keep both below 2^64.
 const CHUNK: usize = 4096;
@@ -30,9 +33,10 @@ impl Sums {
     }
 }
 
-// The words of one chunk, summed onto two sums that are reduced, without reducing. A turn takes two words into four sums
-// of which each waits for one addition only: the words at even places (with sum1), those at odd places, and what each
-// of the two comes to turn by turn. With the words v and u a turn, sum2 grows by (even + odd - u) + (even + odd).
+// The words of one chunk, summed onto two sums that are reduced, without reducing. A turn reads two words at once and
+// takes them into four sums of which each waits for one addition only: the words at even places (with sum1), those at odd
+// places, and what each of the two comes to turn by turn. With the words v and u a turn, sum2 grows by
+// (even + odd - u) + (even + odd).
 fn add_chunk(chunk: &[u8], sums: Sums) -> Sums
     requires { (length chunk.now ≤ 4096) × (sums.sum1 < M) × (sums.sum2 < M) }
     ensures { (result.sum1 ≡ s1 sums.sum1 (words chunk.now))
@@ -44,8 +48,9 @@ fn add_chunk(chunk: &[u8], sums: Sums) -> Sums
     let mut evens = 0;
     let mut odds = 0;
     for pair in pairs {
-        even += field_at::<4>(pair, 0);
-        odd += field_at::<4>(pair, 4);
+        let pair = field_at::<8>(pair, 0);
+        even += pair % WORD;
+        odd += pair / WORD;
         evens += even;
         odds += odd;
     }
@@ -88,7 +93,7 @@ pub fn compute(object: &[u8]) -> u64
     let sums = fletcher64(&object[8..]);
     let low = lacking(sums.sum1 + sums.sum2);
     let high = lacking(sums.sum1 + low);
-    high << 32 | low
+    high * WORD + low
 }
 
 // What stands there.

@@ -1,12 +1,11 @@
 -- Laws of the words and the two sums, and of loops that add them up. Assumes nothing.
-use Rattle.std.specs.Prelude.{◌≡◌, refl, List, [], ◌∷◌, ◌++◌, ℕ, zero, suc, ◌+◌, ◌-◌, ◌*◌, ◌/◌, ◌%◌, ◌≤◌, ◌<◌, length, take, drop, get_or, min, bit_or, ◌^◌}
+use Rattle.std.specs.Prelude.{◌≡◌, refl, List, [], ◌∷◌, ◌++◌, ℕ, zero, suc, ◌+◌, ◌-◌, ◌*◌, ◌/◌, ◌%◌, ◌^◌, ◌≤◌, ◌<◌, length, take, drop, get_or, min}
 use Rattle.std.specs.Simd.{first_chunks}
-use Rattle.std.proofs.lemmas.Nat.{or_shifted}
 use Rattle.std.proofs.Common.{sym, ap, ap₂, ◌∙◌, arith, add-one, append-nil, length-append, length-drop, drop-drop, drop-cons}
 use Rattle.std.proofs.lemmas.List.{take_rest}
-use Rattle.seal.specs.Bytes.{window, le, field_at, u32_at}
+use Rattle.seal.specs.Bytes.{window, le, field_at, u32_at, u64_at, AreBytes}
 use Rattle.seal.specs.Checksum.{M, words, s1, s2, stored_for, fletcher}
-use Rattle.seal.specs.laws.FieldLaws.{field_window}
+use Rattle.seal.specs.laws.FieldLaws.{field_window, field_join, field_fits, bytes_drop}
 use Rattle.std.proofs.Math.ListN.{drop_of_length-le}
 
 -- ---- words
@@ -68,82 +67,82 @@ unfolding s2
 s2_mod a a' b b' [] h k = k
 s2_mod a a' b b' (w ∷ ws) h k = s2_mod (a + w) (a' + w) (b + (a + w)) (b' + (a' + w)) ws (omega arith) (omega arith)
 
--- ---- two words a turn, v onto `even` and u onto `odd`, and the ends: with nothing left, and with one word left
+-- ---- two words a turn, of which w is the pair: the first onto `even`, the second onto `odd`; and the ends, with no word left and with one
 
 -- the words of runs of eight bytes
 unfoldable pub pair_words : List (List ℕ) → List ℕ
 pair_words [] = []
-pair_words (p ∷ ps) = u32_at p 0 ∷ u32_at p 4 ∷ pair_words ps
+pair_words (p ∷ ps) = u64_at p 0 % 2 ^ 32 ∷ u64_at p 0 / 2 ^ 32 ∷ pair_words ps
 
-pair_next : (ps : List (List ℕ)) (k : ℕ) (d : List ℕ) → k < length ps → pair_words (drop k ps) ≡ u32_at (get_or ps k d) 0 ∷ u32_at (get_or ps k d) 4
-    ∷ pair_words (drop (k + 1) ps)
-unfolding pair_words
-pair_next ps k d h = rw (add-one, drop-cons ps k d)
-
--- the words of a run are those of its pairs and those of what is left
-words_pairs : (l : List ℕ) (k : ℕ) → k * 8 ≤ length l → words l ≡ pair_words (first_chunks 8 k l) ++ words (drop (k * 8) l)
-unfolding pair_words words field_at window
-words_pairs l zero h = refl
-words_pairs l (suc k) h =
+-- the words of a run of bytes are those of its pairs and those of what is left
+words_pairs : (l : List ℕ) (k : ℕ) → AreBytes l → k * 8 ≤ length l → words l ≡ pair_words (first_chunks 8 k l) ++ words (drop (k * 8) l)
+unfolding pair_words field_at window
+words_pairs l zero b h = refl
+words_pairs l (suc k) b h =
     let r : List ℕ = drop 8 l in
     let e : 8 + k * 8 ≡ suc k * 8 = omega arith in
-    let p : words l ≡ u32_at l 0 ∷ u32_at l 4 ∷ words r = words_next l 0 (omega arith) ∙ ap (λ (q : List ℕ). u32_at l 0 ∷ q)
+    let w : words l ≡ u32_at l 0 ∷ u32_at l 4 ∷ words r = words_next l 0 (omega arith) ∙ ap (λ (q : List ℕ). u32_at l 0 ∷ q)
     (words_next l 4 (omega arith)) in
-    let u : u32_at (take 8 l) 0 ≡ u32_at l 0 = field_window 4 0 8 l 0 (omega arith) in
-    let v : u32_at (take 8 l) 4 ≡ u32_at l 4 = field_window 4 0 8 l 4 (omega arith) in
-    let i : words r ≡ pair_words (first_chunks 8 k r) ++ words (drop (k * 8) r) = words_pairs r k (rw length-drop (omega arith)) in
+    let p : u64_at (take 8 l) 0 ≡ u64_at l 0 = field_window 8 0 8 l 0 (omega arith) in
+    let j : u32_at l 0 + u32_at l 4 * 2 ^ 32 ≡ u64_at l 0 = field_join 4 4 l 0 (u32_at l 0) (u32_at l 4) (omega arith) refl refl in
+    let f : u32_at l 0 < 2 ^ 32 = field_fits 4 l 0 b in
+    let u : u64_at (take 8 l) 0 % 2 ^ 32 ≡ u32_at l 0 = omega arith in
+    let v : u64_at (take 8 l) 0 / 2 ^ 32 ≡ u32_at l 4 = omega arith in
+    let i : words r ≡ pair_words (first_chunks 8 k r) ++ words (drop (k * 8) r) = words_pairs r k (bytes_drop 8 l b) (rw length-drop (omega arith)) in
     let d : drop (k * 8) r ≡ drop (suc k * 8) l = drop-drop (k * 8) 8 l ∙ ap (λ (n : ℕ). drop n l) e in
     cc
 
-pub pair_turn_1 : (ps : List (List ℕ)) (k even odd v u r : ℕ) (d : List ℕ) → k < length ps → v ≡ u32_at (get_or ps k d) 0 → u ≡ u32_at (get_or ps k d) 4
+pub pair_turn_1 : (ps : List (List ℕ)) (k even odd w r : ℕ) (d : List ℕ) → k < length ps → w ≡ u64_at (get_or ps k d) 0
     → s1 (even + odd) (pair_words (drop k ps)) ≡ r
-    → s1 (even + v + (odd + u)) (pair_words (drop (k + 1) ps)) ≡ r
-unfolding s1
-pair_turn_1 ps k even odd v u r d h e f q =
-    let a : even + v + (odd + u) ≡ even + odd + v + u = omega arith in
-    rw (a, e, f) (rw (pair_next ps k d h) at q)
+    → s1 (even + w % 2 ^ 32 + (odd + w / 2 ^ 32)) (pair_words (drop (k + 1) ps)) ≡ r
+unfolding pair_words s1
+pair_turn_1 ps k even odd w r d h e q =
+    let a : even + w % 2 ^ 32 + (odd + w / 2 ^ 32) ≡ even + odd + w % 2 ^ 32 + w / 2 ^ 32 = omega arith in
+    rw (a, add-one, e) (rw (drop-cons ps k d h) at q)
 
-pub pair_turn_2 : (ps : List (List ℕ)) (k even odd evens odds y v u r : ℕ) (d : List ℕ) → k < length ps → odd ≤ odds → v ≡ u32_at (get_or ps k d) 0
-    → u ≡ u32_at (get_or ps k d) 4
+pub pair_turn_2 : (ps : List (List ℕ)) (k even odd evens odds y w r : ℕ) (d : List ℕ) → k < length ps → odd ≤ odds → w ≡ u64_at (get_or ps k d) 0
     → s2 (even + odd) (y + 2 * (evens + odds) - odd) (pair_words (drop k ps)) ≡ r
-    → s2 (even + v + (odd + u)) (y + 2 * (evens + (even + v) + (odds + (odd + u))) - (odd + u)) (pair_words (drop (k + 1) ps)) ≡ r
-unfolding s2
-pair_turn_2 ps k even odd evens odds y v u r d h o e f q =
+    → s2 (even + w % 2 ^ 32 + (odd + w / 2 ^ 32)) (y + 2 * (evens + (even + w % 2 ^ 32) + (odds + (odd + w / 2 ^ 32))) - (odd + w / 2 ^ 32))
+    (pair_words (drop (k + 1) ps)) ≡ r
+unfolding pair_words s2
+pair_turn_2 ps k even odd evens odds y w r d h o e q =
+    let v : ℕ = w % 2 ^ 32 in
+    let u : ℕ = w / 2 ^ 32 in
     let x : ℕ = even + odd in
     let z : ℕ = y + 2 * (evens + odds) - odd in
     let a : even + v + (odd + u) ≡ x + v + u = omega arith in
     let b : y + 2 * (evens + (even + v) + (odds + (odd + u))) - (odd + u) ≡ z + (x + v) + (x + v + u) = omega arith in
-    rw (b, a, e, f) (rw (pair_next ps k d h) at q)
+    rw (b, a, add-one, e) (rw (drop-cons ps k d h) at q)
 
 -- x and y are the two sums of all pairs: what is left goes on from them
-pairs_done : (l rest : List ℕ) (ps : List (List ℕ)) (k a b x y : ℕ) → ps ≡ first_chunks 8 (length l / 8) l → length ps ≤ k
+pairs_done : (l rest : List ℕ) (ps : List (List ℕ)) (k a b x y : ℕ) → AreBytes l → ps ≡ first_chunks 8 (length l / 8) l → length ps ≤ k
     → rest ≡ drop (length l / 8 * 8) l
     → s1 x (pair_words (drop k ps)) ≡ s1 a (pair_words ps) → s2 x y (pair_words (drop k ps)) ≡ s2 a b (pair_words ps)
     → (s1 x (words rest) ≡ s1 a (words l)) × (s2 x y (words rest) ≡ s2 a b (words l))
 unfolding pair_words s1 s2
-pairs_done l rest ps k a b x y e h f p q =
+pairs_done l rest ps k a b x y c e h f p q =
     let z : drop k ps ≡ [] = drop_of_length-le ps h in
-    let m : words l ≡ pair_words ps ++ words rest = rw (e, f) (words_pairs l (length l / 8) (omega arith)) in
+    let m : words l ≡ pair_words ps ++ words rest = rw (e, f) (words_pairs l (length l / 8) c (omega arith)) in
     let p' : x ≡ s1 a (pair_words ps) = rw z at p in
     let q' : y ≡ s2 a b (pair_words ps) = rw z at q in
     (rw (m, s1_append, ← p'), rw (m, s2_append, ← p', ← q'))
 
-pub none_left : (l rest : List ℕ) (ps : List (List ℕ)) (k a b x y : ℕ) → ps ≡ first_chunks 8 (length l / 8) l → length ps ≤ k
+pub none_left : (l rest : List ℕ) (ps : List (List ℕ)) (k a b x y : ℕ) → AreBytes l → ps ≡ first_chunks 8 (length l / 8) l → length ps ≤ k
     → rest ≡ drop (length l / 8 * 8) l → length rest < 4
     → s1 x (pair_words (drop k ps)) ≡ s1 a (pair_words ps) → s2 x y (pair_words (drop k ps)) ≡ s2 a b (pair_words ps)
     → (x ≡ s1 a (words l)) × (y ≡ s2 a b (words l))
 unfolding s1 s2
-none_left l rest ps k a b x y e h f n p q =
-    let d = pairs_done l rest ps k a b x y e h f p q in
+none_left l rest ps k a b x y c e h f n p q =
+    let d = pairs_done l rest ps k a b x y c e h f p q in
     (rw (words_short rest n) at d.0, rw (words_short rest n) at d.1)
 
-pub one_left : (l rest : List ℕ) (ps : List (List ℕ)) (k a b x y w : ℕ) → ps ≡ first_chunks 8 (length l / 8) l → length ps ≤ k
+pub one_left : (l rest : List ℕ) (ps : List (List ℕ)) (k a b x y w : ℕ) → AreBytes l → ps ≡ first_chunks 8 (length l / 8) l → length ps ≤ k
     → rest ≡ drop (length l / 8 * 8) l → 4 ≤ length rest → length rest < 8 → w ≡ u32_at rest 0
     → s1 x (pair_words (drop k ps)) ≡ s1 a (pair_words ps) → s2 x y (pair_words (drop k ps)) ≡ s2 a b (pair_words ps)
     → (x + w ≡ s1 a (words l)) × (y + (x + w) ≡ s2 a b (words l))
 unfolding s1 s2
-one_left l rest ps k a b x y w e h f n m g p q =
-    let d = pairs_done l rest ps k a b x y e h f p q in
+one_left l rest ps k a b x y w c e h f n m g p q =
+    let d = pairs_done l rest ps k a b x y c e h f p q in
     let o : words rest ≡ w ∷ [] = words_next rest 0 (omega arith) ∙ ap₂ (λ (v : ℕ) (r : List ℕ). v ∷ r) (sym g) (words_end rest 4 (omega arith)) in
     (rw o at d.0, rw o at d.1)
 
@@ -177,19 +176,15 @@ chunks_end l x y t u e h k p q =
 
 -- ---- the stored number, from sums that are reduced
 
-pub stored_reduced : (x y t u c1 c2 : ℕ) → t ≡ x % M → u ≡ y % M → c1 ≡ M - (t + u) % M → c2 ≡ M - (t + c1) % M
-    → c2 * 2 ^ 32 + c1 ≡ stored_for x y
-unfolding stored_for
-stored_reduced x y t u c1 c2 e f p q =
+pub compute_law : (l : List ℕ) (t u c1 c2 : ℕ) → t ≡ s1 0 (words (take (length l - 8) (drop 8 l))) % M
+    → u ≡ s2 0 0 (words (take (length l - 8) (drop 8 l))) % M
+    → c1 ≡ M - (t + u) % M → c2 ≡ M - (t + c1) % M → c2 * 2 ^ 32 + c1 ≡ fletcher l
+unfolding fletcher stored_for
+compute_law l t u c1 c2 e f p q =
+    let x : ℕ = s1 0 (words (drop 8 l)) in
+    let y : ℕ = s2 0 0 (words (drop 8 l)) in
+    let e' : t ≡ x % M = rw (take_rest l 8) at e in
+    let f' : u ≡ y % M = rw (take_rest l 8) at f in
     let a : c1 ≡ M - (x + y) % M = omega arith in
     let b : c2 ≡ M - (x + c1) % M = omega arith in
     rw (b, a)
-
-pub compute_law : (l : List ℕ) (t u c1 c2 : ℕ) → t ≡ s1 0 (words (take (length l - 8) (drop 8 l))) % M
-    → u ≡ s2 0 0 (words (take (length l - 8) (drop 8 l))) % M
-    → c1 ≡ M - (t + u) % M → c2 ≡ M - (t + c1) % M → bit_or (c2 * 2 ^ 32 % 2 ^ 64) c1 ≡ fletcher l
-unfolding fletcher
-compute_law l t u c1 c2 e f p q =
-    let w : c2 * 2 ^ 32 % 2 ^ 64 ≡ c2 * 2 ^ 32 = omega arith in
-    let o : bit_or (c2 * 2 ^ 32) c1 ≡ c2 * 2 ^ 32 + c1 = or_shifted c2 32 c1 (omega arith) in
-    rw (w, o) (stored_reduced (s1 0 (words (drop 8 l))) (s2 0 0 (words (drop 8 l))) t u c1 c2 (rw (take_rest l 8) at e) (rw (take_rest l 8) at f) p q)
