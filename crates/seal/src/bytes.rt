@@ -53,7 +53,7 @@ pub fn clear(s: &mut [u8], a: usize, n: usize)
     s[a..a + n].fill(0);
 }
 
-// Fields of 2, 4 and 8 bytes, and moves of one direction, for the crates above that do not call the functions before by themselves.
+// Fields of 2, 4 and 8 bytes, and moves of one direction: for callers that do not yet name the width, or call `shift`.
 
 pub fn u16_at(s: &[u8], i: usize) -> u64
     requires { i + 2 ≤ length s.now }

@@ -34,8 +34,8 @@ impl Sums {
 }
 
 // The words of one chunk, summed onto two sums that are reduced, without reducing. A turn reads two words at once and
-// takes them into four sums of which each waits for one addition only: the words at even places (with sum1), those at odd
-// places, and what each of the two comes to turn by turn. With the words v and u a turn, sum2 grows by
+// takes them into four sums of which each waits for one addition only: the words at even places (with sum1), those at
+// odd places, and what each of the two comes to turn by turn. With the words v and u a turn, sum2 grows by
 // (even + odd - u) + (even + odd).
 fn add_chunk(chunk: &[u8], sums: Sums) -> Sums
     requires { (length chunk.now ≤ 4096) × (sums.sum1 < M) × (sums.sum2 < M) }

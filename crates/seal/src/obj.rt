@@ -66,7 +66,8 @@ impl ObjHeader {
         put_field::<4>(b, O_SUBTYPE, self.subtype);
     }
 
-    // What the object is: the type's bits under OBJECT_TYPE_MASK. A number and no enum: of the 65,536 kinds that a type can have few have names.
+    // What the object is: the type's bits under OBJECT_TYPE_MASK.
+    // A number and no enum: a type word holds any of 65,536 kinds, few of them have names, and `write` stores each.
     #[tactic(auto, using(crate::specs::laws::ObjLaws::kind_masked))]
     pub fn kind(self) -> u64
         ensures { result ≡ kind_of self.obj_type }
@@ -74,7 +75,8 @@ impl ObjHeader {
         self.obj_type & OBJECT_TYPE_MASK
     }
 
-    // How the object is found: the type's bits under OBJ_STORAGETYPE_MASK. A number and no enum: one of the four classes has no name.
+    // How the object is found: the type's bits under OBJ_STORAGETYPE_MASK.
+    // A number and no enum: a type word holds any of four classes, one of them has no name, and `write` stores each.
     #[tactic(auto, using(crate::specs::laws::ObjLaws::storage_masked))]
     pub fn storage(self) -> u64
         ensures { result ≡ storage_of self.obj_type }
