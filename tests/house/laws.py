@@ -10,6 +10,7 @@ DECLARED = re.compile(r'^(\s*)((?:unfoldable |abbrev |opaque )*)(pub )?((?:unfol
 NO_NAME = {'use', 'mod', 'unfolding', 'where', 'let', 'in', 'infixr', 'infixl', 'infix', 'module'}
 BROUGHT = re.compile(r'^(?:unfoldable )?(?:pub |ghost )?use Rattle\.(\w+)\.specs\.([\w.]+?)(?:\.\{([^}]*)\}| as (\S+?));?\s*$', re.M)
 WHOLE = re.compile(r'Rattle\.(\w+)\.specs\.((?:[a-z]\w*\.)*[A-Z]\w*)\.([^\s(){}\[\],;]+)')
+NAMED = re.compile(r'\b(\w+)::specs::((?:\w+::)+)(\w+)')  # what a function's `tactic` attribute names
 BOUND = re.compile(r'[({]([^(){}:]+?) : |λ ([^.()]+?)\.')
 
 
@@ -103,9 +104,13 @@ def twins(text):
 
 
 def taken(text):
-    """By crate and module, the names that a file somewhere brings from it."""
+    """By crate and module, the names that a file somewhere brings from it, or that a function's attribute names."""
     out = collections.defaultdict(set)
-    for t in text.values():
+    for p, t in text.items():
+        if p.suffix == '.rt' and CRATES in p.parents:
+            for m in NAMED.finditer(t):
+                crate = p.relative_to(CRATES).parts[0] if m.group(1) == 'crate' else m.group(1)
+                out[crate, m.group(2).replace('::', '.').rstrip('.')].add(m.group(3))
         for m in BROUGHT.finditer(t):
             if m.group(3) is not None:
                 names = {x.strip().split(' as ')[0] for x in m.group(3).split(',')}
