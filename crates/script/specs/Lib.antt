@@ -3,3 +3,5 @@ pub mod Number
 pub mod Words
 pub mod Out
 pub mod Input
+-- Laws: checked by the machine, nothing to believe.
+pub mod laws
