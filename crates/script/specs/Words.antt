@@ -1,6 +1,6 @@
 -- One line of the script language: what stands between its brackets, the words there, the numbers and the byte strings.
 -- A text is a list of bytes.
-use Rattle.std.specs.Prelude.{Option, Some, None, List, [], ◌∷◌, Bool, true, false, cond, not, ◌&&◌, ℕ, zero, suc, ◌+◌, ◌-◌, ◌*◌, ◌/◌, ◌%◌, ◌^◌, min, length, take, drop, get_or, leb, ltb, eqb, slice_get, slice_index, EachIndex, unwrap_or, is_some, ◌≡◌, ◌<◌}
+use Rattle.std.specs.Prelude.{Option, Some, None, List, [], ◌∷◌, Bool, true, cond, ◌&&◌, ℕ, ◌+◌, ◌-◌, ◌*◌, ◌%◌, ◌^◌, length, take, drop, get_or, leb, ltb, eqb, slice_get, slice_index, EachIndex, unwrap_or, is_some, ◌≡◌, ◌<◌}
 use Rattle.std.specs.List.{slice_split, list_all}
 use Rattle.script.specs.Number.{most}
 use Rattle.script.specs.declared.words.ByteString.{ByteString}

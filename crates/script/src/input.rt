@@ -106,7 +106,7 @@ impl<R: Read> Lines<R> {
                 }
             }
         }
-        if len == 0 { None } else { Some(fitting(len, line.len())) }
+        last(len, line.len())
     }
 }
 
@@ -122,6 +122,14 @@ fn fitting(len: usize, room: usize) -> Result<usize, TooLong>
     ensures { MatchResult result (λ n. (n ≡ len) × (len ≤ room)) (λ _. room < len) }
 {
     if len <= room { Ok(len) } else { Err(TooLong) }
+}
+
+// The last line, of so many bytes in its room: none where it has no byte.
+fn last(len: usize, room: usize) -> Option<Result<usize, TooLong>>
+    ensures { MatchOption result (len ≡ 0)
+        (λ l. (0 < len) × MatchResult l (λ n. (n ≡ len) × (len ≤ room)) (λ _. room < len)) }
+{
+    (0 < len).then(|| fitting(len, room))
 }
 
 // More bytes of a line that has so many, put into its room as far as it goes. The answer is how many the line has then.

@@ -1,5 +1,5 @@
 -- Laws of decimal numbers in words. Assumes nothing.
-use Rattle.std.specs.Prelude.{◌≡◌, refl, List, [], ◌∷◌, Option, None, Some, Bool, true, false, cond, ◌&&◌, ℕ, suc, ◌+◌, ◌*◌, ◌^◌, ◌≤◌, ◌<◌, length, drop, get_or, leb}
+use Rattle.std.specs.Prelude.{◌≡◌, List, [], ◌∷◌, Option, None, Some, cond, ℕ, suc, ◌+◌, ◌*◌, ◌^◌, ◌≤◌, ◌<◌, length, drop, get_or}
 use Rattle.std.proofs.Common.{sym, ◌∙◌, le_refl, add-one, arith, drop-cons, drop_of_length-le, le-leb, ⊎_elim}
 use Rattle.std.proofs.Math.Bool.{and-false}
 use Rattle.std.proofs.lemmas.Bool.{lt-leb, cases_lt}
@@ -38,7 +38,8 @@ made_over b n w h =
 
 made_none : (b n : ℕ) (w : List ℕ) → (digit_of b < 10 × n * 10 + digit_of b < 2 ^ 64 → ⊥) → made n (b ∷ w) ≡ None
 made_none b n w h = ⊎_elim
-    (λ (l : digit_of b < 10). ⊎_elim (λ (k : n * 10 + digit_of b < 2 ^ 64). absurd (h (l, k))) (λ (k : 2 ^ 64 ≤ n * 10 + digit_of b). made_over b n w k) (cases_lt (n * 10 + digit_of b) (2 ^ 64)))
+    (λ (l : digit_of b < 10). ⊎_elim (λ (k : n * 10 + digit_of b < 2 ^ 64). absurd (h (l, k)))
+        (λ (k : 2 ^ 64 ≤ n * 10 + digit_of b). made_over b n w k) (cases_lt (n * 10 + digit_of b) (2 ^ 64)))
     (λ (l : 10 ≤ digit_of b). made_letter b n w l) (cases_lt (digit_of b) 10)
 
 -- ---- what is left from i on makes of n what all makes of 0
@@ -58,7 +59,8 @@ pub number_stop : (w : List ℕ) (i n : ℕ) (t : Option ℕ) → made n (drop i
 number_stop w i n t e h k = sym (made_none (get_or w i 0) n (drop (suc i) w) k) ∙ rw (drop-cons w i 0 h) at e
 
 pub number_turn : (w : List ℕ) (i n m : ℕ) (t : Option ℕ) → made n (drop i w) ≡ t → i < length w
-    → (digit_of (get_or w i 0) < 10 × n * 10 + digit_of (get_or w i 0) < 2 ^ 64) × (m ≡ n * 10 + digit_of (get_or w i 0)) → made m (drop (i + 1) w) ≡ t
+    → (digit_of (get_or w i 0) < 10 × n * 10 + digit_of (get_or w i 0) < 2 ^ 64) × (m ≡ n * 10 + digit_of (get_or w i 0))
+    → made m (drop (i + 1) w) ≡ t
 number_turn w i n m t e h (k, q) = rw (add-one, q) (sym (made_cons (get_or w i 0) n (drop (suc i) w) k.0) ∙ rw (drop-cons w i 0 h) at e)
 
 pub number_end : (w : List ℕ) (i n : ℕ) (t : Option ℕ) → made n (drop i w) ≡ t → length w ≤ i → n < 2 ^ 64 → Some n ≡ t

@@ -1,11 +1,10 @@
 -- Laws of answers: what a buffer gathers, text by text. Assumes nothing.
-use Rattle.std.specs.Prelude.{◌≡◌, refl, List, [], ◌∷◌, ◌++◌, Bool, true, false, eqb, ℕ, zero, suc, ◌+◌, ◌-◌, ◌/◌, ◌%◌, ◌^◌, ◌≤◌, ◌<◌, length, Option, None, Some, IsNone, IsSome, decimal}
+use Rattle.std.specs.Prelude.{◌≡◌, refl, List, [], ◌∷◌, ◌++◌, Bool, true, false, eqb, ℕ, zero, suc, ◌-◌, ◌/◌, ◌%◌, ◌^◌, ◌≤◌, ◌<◌, length, Option, None, Some, IsNone, IsSome, decimal}
 use Rattle.std.proofs.Common.{sym, ap, ◌∙◌, pow-suc, arith, append_assoc, append-nil, lt-ltb, le-ltb, eqb-true}
 use Rattle.std.proofs.Math.Nat.{one-le-pow}
 use Rattle.std.proofs.KnownBytes.{Appends-nil, Appends-trans}
 use Rattle.std.proofs.lemmas.Bool.{eqb-false}
 use Rattle.std.proofs.lemmas.Fmt.{decimal_digit, decimal_step}
-use Rattle.std.specs.Io.KnownBytes.{Appends}
 use Rattle.arrayvec.specs.ArrayVec.{ArrayVec}
 use Rattle.io.specs.Digits.{last_digits, IsDigitCount}
 use Rattle.script.specs.declared.out.TheConstants.{ROOM}
@@ -53,7 +52,8 @@ module _ {W : Type 0} {contents : W → Option (List ℕ)} where
 
   pub gathers_both : {o p q : Out W} {s t : List ℕ} → Gathers contents o p s → Gathers contents p q t → Gathers contents o q (s ++ t)
   gathers_both {o} {p} {q} {s} {t} g h =
-      let e : sents o.waiting.items s ++ sents p.waiting.items t ≡ sents o.waiting.items (s ++ t) = rw g.buffer (sym (sents_append s t o.waiting.items)) in
+      let e : sents o.waiting.items s ++ sents p.waiting.items t ≡ sents o.waiting.items (s ++ t) =
+          rw g.buffer (sym (sents_append s t o.waiting.items)) in
       record {
         buffer = h.buffer ∙ ap (λ (x : List ℕ). puts x t) g.buffer ∙ sym (puts_append s t o.waiting.items);
         written = rw e at (wrote_both o.failed p.failed q.failed (contents o.to) (contents p.to) (contents q.to) _ _ g.written h.written);

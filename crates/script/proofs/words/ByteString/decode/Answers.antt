@@ -1,7 +1,7 @@
-use Rattle.std.proofs.Common.{◌≡◌, ◌∙◌, sym, ap, ap₂, ◌<◌, ◌+◌, ◌*◌, ◌++◌, ◌∷◌, [], List, ℕ, length, get_or, arith}
+use Rattle.std.proofs.Common.{◌<◌, ◌+◌, ◌*◌, length, arith}
 use Rattle.std.proofs.lemmas.Grind.{common_steps}
 use Rattle.std.proofs.lemmas.List.{take_more, take_more_set}
-use Rattle.script.specs.Words.{bytes_of, byte_of}
+use Rattle.script.specs.Words.{bytes_of}
 use Rattle.script.specs.laws.ByteLaws.{length_pairs, pairs_at}
 use Rattle.script.proofs.words.ByteString.decode.Goals as goal
 
