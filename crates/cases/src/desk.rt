@@ -1,49 +1,65 @@
 // A tree of blocks of 512 bytes, and its calls.
+ghost use Rattle.std.specs.Prelude.{◌≡◌, ◌<◌, [], true};
+ghost use Rattle.node.specs.Fit.{Sized, fits};
+
+use flush::flush::Answer;
 use node::build::NodeBuild;
 use node::head::Head;
 use node::info::BTreeInfo;
 use node::order::Order;
-use node::{fit, pack};
-use seal::bytes;
+use node::pack;
 use tree::edited::{Edited, Removed};
 use tree::editor::Tree;
 use tree::lent::Lent;
-use tree::lookup;
 use tree::lookup::Opened;
+use tree::map::Address;
+use tree::{lookup, map};
 
-pub const SIZE: usize = 512;
-
-pub const NODE: u64 = 512;
+const SIZE: usize = 512;
 
 // 32 blocks.
-pub const IMAGE: usize = 16384;
+const IMAGE: usize = 32 * SIZE;
 
-pub const SLOTS: usize = 64;
+const SLOTS: usize = 64;
 
 // Words of the slots, bytes of the slots and of the scratch.
-pub const HEADS: usize = 1216;
+const HEADS: usize = SLOTS * 19;
 
-pub const WORK: usize = 262144;
+const BYTES: usize = 2 * SLOTS * (4 * SIZE);
 
-pub const SCRATCH: usize = 66560;
+const SCRATCH: usize = (2 * SLOTS + 2) * SIZE;
 
 // A root of a physical tree, and what it is a tree of: object maps.
 const ROOT_TYPE: u64 = 0x40000002;
 
 const OMAP: u64 = 11;
 
-// The open tree, and the last call's refusal.
-#[derive(Clone, Copy)]
-pub struct Desk {
-    pub refusal: u64,
-    pub tree: Tree,
-}
+const LENT: Lent = Lent {
+    size: SIZE,
+    slots: SLOTS,
+    mapped: false,
+    map: 0,
+};
+
+// Why a call is refused.
+pub type Refusal = u64;
 
 // The numbers of an empty tree: keys and values of these lengths, 0 for variable ones.
-pub fn info_of(each: u64) -> BTreeInfo {
+pub fn empty(each: u64) -> BTreeInfo
+    ensures { result ≡ record {
+      flags = 0;
+      node_size = 512;
+      key_size = each;
+      val_size = each;
+      longest_key = 0;
+      longest_val = 0;
+      key_count = 0;
+      node_count = 1;
+    } }
+{
     BTreeInfo {
         flags: 0,
-        node_size: NODE,
+        node_size: SIZE as u64,
         key_size: each,
         val_size: each,
         longest_key: 0,
@@ -53,242 +69,171 @@ pub fn info_of(each: u64) -> BTreeInfo {
     }
 }
 
-// No map is lent.
-pub fn lent() -> Lent {
-    Lent {
-        size: SIZE,
-        slots: SLOTS,
-        mapped: false,
-        map: 0,
-    }
+// The key or value of two numbers.
+fn pair(a: u64, b: u64) -> [u8; 16] {
+    let mut out = [0; 16];
+    Order::pair_key(&mut out, a, b);
+    out
 }
 
-// An empty root leaf at block 0.
-fn pack_empty(image: &mut [u8], info: BTreeInfo) {
-    if info.node_size != NODE {
-        return;
-    }
-    if 0xFFFFFFFF < info.key_size {
-        return;
-    }
-    if 0xFFFFFFFF < info.val_size {
-        return;
-    }
-    if image.len() < SIZE {
-        return;
-    }
-    let build = NodeBuild {
-        oid: 0,
-        xid: 0,
-        otype: ROOT_TYPE,
-        subtype: OMAP,
-        level: 0,
-        root: true,
-        info: info,
-    };
-    let none = [0u8; 8];
-    if !fit::fits(&none, 0, 0, info, true, 0) {
-        return;
-    }
-    let heads = [0u64; 9];
-    pack::pack(image, &none, 0, &heads, false, build);
+#[derive(Drop)]
+pub struct Desk {
+    image: [u8; IMAGE],
+    heads: [u64; HEADS],
+    bytes: [u8; BYTES],
+    scratch: [u8; SCRATCH],
 }
 
-// No tree, and why.
-fn refused(refusal: u64) -> Desk {
-    Desk {
-        refusal: refusal,
-        tree: Tree {
-            root: 0,
-            used: 0,
-            info: info_of(0),
-            by_id: false,
-            subtype: 0,
-            order: 0,
+impl Desk {
+    pub fn new() -> Desk {
+        Desk {
+            image: [0; IMAGE],
+            heads: [0; HEADS],
+            bytes: [0; BYTES],
+            scratch: [0; SCRATCH],
+        }
+    }
+
+    // A new tree: physical, empty, of variable lengths in byte order.
+    pub fn byte_tree(&mut self) -> Result<Tree, Refusal> {
+        self.begin(empty(0), Order::BYTE)
+    }
+
+    // The same of fixed lengths in pair order.
+    pub fn pair_tree(&mut self) -> Result<Tree, Refusal> {
+        self.begin(empty(16), Order::PAIR)
+    }
+
+    // An empty root leaf at block 0, opened.
+    fn begin(&mut self, info: BTreeInfo, order: u64) -> Result<Tree, Refusal>
+        requires size { info.node_size ≡ 512 }
+        requires tree { Sized info }
+        requires fit { fits info true 0 [] ≡ true }
+    {
+        let root = NodeBuild {
+            oid: 0,
             xid: 0,
-        },
-    }
-}
-
-// What open answered.
-fn opened(got: Opened) -> Desk {
-    match got {
-        Opened::Refused(x) => refused(x),
-        Opened::Open(t) => Desk {
-            refusal: 0,
-            tree: t,
-        },
-    }
-}
-
-// What an edit answered; a refused one leaves the tree.
-fn edited(mut d: Desk, got: Edited) -> Desk {
-    match got {
-        Edited::Refused(x) => {
-            d.refusal = x;
-            d
+            otype: ROOT_TYPE,
+            subtype: OMAP,
+            level: 0,
+            root: true,
+            info,
+        };
+        self.image = [0; IMAGE];
+        pack::pack(&mut self.image, &[0; 8], 0, &[0; 9], false, root);
+        let got = lookup::open(
+            &self.image,
+            &mut self.heads,
+            &mut self.bytes,
+            LENT,
+            0,
+            order,
+            1,
+        );
+        match got {
+            Opened::Open(tree) => Ok(tree),
+            Opened::Refused(x) => Err(x),
         }
-        Edited::Done(t) => Desk {
-            refusal: 0,
-            tree: t,
-        },
     }
-}
 
-// What remove answered.
-fn removed(mut d: Desk, got: Removed) -> Desk {
-    match got {
-        Removed::Refused(x) => {
-            d.refusal = x;
-            d
+    // An entry put.
+    pub fn upsert(&mut self, tree: Tree, key: &[u8], value: &[u8]) -> Result<Tree, Refusal> {
+        let got = tree.upsert(
+            &self.image,
+            &mut self.heads,
+            &mut self.bytes,
+            &mut self.scratch,
+            LENT,
+            key,
+            false,
+            value,
+        );
+        match got {
+            Edited::Done(tree) => Ok(tree),
+            Edited::Refused(x) => Err(x),
         }
-        Removed::Yes(t) => Desk {
-            refusal: 0,
-            tree: t,
-        },
-        Removed::No(t) => Desk {
-            refusal: 0,
-            tree: t,
-        },
     }
-}
 
-// A new tree: physical, empty, of fixed lengths or, where they are 0, variable ones.
-pub fn begin(image: &mut [u8], heads: &mut [u64], work: &mut [u8], each: u64, order: u64) -> Desk {
-    bytes::clear(image, 0, image.len());
-    pack_empty(image, info_of(each));
-    opened(lookup::open(image, heads, work, lent(), 0, order, 1))
-}
-
-// An entry put.
-pub fn upsert(
-    d: Desk,
-    image: &[u8],
-    heads: &mut [u64],
-    work: &mut [u8],
-    scratch: &mut [u8],
-    key: &[u8],
-    value: &[u8],
-) -> Desk {
-    let t = d.tree;
-    edited(
-        d,
-        t.upsert(image, heads, work, scratch, lent(), key, false, value),
-    )
-}
-
-// An id's mapping at a transaction put: the address is the transaction.
-pub fn put(
-    d: Desk,
-    image: &[u8],
-    heads: &mut [u64],
-    work: &mut [u8],
-    scratch: &mut [u8],
-    id: u64,
-    xid: u64,
-) -> Desk {
-    let mut key = [0u8; 16];
-    let mut value = [0u8; 16];
-    Order::pair_key(&mut key, id, xid);
-    Order::pair_key(&mut value, NODE * 0x100000000, xid);
-    upsert(d, image, heads, work, scratch, &key, &value)
-}
-
-// It taken out.
-fn take(
-    d: Desk,
-    image: &[u8],
-    heads: &mut [u64],
-    work: &mut [u8],
-    scratch: &mut [u8],
-    id: u64,
-) -> Desk {
-    let mut key = [0u8; 16];
-    Order::pair_key(&mut key, id, 1);
-    let t = d.tree;
-    removed(d, t.remove(image, heads, work, scratch, lent(), &key))
-}
-
-// An id put at two transactions.
-pub fn put_two(
-    d: Desk,
-    image: &[u8],
-    heads: &mut [u64],
-    work: &mut [u8],
-    scratch: &mut [u8],
-    id: u64,
-    a: u64,
-    b: u64,
-) -> Desk {
-    let e = put(d, image, heads, work, scratch, id, a);
-    put(e, image, heads, work, scratch, id, b)
-}
-
-// The ids below an end put at 1, the least first.
-pub fn put_all(
-    d: Desk,
-    image: &[u8],
-    heads: &mut [u64],
-    work: &mut [u8],
-    scratch: &mut [u8],
-    end: u64,
-) -> Desk {
-    let mut e = d;
-    let mut id: u64 = 0;
-    while id < end {
-        e = put(e, image, heads, work, scratch, id, 1);
-        id += 1;
+    // An id's mapping at a transaction put: the address is the transaction.
+    pub fn put(&mut self, tree: Tree, id: u64, xid: u64) -> Result<Tree, Refusal> {
+        self.upsert(tree, &pair(id, xid), &pair((SIZE as u64) << 32, xid))
     }
-    e
-}
 
-// The ids below an end taken out, the least last.
-pub fn take_all(
-    d: Desk,
-    image: &[u8],
-    heads: &mut [u64],
-    work: &mut [u8],
-    scratch: &mut [u8],
-    end: u64,
-) -> Desk {
-    let mut e = d;
-    let mut left = end;
-    while 0 < left {
-        left -= 1;
-        e = take(e, image, heads, work, scratch, left);
+    // An id's mapping at 1 taken out.
+    pub fn take(&mut self, tree: Tree, id: u64) -> Result<Tree, Refusal> {
+        let got = tree.remove(
+            &self.image,
+            &mut self.heads,
+            &mut self.bytes,
+            &mut self.scratch,
+            LENT,
+            &pair(id, 1),
+        );
+        match got {
+            Removed::Yes(tree) | Removed::No(tree) => Ok(tree),
+            Removed::Refused(x) => Err(x),
+        }
     }
-    e
-}
 
-// How many nodes the tree has.
-pub fn nodes(d: Desk) -> u64 {
-    let t = d.tree;
-    let info = t.info;
-    info.node_count
-}
+    // The root's block after a flush with the bitmap bytes 0xFF 0xFE of a chunk of 16 blocks.
+    pub fn flush(&mut self, tree: Tree, xid: u64) -> Result<u64, Refusal> {
+        let mut bitmap = [0; SIZE];
+        bitmap[0] = 0xFF;
+        bitmap[1] = 0xFE;
+        let got = flush::flush::flush(
+            tree,
+            &mut self.image,
+            &mut bitmap,
+            &[16],
+            &mut [1],
+            &mut self.heads,
+            &self.bytes,
+            &mut [0; SLOTS],
+            &mut [0; SLOTS],
+            &mut [0; SLOTS],
+            &mut [0; SLOTS],
+            LENT,
+            xid,
+            0,
+        );
+        match got {
+            Answer::Done(flushed) => Ok(flushed.root),
+            Answer::Refused(x) => Err(x),
+        }
+    }
 
-// The level of its root.
-pub fn level(d: Desk, heads: &[u64]) -> u64 {
-    let t = d.tree;
-    let n = t.root;
-    if heads.len() < HEADS {
-        return 0;
+    // Where an id is in a map, seen from a transaction.
+    pub fn address_of(&self, root: u64, xid: u64, id: u64) -> Result<u64, Refusal> {
+        let lent = Lent {
+            mapped: true,
+            map: root,
+            ..LENT
+        };
+        match map::address_of(&self.image, lent, xid, id) {
+            Address::At(a) => Ok(a),
+            Address::Refused(x) => Err(x),
+        }
     }
-    if SLOTS <= n {
-        return 0;
-    }
-    let h = Head::load(heads, n);
-    h.level
-}
 
-// How many entries a slot holds.
-pub fn count(heads: &[u64], n: usize) -> u64 {
-    if heads.len() < HEADS {
-        return 0;
+    // The level of a tree's root.
+    pub fn level(&self, tree: Tree) -> u64 {
+        if tree.root < SLOTS {
+            self.head(tree.root).level
+        } else {
+            0
+        }
     }
-    if SLOTS <= n {
-        return 0;
+
+    // How many entries a slot holds.
+    pub fn count(&self, slot: usize) -> u64
+        requires { slot < 64 }
+    {
+        self.head(slot).count
     }
-    let h = Head::load(heads, n);
-    h.count
+
+    fn head(&self, slot: usize) -> Head
+        requires { slot < 64 }
+    {
+        Head::load(&self.heads, slot)
+    }
 }

@@ -3,106 +3,59 @@
 
 mod desk;
 mod rows;
-mod says;
 
-use rows::Row;
-use script::out;
+use desk::{Desk, Refusal};
 use script::out::Out;
 use std::io;
 
-// How much output waits, and how many rows are as demanded.
-#[derive(Clone, Copy)]
-struct Tally {
-    at: usize,
-    good: u64,
+// A row's line, and whether its numbers are as demanded.
+fn row<const N: usize>(
+    out: &mut Out,
+    name: &[u8],
+    got: Result<[u64; N], Refusal>,
+    demanded: [u64; N],
+) -> bool {
+    out.text(name);
+    if let Ok(numbers) = &got {
+        for x in numbers {
+            out.number(*x);
+        }
+    }
+    let good = got == Ok(demanded);
+    if good {
+        out.text(b" as demanded\n");
+    } else {
+        out.text(b" NOT as demanded\n");
+    }
+    good
 }
 
-// A row's name.
-fn name(o: &mut Out, at: usize, k: u64) -> usize {
-    let n = out::byte(o, at, b'P');
-    if k < 10 {
-        return out::byte(o, n, 48 + k as u8);
-    }
-    let m = out::byte(o, n, b'1');
-    out::byte(o, m, 48 + (k % 10) as u8)
-}
-
-// A row's numbers.
-fn numbers(o: &mut Out, at: usize, x: Row) -> usize {
-    let a = out::number(o, at, x.a);
-    if x.n == 1 {
-        return a;
-    }
-    let b = out::number(o, a, x.b);
-    if x.n == 2 {
-        return b;
-    }
-    let c = out::number(o, b, x.c);
-    out::number(o, c, x.d)
-}
-
-// A row's line.
-fn line(t: Tally, o: &mut Out, k: u64, x: Row) -> Tally {
-    let a = name(o, t.at, k);
-    let b = numbers(o, a, x);
-    if says::same(x, says::says(k)) {
-        return Tally {
-            at: out::text(o, b, b" as demanded\n"),
-            good: script::number::sum(t.good, 1),
-        };
-    }
-    Tally {
-        at: out::text(o, b, b" NOT as demanded\n"),
-        good: t.good,
-    }
-}
-
-// The last line.
-fn count(t: Tally, o: &mut Out) {
-    let a = out::text(o, t.at, b"as demanded:");
-    let b = out::number(o, a, t.good);
-    let c = out::text(o, b, b" of 12\n");
-    out::flush(o, c);
-}
-
-// A row computed, and its line.
-fn step(
-    t: Tally,
-    k: u64,
-    image: &mut [u8],
-    heads: &mut [u64],
-    work: &mut [u8],
-    scratch: &mut [u8],
-    o: &mut Out,
-) -> Tally {
-    let x = rows::gives(k, image, heads, work, scratch);
-    line(t, o, k, x)
-}
-
-// Every row.
-fn all(
-    image: &mut [u8],
-    heads: &mut [u64],
-    work: &mut [u8],
-    scratch: &mut [u8],
-    o: &mut Out,
-) -> Tally {
-    let mut t = Tally { at: 0, good: 0 };
-    let mut k: u64 = 1;
-    while k < 13 {
-        t = step(t, k, image, heads, work, scratch, o);
-        k += 1;
-    }
-    t
+// Every row, and what the document demands of it; how many are as demanded.
+fn all(desk: &mut Desk, out: &mut Out) -> usize {
+    let good = [
+        row(out, b"P1", Ok([rows::sum(0)]), [0xFFFFFFFFFFFFFFFF]),
+        row(out, b"P2", Ok([rows::sum(1)]), [0x00000006FFFFFFF8]),
+        row(out, b"P3", Ok(rows::leaf()), [1, 0, 1, 0]),
+        row(out, b"P4", Ok(rows::index()), [1, 0, 1, 0]),
+        row(out, b"P5", rows::single(desk), [0, 13]),
+        row(out, b"P6", Ok(rows::contents()), [1, 0, 1, 0]),
+        row(out, b"P7", rows::twelfth(desk), [1, 3, 6, 6]),
+        row(out, b"P8", rows::stays(desk), [2, 1, 1, 0]),
+        row(out, b"P9", rows::between(desk), [0, 14]),
+        row(out, b"P10", rows::long_keys(desk), [0, 15]),
+        row(out, b"P11", rows::chosen(desk), [8]),
+        row(out, b"P12", rows::seen(desk), [0, 3]),
+    ];
+    good.iter().filter(|good| **good).count()
 }
 
 fn main(rt: HostRuntime) -> io::Result<()> {
-    let mut image = [0u8; desk::IMAGE];
-    let mut heads = [0u64; desk::HEADS];
-    let mut work = [0u8; desk::WORK];
-    let mut scratch = [0u8; desk::SCRATCH];
-    let mut o = Out::new(rt.stdout());
-    let t = all(&mut image, &mut heads, &mut work, &mut scratch, &mut o);
-    count(t, &mut o);
-    o.done()
+    let mut desk = Desk::new();
+    let mut out = Out::new(rt.stdout());
+    let good = all(&mut desk, &mut out);
+    out.text(b"as demanded:");
+    out.number(good as u64);
+    out.text(b" of 12\n");
+    out.flush();
+    out.done()
 }

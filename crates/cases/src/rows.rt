@@ -1,360 +1,146 @@
-// What the rows give: up to four numbers each.
+// What the rows give: up to four numbers each, or why a tree that they need was refused.
+ghost use Rattle.std.specs.Prelude.{◌≤◌};
+
 use crate::desk;
-use crate::desk::Desk;
-use flush::flush::Answer;
+use crate::desk::{Desk, Refusal};
 use node::fit;
-use node::info::BTreeInfo;
-use node::order::Order;
 use seal::checksum;
-use tree::lent::Lent;
-use tree::map;
-use tree::map::Address;
-
-#[derive(Clone, Copy)]
-pub struct Row {
-    pub n: u64,
-    pub a: u64,
-    pub b: u64,
-    pub c: u64,
-    pub d: u64,
-}
-
-pub fn one(a: u64) -> Row {
-    Row {
-        n: 1,
-        a: a,
-        b: 0,
-        c: 0,
-        d: 0,
-    }
-}
-
-pub fn two(a: u64, b: u64) -> Row {
-    Row {
-        n: 2,
-        a: a,
-        b: b,
-        c: 0,
-        d: 0,
-    }
-}
-
-pub fn four(a: u64, b: u64, c: u64, d: u64) -> Row {
-    Row {
-        n: 4,
-        a: a,
-        b: b,
-        c: c,
-        d: d,
-    }
-}
+use tree::editor::Tree;
 
 // P1, P2: the sum that a seal stores over 24 bytes, zeros but for the first of them.
-fn sum(first: u8) -> Row {
-    let mut b = [0u8; 32];
-    b[8] = first;
-    one(checksum::compute(&b))
+pub fn sum(first: u8) -> u64 {
+    let mut object = [0u8; 32];
+    object[8] = first;
+    checksum::compute(&object)
 }
 
 // Whether n entries that take so many bytes fit: 1 or 0.
-fn fits(each: u64, root: bool, level: u64, n: u64, room: u64) -> u64 {
-    if 16 < each {
-        return 0;
-    }
-    if 1024 < n {
-        return 0;
-    }
-    if 65536 < room {
-        return 0;
-    }
-    let info = BTreeInfo {
-        flags: 0,
-        node_size: desk::NODE,
-        key_size: each,
-        val_size: each,
-        longest_key: 0,
-        longest_val: 0,
-        key_count: 0,
-        node_count: 1,
-    };
-    if fit::fits_sums(info, root, level, n, room) {
-        return 1;
-    }
-    0
+fn fits(each: u64, root: bool, level: u64, n: u64, room: u64) -> u64
+    requires each { each ≤ 16 }
+    requires entries { n ≤ 1024 }
+    requires room { room ≤ 65536 }
+{
+    u64::from(fit::fits_sums(desk::empty(each), root, level, n, room))
 }
 
 // P3: 11 and 12 entries of 32 bytes in a root leaf, 12 and 13 in another.
-fn leaf() -> Row {
-    let a = fits(16, true, 0, 11, 352);
-    let b = fits(16, true, 0, 12, 384);
-    let c = fits(16, false, 0, 12, 384);
-    let d = fits(16, false, 0, 13, 416);
-    four(a, b, c, d)
+pub fn leaf() -> [u64; 4] {
+    [
+        fits(16, true, 0, 11, 352),
+        fits(16, true, 0, 12, 384),
+        fits(16, false, 0, 12, 384),
+        fits(16, false, 0, 13, 416),
+    ]
 }
 
 // P4: 14 and 15 entries of 24 bytes in an index root, 16 and 17 in another index.
-fn index() -> Row {
-    let a = fits(16, true, 1, 14, 336);
-    let b = fits(16, true, 1, 15, 360);
-    let c = fits(16, false, 1, 16, 384);
-    let d = fits(16, false, 1, 17, 408);
-    four(a, b, c, d)
+pub fn index() -> [u64; 4] {
+    [
+        fits(16, true, 1, 14, 336),
+        fits(16, true, 1, 15, 360),
+        fits(16, false, 1, 16, 384),
+        fits(16, false, 1, 17, 408),
+    ]
 }
 
 // P6: in a root's 416 bytes contents of 128 leave 288 and not 289, contents of 192 leave 224 and not 225.
-fn contents() -> Row {
-    let a = fits(0, true, 0, 16, 288);
-    let b = fits(0, true, 0, 16, 289);
-    let c = fits(0, true, 0, 17, 224);
-    let d = fits(0, true, 0, 17, 225);
-    four(a, b, c, d)
+pub fn contents() -> [u64; 4] {
+    [
+        fits(0, true, 0, 16, 288),
+        fits(0, true, 0, 16, 289),
+        fits(0, true, 0, 17, 224),
+        fits(0, true, 0, 17, 225),
+    ]
 }
 
-// The rows that need no tree.
-fn plain(k: u64) -> Row {
-    if k == 1 {
-        return sum(0);
+// The refusal's number, 0 where there is none.
+fn number(edited: Result<Tree, Refusal>) -> u64 {
+    match edited {
+        Ok(_) => 0,
+        Err(refusal) => refusal,
     }
-    if k == 2 {
-        return sum(1);
+}
+
+// P5: a value of 280 and one of 281, with a key of 8 that is the tree's only one.
+pub fn single(desk: &mut Desk) -> Result<[u64; 2], Refusal> {
+    let key = [97; 8];
+    let tree = desk.byte_tree()?;
+    let fits = desk.upsert(tree, &key, &[118; 280]);
+    let tree = desk.byte_tree()?;
+    let over = desk.upsert(tree, &key, &[118; 281]);
+    Ok([number(fits), number(over)])
+}
+
+// A tree of pairs with the ids below an end, put at 1, the least first.
+fn filled(desk: &mut Desk, end: u64) -> Result<Tree, Refusal> {
+    let mut tree = desk.pair_tree()?;
+    for id in 0..end {
+        tree = desk.put(tree, id, 1)?;
     }
-    if k == 3 {
-        return leaf();
+    Ok(tree)
+}
+
+// P7: the twelfth entry: nodes before and after, entries of both parts.
+pub fn twelfth(desk: &mut Desk) -> Result<[u64; 4], Refusal> {
+    let whole = filled(desk, 11)?;
+    let cut = desk.put(whole, 11, 1)?;
+    Ok([
+        whole.info.node_count,
+        cut.info.node_count,
+        desk.count(0),
+        desk.count(1),
+    ])
+}
+
+// Leaves of 6 and more entries, of which the first is emptied, its first entry last: nodes and the root's level.
+fn emptied(desk: &mut Desk, end: u64) -> Result<[u64; 2], Refusal> {
+    let mut tree = filled(desk, end)?;
+    for id in (0..6).rev() {
+        tree = desk.take(tree, id)?;
     }
-    if k == 4 {
-        return index();
-    }
-    contents()
-}
-
-// A tree of variable lengths with a first entry put.
-fn begun(
-    image: &mut [u8],
-    heads: &mut [u64],
-    work: &mut [u8],
-    scratch: &mut [u8],
-    key: &[u8],
-    value: &[u8],
-) -> Desk {
-    let d = desk::begin(image, heads, work, 0, Order::BYTE);
-    desk::upsert(d, image, heads, work, scratch, key, value)
-}
-
-// The refusal of a value with a key of 8, the tree's only one.
-fn refusal(
-    image: &mut [u8],
-    heads: &mut [u64],
-    work: &mut [u8],
-    scratch: &mut [u8],
-    value: &[u8],
-) -> u64 {
-    let key = [97u8; 8];
-    let d = begun(image, heads, work, scratch, &key, value);
-    d.refusal
-}
-
-// P5: a value of 280 and one of 281.
-fn single(image: &mut [u8], heads: &mut [u64], work: &mut [u8], scratch: &mut [u8]) -> Row {
-    let value = [118u8; 280];
-    let more = [118u8; 281];
-    let a = refusal(image, heads, work, scratch, &value);
-    let b = refusal(image, heads, work, scratch, &more);
-    two(a, b)
-}
-
-// A tree of fixed lengths with ids below an end.
-fn filled(
-    image: &mut [u8],
-    heads: &mut [u64],
-    work: &mut [u8],
-    scratch: &mut [u8],
-    end: u64,
-) -> Desk {
-    let d = desk::begin(image, heads, work, 16, Order::PAIR);
-    desk::put_all(d, image, heads, work, scratch, end)
-}
-
-// One more id put: nodes before and after, entries of both parts.
-fn cut(
-    d: Desk,
-    image: &[u8],
-    heads: &mut [u64],
-    work: &mut [u8],
-    scratch: &mut [u8],
-    id: u64,
-) -> Row {
-    let e = desk::put(d, image, heads, work, scratch, id, 1);
-    let left = desk::count(heads, 0);
-    let right = desk::count(heads, 1);
-    four(desk::nodes(d), desk::nodes(e), left, right)
-}
-
-// P7: the twelfth entry.
-fn twelfth(image: &mut [u8], heads: &mut [u64], work: &mut [u8], scratch: &mut [u8]) -> Row {
-    let d = filled(image, heads, work, scratch, 11);
-    cut(d, image, heads, work, scratch, 11)
-}
-
-// Leaves of 6 and more entries, of which the first is emptied, its first entry last.
-fn emptied(
-    image: &mut [u8],
-    heads: &mut [u64],
-    work: &mut [u8],
-    scratch: &mut [u8],
-    end: u64,
-) -> Desk {
-    let d = filled(image, heads, work, scratch, end);
-    desk::take_all(d, image, heads, work, scratch, 6)
-}
-
-// Its nodes and its root's level.
-fn shape(
-    image: &mut [u8],
-    heads: &mut [u64],
-    work: &mut [u8],
-    scratch: &mut [u8],
-    end: u64,
-) -> Row {
-    let d = emptied(image, heads, work, scratch, end);
-    two(desk::nodes(d), desk::level(d, heads))
+    Ok([tree.info.node_count, desk.level(tree)])
 }
 
 // P8: with 12 entries in the second leaf, and with 11.
-fn stays(image: &mut [u8], heads: &mut [u64], work: &mut [u8], scratch: &mut [u8]) -> Row {
-    let x = shape(image, heads, work, scratch, 18);
-    let y = shape(image, heads, work, scratch, 17);
-    four(x.a, x.b, y.a, y.b)
-}
-
-// A last entry put, and one between: its refusals.
-fn last_between(
-    d: Desk,
-    image: &[u8],
-    heads: &mut [u64],
-    work: &mut [u8],
-    scratch: &mut [u8],
-    small: &[u8],
-) -> Row {
-    let large = [118u8; 312];
-    let middle = [98u8; 8];
-    let last = [99u8; 8];
-    let a = desk::upsert(d, image, heads, work, scratch, &last, small);
-    let b = desk::upsert(a, image, heads, work, scratch, &middle, &large);
-    two(a.refusal, b.refusal)
+pub fn stays(desk: &mut Desk) -> Result<[u64; 4], Refusal> {
+    let [nodes, level] = emptied(desk, 18)?;
+    let [fewer_nodes, fewer_level] = emptied(desk, 17)?;
+    Ok([nodes, level, fewer_nodes, fewer_level])
 }
 
 // P9: values of 128 and 128, and one of 312 between.
-fn between(image: &mut [u8], heads: &mut [u64], work: &mut [u8], scratch: &mut [u8]) -> Row {
-    let small = [118u8; 128];
-    let first = [97u8; 8];
-    let d = begun(image, heads, work, scratch, &first, &small);
-    last_between(d, image, heads, work, scratch, &small)
+pub fn between(desk: &mut Desk) -> Result<[u64; 2], Refusal> {
+    let small = [118; 128];
+    let tree = desk.byte_tree()?;
+    let tree = desk.upsert(tree, &[97; 8], &small)?;
+    let last = desk.upsert(tree, &[99; 8], &small);
+    let between = desk.upsert(last.unwrap_or(tree), &[98; 8], &[118; 312]);
+    Ok([number(last), number(between)])
 }
 
 // P10: two keys of 200.
-fn long_keys(image: &mut [u8], heads: &mut [u64], work: &mut [u8], scratch: &mut [u8]) -> Row {
-    let none = [0u8; 0];
-    let first = [97u8; 200];
-    let second = [98u8; 200];
-    let a = begun(image, heads, work, scratch, &first, &none);
-    let b = desk::upsert(a, image, heads, work, scratch, &second, &none);
-    two(a.refusal, b.refusal)
+pub fn long_keys(desk: &mut Desk) -> Result<[u64; 2], Refusal> {
+    let tree = desk.byte_tree()?;
+    let first = desk.upsert(tree, &[97; 200], &[]);
+    let second = desk.upsert(first.unwrap_or(tree), &[98; 200], &[]);
+    Ok([number(first), number(second)])
 }
 
-// Id 5 put at 3 and at 9.
-fn versions(image: &mut [u8], heads: &mut [u64], work: &mut [u8], scratch: &mut [u8]) -> Desk {
-    let d = desk::begin(image, heads, work, 16, Order::PAIR);
-    desk::put_two(d, image, heads, work, scratch, 5, 3, 9)
+// Id 5 put at 3 and at 9, and flushed at 2: the root's block.
+fn flushed(desk: &mut Desk) -> Result<u64, Refusal> {
+    let tree = desk.pair_tree()?;
+    let tree = desk.put(tree, 5, 3)?;
+    let tree = desk.put(tree, 5, 9)?;
+    desk.flush(tree, 2)
 }
 
-// The root's block after a flush with the bitmap bytes 0xFF 0xFE of a chunk of 16 blocks; 0 where it is refused.
-fn flushed(d: Desk, image: &mut [u8], heads: &mut [u64], work: &[u8]) -> u64 {
-    let mut bitmap = [0u8; desk::SIZE];
-    bitmap[0] = 0xFF;
-    bitmap[1] = 0xFE;
-    let counts = [16u32; 1];
-    let mut free = [1u32; 1];
-    let mut freed = [0u64; desk::SLOTS];
-    let mut removed = [0u64; desk::SLOTS];
-    let mut ids = [0u64; desk::SLOTS];
-    let mut places = [0u64; desk::SLOTS];
-    let got = flush::flush::flush(
-        d.tree,
-        image,
-        &mut bitmap,
-        &counts,
-        &mut free,
-        heads,
-        work,
-        &mut freed,
-        &mut removed,
-        &mut ids,
-        &mut places,
-        desk::lent(),
-        2,
-        0,
-    );
-    match got {
-        Answer::Refused(_) => 0,
-        Answer::Done(f) => f.root,
-    }
+// P11: the block that the flush chose.
+pub fn chosen(desk: &mut Desk) -> Result<[u64; 1], Refusal> {
+    Ok([flushed(desk)?])
 }
 
-// Where an id is, seen from a transaction: refusal and address.
-fn seen(image: &[u8], map: u64, xid: u64, id: u64) -> Row {
-    let lent = Lent {
-        size: desk::SIZE,
-        slots: desk::SLOTS,
-        mapped: true,
-        map: map,
-    };
-    match map::address_of(image, lent, xid, id) {
-        Address::Refused(x) => two(x, 0),
-        Address::At(a) => two(0, a),
-    }
-}
-
-// P11: the block that the flush chose. P12: the map that it wrote, seen from 8.
-fn written(
-    image: &mut [u8],
-    heads: &mut [u64],
-    work: &mut [u8],
-    scratch: &mut [u8],
-    k: u64,
-) -> Row {
-    let d = versions(image, heads, work, scratch);
-    let root = flushed(d, image, heads, work);
-    if k == 11 {
-        return one(root);
-    }
-    seen(image, root, 8, 5)
-}
-
-// What row k gives.
-pub fn gives(
-    k: u64,
-    image: &mut [u8],
-    heads: &mut [u64],
-    work: &mut [u8],
-    scratch: &mut [u8],
-) -> Row {
-    if k == 5 {
-        return single(image, heads, work, scratch);
-    }
-    if k == 7 {
-        return twelfth(image, heads, work, scratch);
-    }
-    if k == 8 {
-        return stays(image, heads, work, scratch);
-    }
-    if k == 9 {
-        return between(image, heads, work, scratch);
-    }
-    if k == 10 {
-        return long_keys(image, heads, work, scratch);
-    }
-    if k < 11 {
-        return plain(k);
-    }
-    written(image, heads, work, scratch, k)
+// P12: the map that the flush wrote, seen from 8: no refusal, and where id 5 is.
+pub fn seen(desk: &mut Desk) -> Result<[u64; 2], Refusal> {
+    let map = flushed(desk)?;
+    Ok([0, desk.address_of(map, 8, 5)?])
 }

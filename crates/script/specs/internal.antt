@@ -1,2 +1,3 @@
--- What only proofs' invariants say.
+-- What contracts between the functions of `input` and their invariants say.
+pub mod Written
 pub mod Coming

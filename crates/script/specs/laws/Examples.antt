@@ -1,9 +1,11 @@
 -- What the definitions come to, on the line (put 12 x0aff) and a few other texts: each is computed. Assumes nothing.
-use Rattle.std.specs.Prelude.{◌≡◌, refl, List, [], ◌∷◌, ◌++◌, true, false, ℕ}
-use Rattle.script.specs.Words.{bracketed, inner_of, spaces, word_count, after, up_to_space, word_of, digit_of, all_digits, spelled, numeral}
-use Rattle.script.specs.Words.{is_number, number_of, nibble_of, all_nibbles, is_bytes, pairs, decoded}
-use Rattle.script.specs.Out.{held, put, puts, decimal, number_text, hex_digit, hex_text, bytes_text}
-use Rattle.script.specs.Input.{empty_line, took, gather}
+use Rattle.std.specs.Prelude.{◌≡◌, refl, List, [], ◌∷◌, ◌++◌, true, None, Some, ℕ}
+use Rattle.std.proofs.Common.{◌≤◌, length, le-ltb}
+use Rattle.script.specs.declared.out.TheConstants.{ROOM}
+use Rattle.script.specs.Words.{bracketed, inner_of, words_of, word_count, word_of, digit_of, all_digits, spelled, numeral, is_number, number_read}
+use Rattle.script.specs.Words.{is_bytes, pairs, decoded}
+use Rattle.script.specs.Out.{put, puts, sent, hex_digit, hex_text, bytes_text}
+use Rattle.script.specs.Input.{empty_line, took, filled, after_line}
 
 -- put 12 x0aff
 abbrev call : List ℕ
@@ -18,63 +20,60 @@ unfolding inner_of bracketed
 inner_call = refl
 
 pub count_call : word_count call ≡ 3
-unfolding spaces
+unfolding words_of
 count_call = refl
 
 pub word_second : word_of call 1 ≡ 49 ∷ 50 ∷ []
-unfolding word_of after up_to_space
+unfolding word_of words_of
 word_second = refl
 
 pub word_fourth : word_of call 3 ≡ []
-unfolding word_of after up_to_space
+unfolding word_of words_of
 word_fourth = refl
 
-pub number_second : number_of (word_of call 1) ≡ 12
-unfolding number_of spelled digit_of word_of after up_to_space
+pub number_second : number_read (word_of call 1) ≡ Some 12
+unfolding is_number numeral all_digits spelled digit_of word_of words_of
 number_second = refl
 
-pub number_is : is_number (word_of call 1) ≡ true
-unfolding is_number numeral all_digits spelled digit_of word_of after up_to_space
-number_is = refl
-
-pub number_over : is_number over ≡ false
+pub number_over : number_read over ≡ None
 unfolding is_number numeral all_digits spelled digit_of
 number_over = refl
 
-pub number_none : is_number [] ≡ false
+pub number_none : number_read [] ≡ None
 unfolding is_number
 number_none = refl
 
 pub bytes_third : is_bytes (word_of call 2) ≡ true
-unfolding is_bytes all_nibbles nibble_of word_of after up_to_space
+unfolding is_bytes word_of words_of
 bytes_third = refl
 
 pub decoded_third : decoded (word_of call 2) ≡ 10 ∷ 255 ∷ []
-unfolding decoded pairs nibble_of word_of after up_to_space
+unfolding decoded pairs word_of words_of
 decoded_third = refl
 
--- two bytes in a buffer of four where three stand: the second is the first again
-pub puts_full : puts (held (0 ∷ 0 ∷ 0 ∷ 0 ∷ []) 3) (1 ∷ 2 ∷ []) ≡ held (2 ∷ 0 ∷ 0 ∷ 1 ∷ []) 1
+-- two bytes in a buffer where one waits
+pub puts_room : puts (9 ∷ []) (1 ∷ 2 ∷ []) ≡ 9 ∷ 1 ∷ 2 ∷ []
 unfolding puts put
-puts_full = refl
+puts_room = refl
 
-pub text_1203 : number_text 1203 ≡ 32 ∷ 49 ∷ 50 ∷ 48 ∷ 51 ∷ []
-unfolding number_text decimal
-text_1203 = refl
+-- a byte in a buffer that is full: it waits alone, and what waited is written
+pub put_full : (h : List ℕ) → ROOM ≤ length h → put h 1 ≡ 1 ∷ []
+unfolding put
+put_full h f = rw (le-ltb (length h) ROOM f)
 
-pub text_zero : number_text 0 ≡ 32 ∷ 48 ∷ []
-unfolding number_text decimal
-text_zero = refl
+pub sent_full : (h : List ℕ) → ROOM ≤ length h → sent h 1 ≡ h
+unfolding sent
+sent_full h f = rw (le-ltb (length h) ROOM f)
 
 pub text_bytes : bytes_text (10 ∷ 255 ∷ []) ≡ 32 ∷ 120 ∷ 48 ∷ 97 ∷ 102 ∷ 102 ∷ []
 unfolding hex_text hex_digit
 text_bytes = refl
 
--- a line of three bytes and a line feed, in a room of two: it is longer than its room, and the place is behind the line feed
-pub gather_long : gather (empty_line (0 ∷ 0 ∷ [])) 5 (97 ∷ 98 ∷ 99 ∷ 10 ∷ 100 ∷ []) ≡ record {
-  line = record { room = 97 ∷ 98 ∷ []; len = 2; long = true };
-  place = 9;
-  whole = true;
-}
-unfolding gather took
-gather_long = refl
+-- a line of three bytes and a line feed, in a room of two: it is longer than its room, and the rest is behind the line feed
+pub filled_long : filled (empty_line (0 ∷ 0 ∷ [])) (97 ∷ 98 ∷ 99 ∷ 10 ∷ 100 ∷ []) ≡ record { room = 97 ∷ 98 ∷ []; len = 2; long = true }
+unfolding filled took
+filled_long = refl
+
+pub after_long : after_line (97 ∷ 98 ∷ 99 ∷ 10 ∷ 100 ∷ []) ≡ 100 ∷ []
+unfolding after_line
+after_long = refl

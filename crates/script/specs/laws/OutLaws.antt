@@ -1,151 +1,141 @@
--- Laws of answers: what each function of `out` leaves in the buffer. Assumes nothing.
-use Rattle.std.specs.Prelude.{◌≡◌, refl, List, [], ◌∷◌, ◌++◌, ℕ, zero, suc, ◌+◌, ◌-◌, ◌/◌, ◌%◌, ◌^◌, ◌≤◌, ◌<◌, min, length, take, drop, get_or, set}
-use Rattle.std.proofs.Common.{sym, ap, ◌∙◌, pow-suc, arith, Fits, drop_of_length-le, lt-ltb, le-ltb}
-use Rattle.std.proofs.Math.Nat.{one-le-pow, pow-le-pow_right}
-use Rattle.std.specs.Int.{w64}
+-- Laws of answers: what a buffer gathers, text by text. Assumes nothing.
+use Rattle.std.specs.Prelude.{◌≡◌, refl, List, [], ◌∷◌, ◌++◌, Bool, true, false, eqb, ℕ, zero, suc, ◌-◌, ◌/◌, ◌%◌, ◌^◌, ◌≤◌, ◌<◌, length, Option, None, Some, IsNone, IsSome, decimal}
+use Rattle.std.proofs.Common.{sym, ap, ◌∙◌, pow-suc, arith, append_assoc, append-nil, lt-ltb, le-ltb, eqb-true}
+use Rattle.std.proofs.Math.Nat.{one-le-pow}
+use Rattle.std.proofs.KnownBytes.{Appends-nil, Appends-trans}
+use Rattle.std.proofs.lemmas.Bool.{eqb-false}
+use Rattle.std.proofs.lemmas.Fmt.{decimal_digit, decimal_step}
+use Rattle.arrayvec.specs.ArrayVec.{ArrayVec}
 use Rattle.io.specs.Digits.{last_digits, IsDigitCount}
-use Rattle.script.specs.Out.{Held, held, put, puts, decimal, number_text, hex_digit, hex_text, bytes_text}
-use Rattle.script.specs.Out.{open_text, close_text, one_text, two_open_text, two_text}
-use Rattle.script.specs.laws.WordLaws.{left_cons}
+use Rattle.script.specs.declared.out.TheConstants.{ROOM}
+use Rattle.script.specs.declared.out.Out.{Out}
+use Rattle.script.specs.Out.{put, puts, sent, sents, Wrote, Gathers, hex_digit, hex_text}
 
--- ---- one byte
+-- ---- what is written
 
-pub put_room : (o : List ℕ) (at b : ℕ) → at < length o → held (set o at b) (at + 1) ≡ put (held o at) b
-unfolding put
-put_room o at b h = rw (lt-ltb at (length o) h)
+-- nothing written
+pub wrote_none : {E : Type 0} (f : Option E) (a : Option (List ℕ)) → Wrote f f a a []
+wrote_none f a = record { kept = λ s. refl; grown = λ n. Appends-nil a }
 
-pub put_none : (o : List ℕ) (at b : ℕ) → length o ≤ at → length o ≡ 0 → held o 0 ≡ put (held o at) b
-unfolding put
-put_none [] at b h e = rw (le-ltb at 0 h)
-put_none (x ∷ o) at b h e = absurd (omega arith)
+none_before : {E : Type 0} (g h : Option E) → (IsSome g → h ≡ g) → IsNone h → IsNone g
+none_before None h k n = refl
+none_before (Some e) h k n = rw (k refl) at n
 
-pub put_first : (o : List ℕ) (at b : ℕ) → length o ≤ at → (length o ≡ 0 → ⊥) → held (set o 0 b) 1 ≡ put (held o at) b
-unfolding put
-put_first o at b h n =
-    let e : min 1 (length o) ≡ 1 = omega arith in
-    rw (le-ltb at (length o) h, e)
+some_after : {E : Type 0} (f g : Option E) → g ≡ f → IsSome f → IsSome g
+some_after f g e s = rw e s
 
--- ---- a text
+-- one after another
+wrote_both : {E : Type 0} (f g h : Option E) (a b c : Option (List ℕ)) (xs ys : List ℕ) → Wrote f g a b xs → Wrote g h b c ys
+    → Wrote f h a c (xs ++ ys)
+wrote_both f g h a b c xs ys p q = record {
+  kept = λ (s : IsSome f). q.kept (some_after f g (p.kept s) s) ∙ p.kept s;
+  grown = λ (n : IsNone h). Appends-trans a b c xs ys (p.grown (none_before g h q.kept n)) (q.grown n);
+}
 
-pub puts_turn : (o p s : List ℕ) (n m i : ℕ) (t : Held) → puts (held o n) (drop i s) ≡ t → i < length s → held p m ≡ put (held o n) (get_or s i 0)
-    → puts (held p m) (drop (i + 1) s) ≡ t
-unfolding puts
-puts_turn o p s n m i t e h q =
-    let f : puts (put (held o n) (get_or s i 0)) (drop (i + 1) s) ≡ t = rw (left_cons s i h) at e in
-    rw q f
+-- ---- a text, and then one more
 
-pub puts_end : (o s : List ℕ) (n i : ℕ) (t : Held) → puts (held o n) (drop i s) ≡ t → length s ≤ i → held o n ≡ t
-unfolding puts
-puts_end o s n i t e h = rw (drop_of_length-le s h) at e
-
--- a text, and then one more
-pub puts_append : (s t : List ℕ) (h : Held) → puts h (s ++ t) ≡ puts (puts h s) t
+puts_append : (s t h : List ℕ) → puts h (s ++ t) ≡ puts (puts h s) t
 unfolding puts
 puts_append [] t h = refl
 puts_append (b ∷ s) t h = puts_append s t (put h b)
 
--- a byte and a text
-pub puts_cons : (o p q s : List ℕ) (at n m b : ℕ) → held p n ≡ put (held o at) b → held q m ≡ puts (held p n) s
-    → held q m ≡ puts (held o at) (b ∷ s)
-unfolding puts
-puts_cons o p q s at n m b e f = f ∙ ap (λ (h : Held). puts h s) e
+sents_append : (s t h : List ℕ) → sents h (s ++ t) ≡ sents h s ++ sents (puts h s) t
+unfolding sents puts
+sents_append [] t h = refl
+sents_append (b ∷ s) t h = ap (λ (x : List ℕ). sent h b ++ x) (sents_append s t (put h b))
+    ∙ sym (append_assoc (sent h b) (sents (put h b) s) (sents (puts (put h b) s) t))
+
+module _ {W : Type 0} {contents : W → Option (List ℕ)} where
+  pub gathers_none : (o : Out W) → Gathers contents o o []
+  unfolding puts sents
+  gathers_none o = record { buffer = refl; written = wrote_none o.failed (contents o.to) }
+
+  pub gathers_both : {o p q : Out W} {s t : List ℕ} → Gathers contents o p s → Gathers contents p q t → Gathers contents o q (s ++ t)
+  gathers_both {o} {p} {q} {s} {t} g h =
+      let e : sents o.waiting.items s ++ sents p.waiting.items t ≡ sents o.waiting.items (s ++ t) =
+          rw g.buffer (sym (sents_append s t o.waiting.items)) in
+      record {
+        buffer = h.buffer ∙ ap (λ (x : List ℕ). puts x t) g.buffer ∙ sym (puts_append s t o.waiting.items);
+        written = rw e at (wrote_both o.failed p.failed q.failed (contents o.to) (contents p.to) (contents q.to) _ _ g.written h.written);
+      }
+
+  -- ---- a byte
+
+  -- where there is room for it
+  pub gathers_room : (o m : Out W) (v : ArrayVec ℕ) (b : ℕ) (full : Bool) → full ≡ eqb (length o.waiting.items) ROOM → full ≡ false
+      → length o.waiting.items ≤ ROOM → m ≡ o → v.items ≡ m.waiting.items ++ (b ∷ [])
+      → Gathers contents o (record { waiting = v; to = m.to; failed = m.failed }) (b ∷ [])
+  unfolding puts put sents sent
+  gathers_room o m v b full t n l e f =
+      let k : length o.waiting.items ≡ ROOM → ⊥ = eqb-false (length o.waiting.items) ROOM (sym t ∙ n) in
+      let h : length o.waiting.items < ROOM = omega arith in
+      rw e (record {
+        buffer = rw (lt-ltb (length o.waiting.items) ROOM h) (rw e at f);
+        written = rw (lt-ltb (length o.waiting.items) ROOM h) (wrote_none o.failed (contents o.to));
+      })
+
+  -- where there is none, after what waited is written
+  pub gathers_full : (o p m : Out W) (v : ArrayVec ℕ) (b : ℕ) (full : Bool) → full ≡ eqb (length o.waiting.items) ROOM → full ≡ true
+      → p.waiting.items ≡ [] → Wrote o.failed p.failed (contents o.to) (contents p.to) o.waiting.items → m ≡ p
+      → v.items ≡ m.waiting.items ++ (b ∷ []) → Gathers contents o (record { waiting = v; to = m.to; failed = m.failed }) (b ∷ [])
+  unfolding puts put sents sent
+  gathers_full o p m v b full t n w r e f =
+      let k : length o.waiting.items ≡ ROOM = eqb-true (length o.waiting.items) ROOM (sym t ∙ n) in
+      let h : ROOM ≤ length o.waiting.items = omega arith in
+      rw e (record {
+        buffer = rw (le-ltb (length o.waiting.items) ROOM h) (rw (e, w) at f);
+        written = rw (le-ltb (length o.waiting.items) ROOM h, append-nil o.waiting.items) r;
+      })
 
 -- ---- numbers
 
-digits_one : (f n : ℕ) → n < 10 ^ 1 → last_digits 10 1 n ≡ decimal (suc f) n
-unfolding decimal
-digits_one f n g =
+digits_one : (n : ℕ) → n < 10 ^ 1 → last_digits 10 1 n ≡ decimal n
+digits_one n g =
     let p : n < 10 = g in
     let q : n % 10 ≡ n = omega arith in
-    rw (q, lt-ltb n 10 p)
-
-digits_more : (k f n : ℕ) → 10 ^ suc k ≤ n → last_digits 10 (suc k) (n / 10) ≡ decimal f (n / 10) → last_digits 10 (suc (suc k)) n ≡ decimal (suc f) n
-unfolding decimal
-digits_more k f n l e =
-    let z : 0 < 10 = omega arith in
-    let g : 10 ≤ n = omega (arith, pow-suc 10 k, one-le-pow k 10 z) in
-    let m : n % 10 < 10 = omega arith in
-    rw (le-ltb n 10 g, lt-ltb (n % 10) 10 m, e)
+    rw (q, lt-ltb n 10 p, decimal_digit n p)
 
 -- the fewest digits that hold a number are its decimal digits
-digits_decimal : (k f n : ℕ) → k < f → n < 10 ^ suc k → (0 < k → 10 ^ k ≤ n) → last_digits 10 (suc k) n ≡ decimal f n
-digits_decimal k zero n h g l = absurd (omega arith)
-digits_decimal zero (suc f) n h g l = digits_one f n g
-digits_decimal (suc k) (suc f) n h g l =
+digits_decimal : (k n : ℕ) → n < 10 ^ suc k → (0 < k → 10 ^ k ≤ n) → n < 2 ^ 64 → last_digits 10 (suc k) n ≡ decimal n
+digits_decimal zero n g l s = digits_one n g
+digits_decimal (suc k) n g l s =
     let a : 10 ^ suc k ≤ n = l (omega arith) in
-    let b : k < f = omega arith in
+    let z : 0 < 10 = omega arith in
+    let t : 10 ≤ n = omega (arith, pow-suc 10 k, one-le-pow k 10 z) in
+    let m : n % 10 < 10 = omega arith in
     let c : n / 10 < 10 ^ suc k = omega (arith, pow-suc 10 (suc k)) in
     let d : 10 ^ k ≤ n / 10 = omega (arith, pow-suc 10 k) in
-    digits_more k f n a (digits_decimal k f (n / 10) b c (λ (z : 0 < k). d))
+    let v : n / 10 < 2 ^ 64 = omega arith in
+    rw (decimal_step n t s, lt-ltb (n % 10) 10 m, digits_decimal k (n / 10) c (λ (z : 0 < k). d) v)
 
--- 20 digits hold each number of 64 bits
-few_places : (k n : ℕ) → Fits w64 n → 10 ^ k ≤ n → 20 ≤ k → ⊥
-few_places k n f h g =
-    let z : 0 < 10 = omega arith in
-    omega (arith, f.fits, pow-le-pow_right z g)
-
-pub fewest_decimal : (k n : ℕ) → Fits w64 n → IsDigitCount 10 1 n k → last_digits 10 k n ≡ decimal 20 n
-fewest_decimal zero n f (a, b, c) = absurd (omega arith)
-fewest_decimal (suc k) n f (a, b, c) =
+pub fewest_decimal : (k n : ℕ) → IsDigitCount 10 1 n k → n < 2 ^ 64 → last_digits 10 k n ≡ decimal n
+fewest_decimal zero n (a, b, c) f = absurd (omega arith)
+fewest_decimal (suc k) n (a, b, c) f =
     let e : suc k - 1 ≡ k = omega arith in
     let l : 0 < k → 10 ^ k ≤ n = λ (z : 0 < k). rw e at (c (omega arith)) in
-    let w : 20 ≤ k → ⊥ = λ (g : 20 ≤ k). few_places k n f (l (omega arith)) g in
-    let h : k < 20 = omega arith in
-    digits_decimal k 20 n h b l
-
-pub number_law : (o p q ds : List ℕ) (at n m x k : ℕ) → held q m ≡ puts (held p n) (take k ds) → held p n ≡ put (held o at) 32
-    → take k ds ≡ last_digits 10 k x → IsDigitCount 10 1 x k → Fits w64 x → held q m ≡ puts (held o at) (number_text x)
-unfolding number_text
-number_law o p q ds at n m x k f e d w h =
-    puts_cons o p q (decimal 20 x) at n m 32 e (f ∙ ap (puts (held p n)) (d ∙ fewest_decimal k x h w))
+    digits_decimal k n b l f
 
 -- ---- byte strings
 
-pub hex_low : (d : ℕ) → d < 10 → 48 + d ≡ hex_digit d
-unfolding hex_digit
-hex_low d h = rw (lt-ltb d 10 h)
+two_places : (k b : ℕ) → 2 ≤ k → (2 < k → 16 ^ (k - 1) ≤ b) → b < 2 ^ 8 → k ≡ 2
+two_places (suc (suc zero)) b l m h = refl
+two_places (suc (suc (suc k))) b l m h =
+    let e : suc (suc (suc k)) - 1 ≡ suc (suc k) = omega arith in
+    let p : 16 ^ suc (suc k) ≤ b = rw e at (m (omega arith)) in
+    let z : 0 < 16 = omega arith in
+    absurd (omega (arith, pow-suc 16 (suc k), pow-suc 16 k, one-le-pow k 16 z))
+two_places zero b l m h = absurd (omega arith)
+two_places (suc zero) b l m h = absurd (omega arith)
 
-pub hex_high : (d : ℕ) → 10 ≤ d → 87 + d ≡ hex_digit d
-unfolding hex_digit
-hex_high d h = rw (le-ltb d 10 h)
+-- a byte has two hexadecimal digits
+pub two_digits : (k b : ℕ) → IsDigitCount 16 2 b k → b < 2 ^ 8 → last_digits 16 k b ≡ hex_text (b ∷ [])
+unfolding hex_text hex_digit
+two_digits k b (l, g, m) h =
+    let e : k ≡ 2 = two_places k b l m h in
+    let q : b / 16 % 16 ≡ b / 16 = omega arith in
+    rw (e, q)
 
-pub hex_turn : (o p q s : List ℕ) (n m k i x y : ℕ) (t : Held) → puts (held o n) (hex_text (drop i s)) ≡ t → i < length s
-    → x ≡ hex_digit (get_or s i 0 / 16) → y ≡ hex_digit (get_or s i 0 % 16) → held p m ≡ put (held o n) x → held q k ≡ put (held p m) y
-    → puts (held q k) (hex_text (drop (i + 1) s)) ≡ t
-unfolding puts hex_text
-hex_turn o p q s n m k i x y t e h a b f g =
-    let r : puts (put (put (held o n) (hex_digit (get_or s i 0 / 16))) (hex_digit (get_or s i 0 % 16))) (hex_text (drop (i + 1) s)) ≡ t =
-    rw (left_cons s i h) at e in
-    rw (g, f, a, b) r
-
-pub hex_end : (o s : List ℕ) (n i : ℕ) (t : Held) → puts (held o n) (hex_text (drop i s)) ≡ t → length s ≤ i → held o n ≡ t
-unfolding puts hex_text
-hex_end o s n i t e h = rw (drop_of_length-le s h) at e
-
-pub bytes_law : (o p q s : List ℕ) (at n m : ℕ) → held p n ≡ puts (held o at) (32 ∷ 120 ∷ []) → held q m ≡ puts (held p n) (hex_text s)
-    → held q m ≡ puts (held o at) (bytes_text s)
-bytes_law o p q s at n m e f = f ∙ ap (λ (h : Held). puts h (hex_text s)) e ∙ sym (puts_append (32 ∷ 120 ∷ []) (hex_text s) (held o at))
-
--- ---- whole answers
-
-puts_two : (h : Held) (a b : List ℕ) (j k : Held) → j ≡ puts h a → k ≡ puts j b → k ≡ puts h (a ++ b)
-puts_two h a b j k e f = f ∙ ap (λ (i : Held). puts i b) e ∙ sym (puts_append a b h)
-
-pub one_law : (o p q r name : List ℕ) (at n m k x : ℕ) → held p n ≡ puts (held o at) (open_text name) → held q m ≡ puts (held p n) (number_text x)
-    → held r k ≡ puts (held q m) close_text → held r k ≡ puts (held o at) (one_text name x)
-unfolding one_text
-one_law o p q r name at n m k x e f g =
-    puts_two (held o at) (open_text name ++ number_text x) close_text (held q m) (held r k)
-    (puts_two (held o at) (open_text name) (number_text x) (held p n) (held q m) e f) g
-
-pub two_open_law : (o p q r name : List ℕ) (at n m k x y : ℕ) → held p n ≡ puts (held o at) (open_text name)
-    → held q m ≡ puts (held p n) (number_text x) → held r k ≡ puts (held q m) (number_text y) → held r k ≡ puts (held o at) (two_open_text name x y)
-unfolding two_open_text
-two_open_law o p q r name at n m k x y e f g =
-    puts_two (held o at) (open_text name ++ number_text x) (number_text y) (held q m) (held r k)
-    (puts_two (held o at) (open_text name) (number_text x) (held p n) (held q m) e f) g
-
-pub two_law : (o p q name : List ℕ) (at n m x y : ℕ) → held p n ≡ puts (held o at) (two_open_text name x y)
-    → held q m ≡ puts (held p n) close_text → held q m ≡ puts (held o at) (two_text name x y)
-unfolding two_text
-two_law o p q name at n m x y e f = puts_two (held o at) (two_open_text name x y) close_text (held p n) (held q m) e f
+pub hex_append : (s t : List ℕ) → hex_text (s ++ t) ≡ hex_text s ++ hex_text t
+unfolding hex_text
+hex_append [] t = refl
+hex_append (b ∷ s) t = ap (λ (x : List ℕ). hex_digit (b / 16) ∷ hex_digit (b % 16) ∷ x) (hex_append s t)

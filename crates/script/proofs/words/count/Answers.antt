@@ -1,12 +1,10 @@
-use borrow.Author.Rules.{rules}
-use Rattle.script.specs.laws.WordLaws.{count_space, count_other, count_done}
+use Rattle.std.proofs.Common.{rules, tests, eqb}
+use Rattle.std.proofs.lemmas.Iterator.Consumers.{count_from_yields_List}
+use Rattle.std.proofs.lemmas.Iterator.Splits.{YieldsList-from_slice_split}
+use Rattle.script.specs.Words.{words_of}
 use Rattle.script.proofs.words.count.Goals as goal
-use Rattle.script.proofs.words.count.Goals.{then-s-i-eq32, else-s-i-eq32}
-
-ruleset laws = (rules, count_space, count_other, count_done)
-
-pub loop-i-preserved : goal.loop-i-preserved
-loop-i-preserved c = elim c.if-s-i-eq32.branch [ then-s-i-eq32 w ↦ search laws | else-s-i-eq32 w ↦ search laws ]
 
 pub returns : goal.returns
-returns c = search laws
+unfolding words_of
+returns c = count_from_yields_List _ _ c.count.ensures.ran
+    (YieldsList-from_slice_split _ (λ b. eqb b 32) c.args.s.now c.split.ensures.rest c.split.ensures.done c.split.ensures.closure (λ x b q k. search (rules, tests)))

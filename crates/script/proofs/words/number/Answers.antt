@@ -1,17 +1,20 @@
-use borrow.Author.Rules.{rules}
-use Rattle.script.specs.laws.DigitLaws.{number_start, number_over, number_turn, number_end}
+use Rattle.std.proofs.Common.{rules, tests}
+use Rattle.script.specs.laws.NumberLaws.{number_none, number_start, number_stop, number_turn, number_end}
 use Rattle.script.proofs.words.number.Goals as goal
 
-ruleset laws = (rules, number_start, number_over, number_turn, number_end)
+ruleset laws = (rules, tests, number_none, number_start, number_stop, number_turn, number_end)
 
-pub loop-i-init : goal.loop-i-init
-loop-i-init c = search laws
+pub returns-then-is_empty : goal.returns-then-is_empty
+returns-then-is_empty c = search laws
 
-pub returns-then-d-n : goal.returns-then-d-n
-returns-then-d-n c = search laws
+pub loop-b-init : goal.loop-b-init
+loop-b-init c = search laws
 
-pub loop-i-preserved : goal.loop-i-preserved
-loop-i-preserved c = search laws
+pub returns-in_err-n : goal.returns-in_err-n
+returns-in_err-n c = search laws
+
+pub loop-b-preserved : goal.loop-b-preserved
+loop-b-preserved c = search laws
 
 pub returns : goal.returns
 returns c = search laws
