@@ -1,9 +1,5 @@
--- Numbers that stop short, the words of a line, the answers' bytes, a line's bounds: what the contracts of `script` cite.
+-- Products that stop short, the words of a line, the answers' bytes, a line's bounds: what the contracts of `script` cite.
 pub mod Number
 pub mod Words
 pub mod Out
 pub mod Input
--- What only internal proofs cite.
-pub mod internal
--- Laws: checked by the machine, nothing to believe.
-pub mod laws

@@ -1,45 +1,37 @@
--- Answers: what stands in the buffer after a text was put there, and how much. Where the buffer is full, what stands there
--- is written and the next byte is the first again.
-use Rattle.std.specs.Prelude.{◌≡◌, Option, IsSome, IsNone, leb, take, List, [], ◌∷◌, ◌++◌, cond, ℕ, zero, suc, ◌+◌, ◌/◌, ◌%◌, min, length, set, ltb}
+-- Answers: the bytes that wait after a text was put, and what is written. Where as many wait as there is room for, they are
+-- written and the next byte waits alone.
+use Rattle.std.specs.Prelude.{◌≡◌, Option, IsSome, IsNone, List, [], ◌∷◌, ◌++◌, cond, ℕ, zero, suc, ◌+◌, ◌/◌, ◌%◌, length, ltb}
 use Rattle.std.specs.Io.KnownBytes.{Appends}
+use Rattle.script.specs.declared.out.TheConstants.{ROOM}
+use Rattle.script.specs.declared.out.Out.{Out}
 
--- a buffer's bytes, and how many of them stand there
-pub record Held : Type 0 where
-  pub bytes : List ℕ
-  pub at : ℕ
-
-abbrev pub held : List ℕ → ℕ → Held
-held o at = record { bytes = o; at = at }
-
--- with one byte more: behind those that stand there, or the first where the buffer is full (none where it has no room)
-unfoldable pub put : Held → ℕ → Held
-put h b =
-    cond (ltb h.at (length h.bytes))
-    (held (set h.bytes h.at b) (h.at + 1))
-    (held (set h.bytes 0 b) (min 1 (length h.bytes)))
+-- the bytes that wait, with one more: behind the others, or alone where there is no room for it
+unfoldable pub put : List ℕ → ℕ → List ℕ
+put h b = cond (ltb (length h) ROOM) (h ++ (b ∷ [])) (b ∷ [])
 
 -- with a text more, byte by byte
-unfoldable pub puts : Held → List ℕ → Held
+unfoldable pub puts : List ℕ → List ℕ → List ℕ
 puts h [] = h
 puts h (b ∷ s) = puts (put h b) s
 
--- what is written as a byte is put: nothing where there is room for it, else all that stands there
-unfoldable pub sent : Held → ℕ → List ℕ
-sent h b = cond (ltb h.at (length h.bytes)) [] h.bytes
+-- what is written as a byte is put: nothing where there is room for it, else all that waits
+unfoldable pub sent : List ℕ → ℕ → List ℕ
+sent h b = cond (ltb (length h) ROOM) [] h
 
 -- what is written as a text is put
-unfoldable pub sents : Held → List ℕ → List ℕ
+unfoldable pub sents : List ℕ → List ℕ → List ℕ
 sents h [] = []
 sents h (b ∷ s) = sent h b ++ sents (put h b) s
-
--- what is written as so many bytes of a buffer are
-unfoldable pub flushed : Held → List ℕ
-flushed h = cond (leb h.at (length h.bytes)) (take h.at h.bytes) []
 
 -- between two states of an answer's buffer: the first failure stays, and where none is there, the writer's bytes have grown by bs
 pub record Wrote {E : Type 0} (f g : Option E) (old new : Option (List ℕ)) (bs : List ℕ) : Type 0 where
   pub kept : IsSome f → g ≡ f
   pub grown : IsNone g → Appends old new bs
+
+-- a buffer o that gathers a text is p then: what waits, and what is written
+pub record Gathers {W : Type 0} (contents : W → Option (List ℕ)) (o p : Out W) (s : List ℕ) : Type 0 where
+  pub buffer : p.waiting.items ≡ puts o.waiting.items s
+  pub written : Wrote o.failed p.failed (contents o.to) (contents p.to) (sents o.waiting.items s)
 
 -- the decimal digits of n, at most f of them
 unfoldable pub decimal : ℕ → ℕ → List ℕ

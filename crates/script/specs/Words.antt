@@ -1,7 +1,8 @@
 -- One line of the script language: what stands between its brackets, the words there, the numbers and the byte strings.
 -- A text is a list of bytes.
-use Rattle.std.specs.Prelude.{List, [], ◌∷◌, Bool, true, false, cond, not, ◌&&◌, ℕ, zero, suc, ◌+◌, ◌-◌, ◌*◌, ◌/◌, ◌%◌, ◌^◌, min, length, take, drop, get_or, leb, ltb, eqb}
+use Rattle.std.specs.Prelude.{Option, Some, None, List, [], ◌∷◌, Bool, true, false, cond, not, ◌&&◌, ℕ, zero, suc, ◌+◌, ◌-◌, ◌*◌, ◌/◌, ◌%◌, ◌^◌, min, length, take, drop, get_or, leb, ltb, eqb}
 use Rattle.script.specs.Number.{most}
+use Rattle.script.specs.declared.words.ByteString.{ByteString}
 
 -- whether a line begins with ( and ends with )
 unfoldable pub bracketed : List ℕ → Bool
@@ -35,13 +36,6 @@ up_to_space (b ∷ s) = cond (eqb b 32) [] (b ∷ up_to_space s)
 unfoldable pub word_of : List ℕ → ℕ → List ℕ
 word_of s k = up_to_space (after k s)
 
--- whether two texts are the same, byte by byte
-unfoldable pub same_text : List ℕ → List ℕ → Bool
-same_text [] [] = true
-same_text [] (b ∷ t) = false
-same_text (a ∷ s) [] = false
-same_text (a ∷ s) (b ∷ t) = eqb a b && same_text s t
-
 -- the value of a decimal digit; 10 where a byte is none
 unfoldable pub digit_of : ℕ → ℕ
 digit_of b = cond (leb 48 b && leb b 57) (b - 48) 10
@@ -68,14 +62,27 @@ is_number w = leb 1 (length w) && numeral 0 w
 unfoldable pub number_of : List ℕ → ℕ
 number_of w = min (spelled 0 w) most
 
+-- the number of a word that is one
+abbrev pub number_read : List ℕ → Option ℕ
+number_read w = cond (is_number w) (Some (number_of w)) None
+
 -- whether a word is a number below 2^32
 unfoldable pub is_u32 : List ℕ → Bool
 is_u32 w = is_number w && ltb (number_of w) (2 ^ 32)
+
+-- the number below 2^32 of a word that is one
+abbrev pub u32_read : List ℕ → Option ℕ
+u32_read w = cond (is_u32 w) (Some (number_of w)) None
 
 -- whether the n words from word k on are numbers
 unfoldable pub are_numbers : List ℕ → ℕ → ℕ → Bool
 are_numbers s k zero = true
 are_numbers s k (suc n) = is_number (word_of s k) && are_numbers s (k + 1) n
+
+-- the numbers of the n words from word k on
+unfoldable pub numbers_of : List ℕ → ℕ → ℕ → List ℕ
+numbers_of s k zero = []
+numbers_of s k (suc n) = number_of (word_of s k) ∷ numbers_of s (k + 1) n
 
 -- the value of a lower-case hexadecimal digit; 16 where a byte is none
 unfoldable pub nibble_of : ℕ → ℕ
@@ -107,3 +114,7 @@ pairs (a ∷ b ∷ w) = byte_of a b ∷ pairs w
 -- the bytes of a byte string: those of the digits behind the x
 unfoldable pub decoded : List ℕ → List ℕ
 decoded w = pairs (drop 1 w)
+
+-- the bytes of a byte string that was read from a word
+abbrev pub bytes_of : ByteString → List ℕ
+bytes_of b = pairs b.digits.now

@@ -1,41 +1,53 @@
 // Lines of standard input.
-ghost use Rattle.std.specs.Prelude.{◌≡◌, ◌≤◌, false, length, IsOk, IsNone, MatchOption, Err};
-ghost use Rattle.script.specs.Input.{no_line, line_of, took, gathered, gather, left_of, empty_line, Lies, Next, Ahead, Came, ReadsKnown};
-ghost use Rattle.std.specs.Io.KnownBytes.{prepend_known};
+ghost use Rattle.std.specs.Prelude.{◌≡◌, ◌+◌, ◌≤◌, ◌<◌, true, length, min, take, drop, ◌++◌, IsOk, IsNone, MatchOption, Err};
+ghost use Rattle.script.specs.declared.input.TheConstants.{ROOM};
 
-use crate::number;
-use std::io;
-use std::io::{Read, Stdin};
+use std::io::{Error, Read, Stdin};
 
 // How many bytes are read at once.
 pub const ROOM: usize = 16384;
 
 // Room for the bytes read, and where they come from.
 #[derive(Drop)]
-pub struct Input<R = Stdin> {
-    pub bytes: [u8; ROOM],
+pub struct Lines<R = Stdin> {
+    bytes: [u8; ROOM],
+    // What is left of the bytes read.
+    start: usize,
+    end: usize,
     from: R,
     // The last read that failed: it counts as one that gave no byte.
-    failed: Option<io::Error>,
+    failed: Option<Error>,
+    ghost ordered: { start ≤ end },
+    ghost within: { end ≤ ROOM },
 }
 
-impl<R> Input<R> {
+// A line is longer than there is room for: its first bytes fill the room.
+#[derive(Clone, Copy, PartialEq, Eq, Debug)]
+pub struct TooLong;
+
+impl<R> Lines<R> {
+    ghost use Rattle.script.specs.Input.{left_of};
+    ghost use Rattle.std.specs.Prelude.{[]};
+
     // Nothing read yet.
-    pub fn new(from: R) -> Input<R>
+    pub fn new(from: R) -> Lines<R>
     where
         R: Drop,
+        ensures left { left_of result ≡ [] }
         ensures from { result.from ≡ from }
         ensures failed { IsNone result.failed }
     {
-        Input {
+        Lines {
             bytes: [0; ROOM],
+            start: 0,
+            end: 0,
             from,
             failed: None,
         }
     }
 
     // Whether every read was answered; else why the last that was not.
-    pub fn done(self) -> io::Result<()>
+    pub fn done(self) -> Result<(), Error>
     where
         R: Drop,
         ensures { MatchOption self.failed (IsOk result) (λ e. result ≡ Err e) }
@@ -47,135 +59,68 @@ impl<R> Input<R> {
     }
 }
 
-impl<R: Read> Input<R> {
-    // Some more bytes, and how many; 0 at the end.
-    fn read(&mut self) -> usize
-        ensures count { result ≤ length self.new.bytes }
-        ensures room { length self.new.bytes ≡ length self.old.bytes }
+impl<R: Read> Lines<R> {
+    ghost use Rattle.script.specs.Input.{has_feed, left_of, Fits, Ahead, Came, ReadsKnown};
+
+    // Some more bytes, of which none is left then at the end.
+    fn fill(&mut self)
+        ensures start { self.new.start ≡ 0 }
         ensures came { Came self.old.failed self.new.failed (R.remaining self.old.from) (R.remaining self.new.from)
-            result self.new.bytes }
+            self.new.end self.new.bytes }
     {
-        match self.from.read(&mut self.bytes) {
+        self.start = 0;
+        self.end = match self.from.read(&mut self.bytes) {
             Ok(n) => n,
             Err(e) => {
                 self.failed = Some(e);
                 0
             }
+        };
+    }
+
+    // The next line, without its line feed: how many bytes of its room it takes.
+    pub fn next(&mut self, line: &mut [u8]) -> Option<Result<usize, TooLong>>
+        ensures fits { Fits result (length line.new) }
+        ensures ahead { has_feed (left_of self.old) ≡ true → Ahead self.old line.old result self.new line.new }
+        ensures reads { ReadsKnown R.remaining self.old line.old result self.new line.new }
+    {
+        let mut len = 0;
+        for _turn in 0..u64::MAX {
+            if self.start == self.end {
+                self.fill();
+                if self.start == self.end {
+                    break;
+                }
+            }
+            let left = &self.bytes[self.start..self.end];
+            match left.iter().position(|b| *b == b'\n') {
+                Some(n) => {
+                    len = put(line, len, &left[..n]);
+                    self.start += n + 1;
+                    return Some(fitting(len, line.len()));
+                }
+                None => {
+                    len = put(line, len, left);
+                    self.start = self.end;
+                }
+            }
         }
+        if len.min(line.len()) == 0 {
+            return None;
+        }
+        Some(fitting(len, line.len()))
     }
 }
 
-#[derive(Clone, Copy)]
-pub struct Source {
-    // What is left of the bytes read.
-    pub from: usize,
-    pub end: usize,
-    // The line's length; whether it is longer than there is room for; whether there is none.
-    pub len: usize,
-    pub long: bool,
-    pub ended: bool,
+// A line of so many bytes in its room.
+fn fitting(len: usize, room: usize) -> Result<usize, TooLong> {
+    if len <= room { Ok(len) } else { Err(TooLong) }
 }
 
-impl Source {
-    pub fn new() -> Source
-        ensures { result ≡ no_line }
-    {
-        Source {
-            from: 0,
-            end: 0,
-            len: 0,
-            long: false,
-            ended: false,
-        }
-    }
-
-    // One more byte of the line.
-    fn take(mut self, line: &mut [u8], b: u8) -> Source
-        requires { Lies self (length line.old) }
-        ensures { Lies result (length line.new)
-            × (line_of result line.new ≡ took (line_of self line.old) b)
-            × (result.end ≡ self.end) × (result.ended ≡ self.ended) }
-    {
-        if self.len < line.len() {
-            let n = self.len;
-            line[n] = b;
-            self.len = n + 1;
-            return self;
-        }
-        self.long = true;
-        self
-    }
-
-    // Bytes up to a line feed, as far as they are read: `ended` where there is one.
-    fn copy(mut self, input: &[u8], line: &mut [u8]) -> Source
-        requires { Lies self (length line.old) × (self.ended ≡ false) }
-        ensures { Lies result (length line.new)
-            × (gathered result line.new
-            ≡ gather (line_of self line.old) self.from (left_of self input.now))
-            × (result.end ≡ self.end) }
-    {
-        let end = number::least(self.end, input.len());
-        let mut i = self.from;
-        while i < end {
-            let b = input[i];
-            if b == b'\n' {
-                self.from = i + 1;
-                self.ended = true;
-                return self;
-            }
-            self = self.take(line, b);
-            i += 1;
-        }
-        self.from = i;
-        self
-    }
-
-    // The rest of a line, of which nothing more is read yet.
-    fn more<R: Read>(mut self, input: &mut Input<R>, line: &mut [u8]) -> Source
-        requires { Lies self (length line.old) × (self.ended ≡ false) }
-        ensures line { Next result (length line.new) }
-        ensures room { length input.new.bytes ≡ length input.old.bytes }
-        ensures reads { ReadsKnown (line_of self line.old) (R.remaining input.old.from) input.new.failed
-            result line.new input.new.bytes (R.remaining input.new.from) }
-    {
-        let mut turns = u64::MAX;
-        while 0 < turns {
-            self.from = 0;
-            self.end = input.read();
-            if self.end == 0 {
-                self.ended = self.len == 0;
-                return self;
-            }
-            self = self.copy(&input.bytes, line);
-            if self.ended {
-                self.ended = false;
-                return self;
-            }
-            turns -= 1;
-        }
-        self
-    }
-
-    // The next line, without its line feed; `ended` where there is none.
-    pub fn next<R: Read>(mut self, input: &mut Input<R>, line: &mut [u8]) -> Source
-        ensures line { Next result (length line.new)
-            × Ahead self input.old.bytes line.old result input.new.bytes line.new }
-        ensures room { length input.new.bytes ≡ length input.old.bytes }
-        ensures reads { ReadsKnown (empty_line line.old)
-            (prepend_known (left_of self input.old.bytes) (R.remaining input.old.from)) input.new.failed
-            result line.new input.new.bytes (R.remaining input.new.from) }
-    {
-        self.len = 0;
-        self.long = false;
-        self.ended = false;
-        if self.end <= self.from {
-            return self.more(input, line);
-        }
-        self = self.copy(&input.bytes, line);
-        if !self.ended {
-            return self.more(input, line);
-        }
-        self.ended = false;
-        self
-    }
+// More bytes of a line that has so many, put into its room as far as it goes. The answer is how many the line has then.
+fn put(line: &mut [u8], len: usize, part: &[u8]) -> usize {
+    let start = len.min(line.len());
+    let n = part.len().min(line.len() - start);
+    line[start..start + n].copy_from_slice(&part[..n]);
+    len.saturating_add(part.len())
 }

@@ -1,9 +1,9 @@
-// Answers, gathered in a buffer that is written when it is full and at the end. Each function is given how much stands
-// there, and answers how much does then.
-ghost use Rattle.std.specs.Prelude.{◌≡◌, ◌/◌, ◌%◌, ◌<◌, IsOk, IsNone, MatchOption, Err};
-ghost use Rattle.script.specs.Out.{held, put, puts, sent, sents, flushed, Wrote, hex_digit, hex_text, number_text, bytes_text, word_text};
+// Answers, gathered in a buffer that is written when it is full and at the end.
+ghost use Rattle.std.specs.Prelude.{◌≡◌, [], ◌∷◌, IsOk, IsNone, MatchOption, Err};
+ghost use Rattle.script.specs.Out.{Gathers, Wrote, hex_text, number_text, bytes_text, word_text};
 ghost use Rattle.script.specs.Out.{open_text, close_text, one_text, two_open_text, two_text, error_text};
 
+use arrayvec::ArrayVec;
 use std::io::{Error, Stdout, Write};
 
 // How many bytes of answers are gathered before they are written.
@@ -12,7 +12,8 @@ pub const ROOM: usize = 32768;
 // A buffer of answers, and where it is written.
 #[derive(Drop)]
 pub struct Out<W = Stdout> {
-    pub room: [u8; ROOM],
+    // The bytes that wait.
+    waiting: ArrayVec<u8, ROOM>,
     to: W,
     // The first write that failed: no more is written after it.
     failed: Option<Error>,
@@ -23,11 +24,12 @@ impl<W> Out<W> {
     pub fn new(to: W) -> Out<W>
     where
         W: Drop,
+        ensures waiting { result.waiting.items ≡ [] }
         ensures to { result.to ≡ to }
         ensures failed { IsNone result.failed }
     {
         Out {
-            room: [0; ROOM],
+            waiting: ArrayVec::new(),
             to,
             failed: None,
         }
@@ -46,183 +48,116 @@ impl<W> Out<W> {
     }
 }
 
-// Writes what stands there, and leaves it as it is.
-pub fn flush<W: Write>(o: &mut Out<W>, at: usize)
-    ensures room { o.new.room ≡ o.old.room }
-    ensures written { Wrote o.old.failed o.new.failed (W.contents o.old.to) (W.contents o.new.to)
-        (flushed (held o.old.room at)) }
-{
-    if o.room.len() < at {
-        return;
+impl<W: Write> Out<W> {
+    // Writes what waits: nothing waits then.
+    pub fn flush(&mut self)
+        ensures waiting { self.new.waiting.items ≡ [] }
+        ensures written { Wrote self.old.failed self.new.failed (W.contents self.old.to) (W.contents self.new.to)
+            self.old.waiting.items }
+    {
+        if self.failed.is_none() {
+            self.failed = self.to.write_all(self.waiting.as_slice()).err();
+        }
+        self.waiting.clear();
     }
-    if o.failed.is_some() {
-        return;
+
+    pub fn byte(&mut self, b: u8)
+        ensures { Gathers W.contents self.old self.new (b ∷ []) }
+    {
+        if self.waiting.is_full() {
+            self.flush();
+        }
+        self.waiting.push(b);
     }
-    if let Err(e) = o.to.write_all(&o.room[..at]) {
-        o.failed = Some(e);
+
+    pub fn text(&mut self, s: &[u8])
+        ensures { Gathers W.contents self.old self.new s.now }
+    {
+        for b in s {
+            self.byte(*b);
+        }
     }
-}
 
-pub fn byte<W: Write>(o: &mut Out<W>, at: usize, b: u8) -> usize
-    ensures buffer { held o.new.room result ≡ put (held o.old.room at) b }
-    ensures written { Wrote o.old.failed o.new.failed (W.contents o.old.to) (W.contents o.new.to)
-        (sent (held o.old.room at) b) }
-{
-    if at < o.room.len() {
-        o.room[at] = b;
-        return at + 1;
+    // A space and a decimal number.
+    pub fn number(&mut self, x: u64)
+        ensures { Gathers W.contents self.old self.new (number_text x) }
+    {
+        let mut digits = [0; 20];
+        let n = io::decimal(x, &mut digits);
+        self.byte(b' ');
+        self.text(&digits[..n]);
     }
-    let n = o.room.len();
-    flush(o, n);
-    if n == 0 {
-        return 0;
+
+    // Two hexadecimal digits a byte.
+    fn hex(&mut self, s: &[u8])
+        ensures { Gathers W.contents self.old self.new (hex_text s.now) }
+    {
+        let mut digits = [0; 16];
+        for b in s {
+            let n = io::hex(u64::from(*b), 2, &mut digits);
+            self.text(&digits[..n]);
+        }
     }
-    o.room[0] = b;
-    1
-}
 
-pub fn text<W: Write>(o: &mut Out<W>, at: usize, s: &[u8]) -> usize
-    ensures buffer { held o.new.room result ≡ puts (held o.old.room at) s.now }
-    ensures written { Wrote o.old.failed o.new.failed (W.contents o.old.to) (W.contents o.new.to)
-        (sents (held o.old.room at) s.now) }
-{
-    let mut n = at;
-    let mut i: usize = 0;
-    while i < s.len() {
-        n = byte(o, n, s[i]);
-        i += 1;
+    // A space and a byte string.
+    pub fn bytes(&mut self, s: &[u8])
+        ensures { Gathers W.contents self.old self.new (bytes_text s.now) }
+    {
+        self.text(b" x");
+        self.hex(s);
     }
-    n
-}
 
-// A space and a decimal number.
-pub fn number<W: Write>(o: &mut Out<W>, at: usize, x: u64) -> usize
-    ensures buffer { held o.new.room result ≡ puts (held o.old.room at) (number_text x) }
-    ensures written { Wrote o.old.failed o.new.failed (W.contents o.old.to) (W.contents o.new.to)
-        (sents (held o.old.room at) (number_text x)) }
-{
-    let mut digits = [0u8; 20];
-    let k = io::decimal(x, &mut digits);
-    let n = byte(o, at, b' ');
-    text(o, n, &digits[..k])
-}
-
-// A lower-case hexadecimal digit.
-fn hex_digit(d: u8) -> u8
-    requires { d < 16 }
-    ensures { result ≡ hex_digit d }
-{
-    if d < 10 {
-        return 48 + d;
+    // A space and words.
+    pub fn word(&mut self, s: &[u8])
+        ensures { Gathers W.contents self.old self.new (word_text s.now) }
+    {
+        self.byte(b' ');
+        self.text(s);
     }
-    87 + d
-}
 
-// The digit of a byte's upper half.
-fn upper(b: u8) -> u8
-    ensures { result ≡ hex_digit (b / 16) }
-{
-    hex_digit(b / 16)
-}
-
-// The digit of its lower half.
-fn lower(b: u8) -> u8
-    ensures { result ≡ hex_digit (b % 16) }
-{
-    hex_digit(b % 16)
-}
-
-// Two hexadecimal digits a byte.
-fn hex<W: Write>(o: &mut Out<W>, at: usize, s: &[u8]) -> usize
-    ensures buffer { held o.new.room result ≡ puts (held o.old.room at) (hex_text s.now) }
-    ensures written { Wrote o.old.failed o.new.failed (W.contents o.old.to) (W.contents o.new.to)
-        (sents (held o.old.room at) (hex_text s.now)) }
-{
-    let mut n = at;
-    let mut i: usize = 0;
-    while i < s.len() {
-        let b = s[i];
-        n = byte(o, n, upper(b));
-        n = byte(o, n, lower(b));
-        i += 1;
+    // An answer's bracket and name.
+    pub fn open(&mut self, name: &[u8])
+        ensures { Gathers W.contents self.old self.new (open_text name.now) }
+    {
+        self.byte(b'(');
+        self.text(name);
     }
-    n
-}
 
-// A space and a byte string.
-pub fn bytes<W: Write>(o: &mut Out<W>, at: usize, s: &[u8]) -> usize
-    ensures buffer { held o.new.room result ≡ puts (held o.old.room at) (bytes_text s.now) }
-    ensures written { Wrote o.old.failed o.new.failed (W.contents o.old.to) (W.contents o.new.to)
-        (sents (held o.old.room at) (bytes_text s.now)) }
-{
-    let n = text(o, at, b" x");
-    hex(o, n, s)
-}
+    pub fn close(&mut self)
+        ensures { Gathers W.contents self.old self.new close_text }
+    {
+        self.text(b")\n");
+    }
 
-// A space and words.
-pub fn word<W: Write>(o: &mut Out<W>, at: usize, s: &[u8]) -> usize
-    ensures buffer { held o.new.room result ≡ puts (held o.old.room at) (word_text s.now) }
-    ensures written { Wrote o.old.failed o.new.failed (W.contents o.old.to) (W.contents o.new.to)
-        (sents (held o.old.room at) (word_text s.now)) }
-{
-    let n = byte(o, at, b' ');
-    text(o, n, s)
-}
+    // An answer of a name and a number.
+    pub fn one(&mut self, name: &[u8], x: u64)
+        ensures { Gathers W.contents self.old self.new (one_text name.now x) }
+    {
+        self.open(name);
+        self.number(x);
+        self.close();
+    }
 
-// An answer's bracket and name.
-pub fn open<W: Write>(o: &mut Out<W>, at: usize, name: &[u8]) -> usize
-    ensures buffer { held o.new.room result ≡ puts (held o.old.room at) (open_text name.now) }
-    ensures written { Wrote o.old.failed o.new.failed (W.contents o.old.to) (W.contents o.new.to)
-        (sents (held o.old.room at) (open_text name.now)) }
-{
-    let n = byte(o, at, b'(');
-    text(o, n, name)
-}
+    // The start of an answer: a name and two numbers.
+    pub fn two_open(&mut self, name: &[u8], x: u64, y: u64)
+        ensures { Gathers W.contents self.old self.new (two_open_text name.now x y) }
+    {
+        self.open(name);
+        self.number(x);
+        self.number(y);
+    }
 
-pub fn close<W: Write>(o: &mut Out<W>, at: usize) -> usize
-    ensures buffer { held o.new.room result ≡ puts (held o.old.room at) close_text }
-    ensures written { Wrote o.old.failed o.new.failed (W.contents o.old.to) (W.contents o.new.to)
-        (sents (held o.old.room at) close_text) }
-{
-    text(o, at, b")\n")
-}
+    // An answer of a name and two numbers.
+    pub fn two(&mut self, name: &[u8], x: u64, y: u64)
+        ensures { Gathers W.contents self.old self.new (two_text name.now x y) }
+    {
+        self.two_open(name, x, y);
+        self.close();
+    }
 
-// An answer of a name and a number.
-pub fn one<W: Write>(o: &mut Out<W>, at: usize, name: &[u8], x: u64) -> usize
-    ensures buffer { held o.new.room result ≡ puts (held o.old.room at) (one_text name.now x) }
-    ensures written { Wrote o.old.failed o.new.failed (W.contents o.old.to) (W.contents o.new.to)
-        (sents (held o.old.room at) (one_text name.now x)) }
-{
-    let a = open(o, at, name);
-    let b = number(o, a, x);
-    close(o, b)
-}
-
-// The start of an answer: a name and two numbers.
-pub fn two_open<W: Write>(o: &mut Out<W>, at: usize, name: &[u8], x: u64, y: u64) -> usize
-    ensures buffer { held o.new.room result ≡ puts (held o.old.room at) (two_open_text name.now x y) }
-    ensures written { Wrote o.old.failed o.new.failed (W.contents o.old.to) (W.contents o.new.to)
-        (sents (held o.old.room at) (two_open_text name.now x y)) }
-{
-    let a = open(o, at, name);
-    let b = number(o, a, x);
-    number(o, b, y)
-}
-
-// An answer of a name and two numbers.
-pub fn two<W: Write>(o: &mut Out<W>, at: usize, name: &[u8], x: u64, y: u64) -> usize
-    ensures buffer { held o.new.room result ≡ puts (held o.old.room at) (two_text name.now x y) }
-    ensures written { Wrote o.old.failed o.new.failed (W.contents o.old.to) (W.contents o.new.to)
-        (sents (held o.old.room at) (two_text name.now x y)) }
-{
-    let c = two_open(o, at, name, x, y);
-    close(o, c)
-}
-
-pub fn error<W: Write>(o: &mut Out<W>, at: usize) -> usize
-    ensures buffer { held o.new.room result ≡ puts (held o.old.room at) error_text }
-    ensures written { Wrote o.old.failed o.new.failed (W.contents o.old.to) (W.contents o.new.to)
-        (sents (held o.old.room at) error_text) }
-{
-    text(o, at, b"(error)\n")
+    pub fn error(&mut self)
+        ensures { Gathers W.contents self.old self.new error_text }
+    {
+        self.text(b"(error)\n");
+    }
 }

@@ -1,244 +1,116 @@
 // One line of the script language: what stands between its brackets, and the words there, parted by single spaces.
-ghost use Rattle.std.specs.Prelude.{◌≡◌, ◌++◌, ◌+◌, ◌-◌, ◌≤◌, min, length, take, drop};
-ghost use Rattle.script.specs.Words.{inner_of, word_count, after, up_to_space, word_of, same_text};
-ghost use Rattle.script.specs.Words.{digit_of, is_number, number_of, is_u32, are_numbers};
-ghost use Rattle.script.specs.Words.{nibble_of, is_bytes, byte_count, decoded};
-
-use crate::number;
-
-const MOST: u64 = 0xFFFFFFFFFFFFFFFF;
+ghost use Rattle.std.specs.Prelude.{◌≡◌, ◌++◌, ◌+◌, ◌<◌, ◌^◌, min, length, take, drop, true, false, MatchOption, SomeIff};
+ghost use Rattle.script.specs.Words.{inner_of, word_count, word_of, number_read, u32_read, are_numbers, numbers_of};
+ghost use Rattle.script.specs.Words.{nibble_of, is_bytes, decoded, bytes_of};
 
 // What stands between the brackets; nothing where there are none.
 pub fn inner(line: &[u8]) -> &[u8]
     ensures { result.now ≡ inner_of line.now }
 {
-    let n = line.len();
-    if n < 2 {
-        return &line[..0];
+    match line {
+        [b'(', inner @ .., b')'] => inner,
+        _ => &[],
     }
-    if line[0] != b'(' {
-        return &line[..0];
-    }
-    let end = n - 1;
-    if line[end] != b')' {
-        return &line[..0];
-    }
-    &line[1..end]
 }
 
 // How many words a text has: one more than spaces.
 pub fn count(s: &[u8]) -> usize
     ensures { result ≡ word_count s.now }
 {
-    let mut i: usize = 0;
-    let mut n: usize = 1;
-    while i < s.len() {
-        if s[i] == b' ' {
-            n += 1;
-        }
-        i += 1;
-    }
-    n
-}
-
-// Where word k starts; the text's end where there are fewer words.
-fn start_of(s: &[u8], k: usize) -> usize
-    ensures { (result ≤ length s.now) × (drop result s.now ≡ after k s.now) }
-{
-    let mut i: usize = 0;
-    let mut n: usize = 0;
-    while i < s.len() {
-        if n == k {
-            return i;
-        }
-        if s[i] == b' ' {
-            n += 1;
-        }
-        i += 1;
-    }
-    i
-}
-
-// Where the word that starts at a place ends.
-fn end_of(s: &[u8], from: usize) -> usize
-    requires { from ≤ length s.now }
-    ensures { (from ≤ result) × (result ≤ length s.now)
-        × (result ≡ from + length (up_to_space (drop from s.now))) }
-{
-    let mut i = from;
-    while i < s.len() {
-        if s[i] == b' ' {
-            return i;
-        }
-        i += 1;
-    }
-    i
+    s.split(|b| *b == b' ').count()
 }
 
 // Word k; an empty one where there are fewer words.
 pub fn word(s: &[u8], k: usize) -> &[u8]
     ensures { result.now ≡ word_of s.now k }
 {
-    let a = start_of(s, k);
-    let e = end_of(s, a);
-    &s[a..e]
+    s.split(|b| *b == b' ').nth(k).unwrap_or(&[])
 }
 
-// Whether two texts are the same.
-pub fn same(a: &[u8], b: &[u8]) -> bool
-    ensures { result ≡ same_text a.now b.now }
+// The number of a word, where it is a decimal number below 2^64.
+pub fn number(w: &[u8]) -> Option<u64>
+    ensures { result ≡ number_read w.now }
 {
-    if a.len() != b.len() {
-        return false;
-    }
-    let mut i: usize = 0;
-    while i < a.len() {
-        if a[i] != b[i] {
-            return false;
-        }
-        i += 1;
-    }
-    true
-}
-
-// The value of a decimal digit; 10 where it is none.
-fn digit(b: u8) -> u64
-    ensures { (result ≡ digit_of b) × (result ≤ 10) }
-{
-    if b < b'0' {
-        return 10;
-    }
-    if b'9' < b {
-        return 10;
-    }
-    (b - b'0') as u64
-}
-
-// Whether a word is a decimal number below 2^64.
-pub fn is_number(w: &[u8]) -> bool
-    ensures { result ≡ is_number w.now }
-{
-    if w.len() == 0 {
-        return false;
+    if w.is_empty() {
+        return None;
     }
     let mut n: u64 = 0;
-    let mut i: usize = 0;
-    while i < w.len() {
-        let d = digit(w[i]);
-        if 9 < d {
-            return false;
+    for b in w {
+        let digit = char::from(*b).to_digit(10)?;
+        n = n.checked_mul(10)?.checked_add(u64::from(digit))?;
+    }
+    Some(n)
+}
+
+// The number of a word, where it is a decimal number below 2^32.
+pub fn number_u32(w: &[u8]) -> Option<u32>
+    ensures { result ≡ u32_read w.now }
+{
+    u32::try_from(number(w)?).ok()
+}
+
+// The numbers of the words from one on, where all are numbers.
+pub fn numbers<const N: usize>(s: &[u8], from: usize) -> Option<[u64; N]>
+    requires { from + N < 2 ^ 64 }
+    ensures { MatchOption result (are_numbers s.now from N ≡ false)
+        (λ xs. (are_numbers s.now from N ≡ true) × (xs ≡ numbers_of s.now from N)) }
+{
+    let mut found = [0; N];
+    for i in 0..N {
+        found[i] = number(word(s, from + i))?;
+    }
+    Some(found)
+}
+
+// A byte string: the hexadecimal digits behind its x, two a byte.
+#[derive(Clone, Copy)]
+pub struct ByteString<'a> {
+    digits: &'a [u8],
+}
+
+// The byte string of a word, where it is one.
+pub fn bytes(w: &[u8]) -> Option<ByteString<'_>>
+    ensures { MatchOption result (is_bytes w.now ≡ false)
+        (λ b. (is_bytes w.now ≡ true) × (bytes_of b ≡ decoded w.now)) }
+{
+    let digits = w.strip_prefix(b"x")?;
+    if digits.len() % 2 == 0 && digits.iter().all(|b| nibble(*b).is_some()) {
+        Some(ByteString { digits })
+    } else {
+        None
+    }
+}
+
+impl ByteString<'_> {
+    // How many bytes it has.
+    pub fn len(self) -> usize
+        ensures { result ≡ length (bytes_of self.entry) }
+    {
+        self.digits.len() / 2
+    }
+
+    // Its bytes, as many as there is room for. The answer is how many.
+    pub fn decode(self, out: &mut [u8]) -> usize
+        ensures count { result ≡ min (length (bytes_of self.entry)) (length out.old) }
+        ensures bytes { out.new ≡ take result (bytes_of self.entry) ++ drop result out.old }
+    {
+        let n = self.len().min(out.len());
+        for i in 0..n {
+            let high = nibble(self.digits[2 * i]).unwrap_or(0);
+            let low = nibble(self.digits[2 * i + 1]).unwrap_or(0);
+            out[i] = high * 16 + low;
         }
-        if (MOST - d) / 10 < n {
-            return false;
-        }
-        n = n * 10 + d;
-        i += 1;
+        n
     }
-    true
 }
 
-// The number of a word; the greatest where it is above that.
-pub fn number(w: &[u8]) -> u64
-    ensures { result ≡ number_of w.now }
+// The value of a lower-case hexadecimal digit. `to_digit` has upper-case ones too.
+fn nibble(b: u8) -> Option<u8>
+    ensures { SomeIff result (nibble_of b < 16) (nibble_of b) }
 {
-    let mut n: u64 = 0;
-    let mut i: usize = 0;
-    while i < w.len() {
-        let d = digit(w[i]);
-        if (MOST - d) / 10 < n {
-            return MOST;
-        }
-        n = n * 10 + d;
-        i += 1;
+    match b {
+        b'0'..=b'9' => Some(b - b'0'),
+        b'a'..=b'f' => Some(b - b'a' + 10),
+        _ => None,
     }
-    n
-}
-
-// Whether a word is a number below 2^32.
-pub fn is_u32(w: &[u8]) -> bool
-    ensures { result ≡ is_u32 w.now }
-{
-    if !is_number(w) {
-        return false;
-    }
-    number(w) < 0x100000000
-}
-
-// Whether words from one to another, without it, are numbers.
-pub fn are_numbers(s: &[u8], from: usize, to: usize) -> bool
-    ensures { result ≡ are_numbers s.now from (to - from) }
-{
-    let mut k = from;
-    while k < to {
-        if !is_number(word(s, k)) {
-            return false;
-        }
-        k += 1;
-    }
-    true
-}
-
-// The value of a lower-case hexadecimal digit; 16 where it is none.
-fn nibble(b: u8) -> u8
-    ensures { result ≡ nibble_of b }
-{
-    if b < b'0' {
-        return 16;
-    }
-    if b <= b'9' {
-        return b - b'0';
-    }
-    if b < b'a' {
-        return 16;
-    }
-    if b <= b'f' {
-        return b - b'a' + 10;
-    }
-    16
-}
-
-// Whether a word is a byte string: x and two hexadecimal digits a byte.
-pub fn is_bytes(w: &[u8]) -> bool
-    ensures { result ≡ is_bytes w.now }
-{
-    if w.len() % 2 != 1 {
-        return false;
-    }
-    if w[0] != b'x' {
-        return false;
-    }
-    let mut i: usize = 1;
-    while i < w.len() {
-        if nibble(w[i]) == 16 {
-            return false;
-        }
-        i += 1;
-    }
-    true
-}
-
-// How many bytes a byte string has.
-pub fn length(w: &[u8]) -> usize
-    ensures { result ≡ byte_count w.now }
-{
-    if w.len() == 0 {
-        return 0;
-    }
-    (w.len() - 1) / 2
-}
-
-// The bytes of a byte string, as many as there is room for. The answer is how many.
-pub fn decode(w: &[u8], out: &mut [u8]) -> usize
-    ensures { (result ≡ min (byte_count w.now) (length out.old))
-        × (out.new ≡ take result (decoded w.now) ++ drop result out.old) }
-{
-    let n = number::least(length(w), out.len());
-    let mut i: usize = 0;
-    while i < n {
-        let high = nibble(w[2 * i + 1]) % 16;
-        let low = nibble(w[2 * i + 2]) % 16;
-        out[i] = high * 16 + low;
-        i += 1;
-    }
-    n
 }

@@ -1,2 +1,0 @@
--- What only proofs' invariants say.
-pub mod Coming
