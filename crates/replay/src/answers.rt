@@ -1,6 +1,6 @@
 // What calls answer: records, and parts of a text as byte strings.
-use crate::shim::Out;
 use node::record;
+use script::out::Out;
 
 // The bytes of a part; nothing where it does not lie there.
 pub fn part(o: &mut Out, s: &[u8], from: usize, to: usize) {

@@ -3,7 +3,7 @@ use crate::fault::Fault;
 use crate::memory::Memory;
 use crate::state::State;
 use flush::space;
-use script::words;
+use script::words::ByteString;
 use seal::checksum;
 
 impl Memory<'_> {
@@ -22,12 +22,12 @@ impl Memory<'_> {
 
 impl State<'_> {
     // (block ADDR xHEX)
-    pub fn block(&mut self, a: u64, hex: &[u8]) -> Result<(), Fault> {
+    pub fn block(&mut self, a: u64, bytes: ByteString) -> Result<(), Fault> {
         let rest = self.memory.image_from(a)?;
-        if rest.len() < words::length(hex) {
+        if rest.len() < bytes.len() {
             return Err(Fault::NotTaken);
         }
-        words::decode(hex, rest);
+        bytes.decode(rest);
         self.out.one(b"block", a);
         Ok(())
     }
@@ -58,8 +58,8 @@ impl State<'_> {
 
     // (count CHUNK BLOCKS FREE)
     pub fn count(&mut self, chunk: u64, blocks: u64, free: u64) -> Result<(), Fault> {
-        let n = u32::try_from(blocks).ok().ok_or(Fault::NotTaken)?;
-        let f = u32::try_from(free).ok().ok_or(Fault::NotTaken)?;
+        let n = u32::try_from(blocks)?;
+        let f = u32::try_from(free)?;
         let c = chunk as usize;
         if self.memory.sizes.chunks() <= c || self.memory.counts.len() <= c {
             return Err(Fault::NotTaken);

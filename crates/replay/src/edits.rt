@@ -1,9 +1,9 @@
 // The edits.
 use crate::fault::Fault;
-use crate::keys;
-use crate::limits;
 use crate::memory::Workspace;
 use crate::state::{Opened, State};
+use crate::{keys, limits};
+use script::words::ByteString;
 use tree::edited::{Edited, Removed};
 use tree::editor::Tree;
 
@@ -26,9 +26,8 @@ fn removed(got: Removed) -> Result<(Tree, bool), Fault> {
 
 impl State<'_> {
     // (upsert KEY VALUE), or (upsert KEY -) for a ghost
-    pub fn upsert(&mut self, key: &[u8], value: Option<&[u8]>) -> Result<(), Fault> {
+    pub fn upsert(&mut self, key: ByteString, value: Option<ByteString>) -> Result<(), Fault> {
         let Opened { tree, place } = self.opened()?;
-        let lent = self.lent_to(place);
         let mut key_room = [0; limits::BYTES];
         let mut value_room = [0; limits::BYTES];
         let key = keys::read(key, &mut key_room)?;
@@ -41,7 +40,8 @@ impl State<'_> {
             heads,
             bytes,
             scratch,
-        } = self.memory.workspace()?;
+            lent,
+        } = self.memory.workspace(place.map)?;
         let ghost_value = value.is_none();
         let got = tree.upsert(
             image,
@@ -59,9 +59,8 @@ impl State<'_> {
     }
 
     // (remove KEY)
-    pub fn remove(&mut self, key: &[u8]) -> Result<(), Fault> {
+    pub fn remove(&mut self, key: ByteString) -> Result<(), Fault> {
         let Opened { tree, place } = self.opened()?;
-        let lent = self.lent_to(place);
         let mut room = [0; limits::BYTES];
         let key = keys::read(key, &mut room)?;
         let Workspace {
@@ -69,7 +68,8 @@ impl State<'_> {
             heads,
             bytes,
             scratch,
-        } = self.memory.workspace()?;
+            lent,
+        } = self.memory.workspace(place.map)?;
         let (tree, found) = removed(tree.remove(image, heads, bytes, scratch, lent, key))?;
         let opened = Opened { tree, place };
         if found {
@@ -83,14 +83,14 @@ impl State<'_> {
     // (put ID XID ADDR)
     pub fn put(&mut self, id: u64, xid: u64, a: u64) -> Result<(), Fault> {
         let Opened { tree, place } = self.opened()?;
-        let lent = self.lent_to(place);
-        let size = lent.size as u64;
+        let size = self.memory.sizes.size as u64;
         let Workspace {
             image,
             heads,
             bytes,
             scratch,
-        } = self.memory.workspace()?;
+            lent,
+        } = self.memory.workspace(place.map)?;
         let tree = edited(tree.omap_put(image, heads, bytes, scratch, lent, id, xid, a, size))?;
         self.accept(Opened { tree, place }, b"put 0");
         Ok(())
@@ -99,13 +99,13 @@ impl State<'_> {
     // (drop ID)
     pub fn drop_id(&mut self, id: u64) -> Result<(), Fault> {
         let Opened { tree, place } = self.opened()?;
-        let lent = self.lent_to(place);
         let Workspace {
             image,
             heads,
             bytes,
             scratch,
-        } = self.memory.workspace()?;
+            lent,
+        } = self.memory.workspace(place.map)?;
         let tree = edited(tree.omap_drop(image, heads, bytes, scratch, lent, id))?;
         self.accept(Opened { tree, place }, b"drop 0");
         Ok(())

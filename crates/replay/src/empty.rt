@@ -1,6 +1,8 @@
 // The line that packs an empty root leaf.
+ghost use Rattle.std.specs.Prelude.{◌≡◌, ◌≤◌};
+ghost use Rattle.node.specs.Fit.{Sized};
+
 use crate::fault::Fault;
-use crate::line::{Root, Storage};
 use crate::state::State;
 use node::build::NodeBuild;
 use node::info::BTreeInfo;
@@ -10,46 +12,74 @@ const BTREE: u64 = 2;
 
 const PHYSICAL: u64 = 0x40000000;
 
+// Where nodes have their ids from.
+#[derive(Clone, Copy, PartialEq, Eq)]
+pub enum Storage {
+    // Their blocks' addresses.
+    Physical,
+    // An object map.
+    Virtual,
+}
+
+// What the line says of the root.
+#[derive(Clone, Copy)]
+pub struct Root {
+    pub address: u64,
+    pub storage: Storage,
+    pub id: u64,
+    pub xid: u64,
+    pub subtype: u32,
+    pub flags: u32,
+    pub key_size: u32,
+    pub val_size: u32,
+}
+
 impl Root {
-    // The root's id and type: a physical one's id is its address.
-    fn build(self, size: usize) -> NodeBuild {
-        let (oid, otype) = match self.storage {
-            Storage::Physical => (self.address, PHYSICAL + BTREE),
-            Storage::Virtual => (self.id, BTREE),
-        };
-        NodeBuild {
-            oid,
-            xid: self.xid,
-            otype,
-            subtype: self.subtype as u64,
-            level: 0,
-            root: true,
-            info: BTreeInfo {
-                flags: self.flags as u64,
-                node_size: size as u64,
-                key_size: self.key_size as u64,
-                val_size: self.val_size as u64,
-                longest_key: 0,
-                longest_val: 0,
-                key_count: 0,
-                node_count: 1,
-            },
+    // Its tree's numbers.
+    fn info(self, size: usize) -> BTreeInfo
+        requires { (512 ≤ size) × (size ≤ 65536) }
+        ensures sized { Sized result }
+        ensures size { result.node_size ≡ size }
+    {
+        BTreeInfo {
+            flags: u64::from(self.flags),
+            node_size: size as u64,
+            key_size: u64::from(self.key_size),
+            val_size: u64::from(self.val_size),
+            longest_key: 0,
+            longest_val: 0,
+            key_count: 0,
+            node_count: 1,
         }
     }
 
-    // Packs a node with no entries, if it fits.
+    // Packs it, a node with no entries, if that fits the block.
     fn pack(self, block: &mut [u8]) -> Result<(), Fault> {
         let size = block.len();
         if size < 512 || 65536 < size {
             return Err(Fault::NotTaken);
         }
-        let b = self.build(size);
-        let none = [0u8; 8];
-        if !fit::fits(&none, 0, 0, b.info, b.root, b.level) {
+        let info = self.info(size);
+        let none = [0; 8];
+        if !fit::fits(&none, 0, 0, info, true, 0) {
             return Err(Fault::NotTaken);
         }
-        let heads = [0u64; 9];
-        pack::pack(block, &none, 0, &heads, false, b);
+        // A physical root's id is its address.
+        let (oid, otype) = match self.storage {
+            Storage::Physical => (self.address, PHYSICAL + BTREE),
+            Storage::Virtual => (self.id, BTREE),
+        };
+        let build = NodeBuild {
+            oid,
+            xid: self.xid,
+            otype,
+            subtype: u64::from(self.subtype),
+            level: 0,
+            root: true,
+            info,
+        };
+        let heads = [0; 9];
+        pack::pack(block, &none, 0, &heads, false, build);
         Ok(())
     }
 }
@@ -58,7 +88,8 @@ impl State<'_> {
     // (empty ADDR STORAGE ID XID SUBTYPE FLAGS KEY VALUE)
     pub fn empty(&mut self, root: Root) -> Result<(), Fault> {
         let a = root.address;
-        root.pack(self.memory.block(a)?)?;
+        let block = self.memory.block(a)?;
+        root.pack(block)?;
         self.memory.mark(a as usize);
         self.out.one(b"empty", a);
         Ok(())

@@ -1,21 +1,20 @@
 // Flush: what is lent to it, as long as it is to be.
 use crate::fault::Fault;
-use crate::memory::{first_mut, Memory};
+use crate::memory::{Memory, first_mut};
 use crate::report;
 use crate::state::{Opened, Place, State};
 use flush::flush::{Answer, Flushed};
 use tree::editor::Tree;
-use tree::lent::Lent;
 
 impl Memory<'_> {
-    // The bitmap kept in the scratch, to see what was written.
-    fn keep_bitmap(&mut self) {
-        for (kept, bits) in self.scratch.iter_mut().zip(self.bitmap.iter()) {
-            *kept = *bits;
-        }
-    }
-
-    fn flush(&mut self, tree: Tree, lent: Lent, xid: u64, next: u64) -> Result<Flushed, Fault> {
+    // A flush on what is lent of the memory.
+    fn flush(
+        &mut self,
+        tree: Tree,
+        map: Option<u64>,
+        xid: u64,
+        next: u64,
+    ) -> Result<Flushed, Fault> {
         let s = self.sizes;
         let got = flush::flush::flush(
             tree,
@@ -29,7 +28,7 @@ impl Memory<'_> {
             first_mut(self.removed, s.slots)?,
             first_mut(self.ids, s.slots)?,
             first_mut(self.places, s.slots)?,
-            lent,
+            s.lent(map),
             xid,
             next,
         );
@@ -44,16 +43,15 @@ impl State<'_> {
     // (flush XID NEXT): the tree has ended; its root is where the flush put it.
     pub fn flush(&mut self, xid: u64, next: u64) -> Result<(), Fault> {
         let Opened { tree, place } = self.opened()?;
-        let lent = self.lent_to(place);
-        self.memory.keep_bitmap();
-        let f = self.memory.flush(tree, lent, xid, next)?;
+        let old = *self.memory.bitmap;
+        let f = self.memory.flush(tree, place.map, xid, next)?;
         self.opened = None;
         self.walked = Some(Place {
             root: f.root,
             moved: f.done.moved,
             ..place
         });
-        report::flushed(&mut self.out, &self.memory, f);
+        report::flushed(&mut self.out, &self.memory, &old, f);
         Ok(())
     }
 }

@@ -1,6 +1,8 @@
 // What a line says: its words, read.
+use crate::empty::{Root, Storage};
 use node::order::Order;
 use script::words;
+use script::words::ByteString;
 
 #[derive(Clone, Copy)]
 pub enum Line<'a> {
@@ -15,7 +17,7 @@ pub enum Line<'a> {
 pub enum SetUp<'a> {
     Image { blocks: u64, size: u64 },
     Slots(u64),
-    Block { address: u64, hex: &'a [u8] },
+    Block { address: u64, bytes: ByteString<'a> },
     Seal(u64),
     Mark { address: u64, count: u64 },
     Count { chunk: u64, blocks: u64, free: u64 },
@@ -23,70 +25,57 @@ pub enum SetUp<'a> {
     Map(Option<u64>),
 }
 
-// A call on the open tree, the one that opens it, or a walk. Keys and values are byte strings, read when it is made.
+// A call on the open tree, the one that opens it, or a walk.
 #[derive(Clone, Copy)]
 pub enum Call<'a> {
-    Open { root: u64, order: Order, xid: u64 },
-    Get(&'a [u8]),
-    Floor(&'a [u8]),
-    Range { low: &'a [u8], high: &'a [u8] },
+    Open {
+        root: u64,
+        order: Order,
+        xid: u64,
+    },
+    Get(ByteString<'a>),
+    Floor(ByteString<'a>),
+    Range {
+        low: ByteString<'a>,
+        high: ByteString<'a>,
+    },
     // A ghost where there is no value.
-    Upsert { key: &'a [u8], value: Option<&'a [u8]> },
-    Remove(&'a [u8]),
-    Put { id: u64, xid: u64, address: u64 },
+    Upsert {
+        key: ByteString<'a>,
+        value: Option<ByteString<'a>>,
+    },
+    Remove(ByteString<'a>),
+    Put {
+        id: u64,
+        xid: u64,
+        address: u64,
+    },
     Drop(u64),
-    Flush { xid: u64, next: u64 },
+    Flush {
+        xid: u64,
+        next: u64,
+    },
     Walk,
-}
-
-// Where nodes have their ids from.
-#[derive(Clone, Copy, PartialEq, Eq)]
-pub enum Storage {
-    // Their blocks' addresses.
-    Physical,
-    // An object map.
-    Virtual,
-}
-
-// What an `empty` line says of the root that it packs.
-#[derive(Clone, Copy)]
-pub struct Root {
-    pub address: u64,
-    pub storage: Storage,
-    pub id: u64,
-    pub xid: u64,
-    pub subtype: u32,
-    pub flags: u32,
-    pub key_size: u32,
-    pub val_size: u32,
 }
 
 // Word k as a number.
 fn number(w: &[u8], k: usize) -> Option<u64> {
-    let word = words::word(w, k);
-    if !words::is_number(word) {
-        return None;
-    }
-    Some(words::number(word))
+    words::number(words::word(w, k))
 }
 
 // Word k as a number below 2^32.
 fn number_u32(w: &[u8], k: usize) -> Option<u32> {
-    u32::try_from(number(w, k)?).ok()
+    words::number_u32(words::word(w, k))
 }
 
-// Word k, if it is a byte string.
-fn bytes(w: &[u8], k: usize) -> Option<&[u8]> {
-    let word = words::word(w, k);
-    if !words::is_bytes(word) {
-        return None;
-    }
-    Some(word)
+// Word k as a byte string.
+fn bytes(w: &[u8], k: usize) -> Option<ByteString<'_>> {
+    words::bytes(words::word(w, k))
 }
 
-// Word k, if it is not `-`.
-fn given(w: &[u8], k: usize) -> bool {
-    words::word(w, k) != b"-".as_slice()
+// Whether word k is the one that stands for nothing.
+fn is_none(w: &[u8], k: usize) -> bool {
+    words::word(w, k) == b"-".as_slice()
 }
 
 fn storage_of(word: &[u8]) -> Option<Storage> {
@@ -121,7 +110,7 @@ fn root_of(w: &[u8]) -> Option<Root> {
 
 // (map ADDR) or (map -)
 fn map_of(w: &[u8]) -> Option<SetUp<'_>> {
-    if !given(w, 1) {
+    if is_none(w, 1) {
         return Some(SetUp::Map(None));
     }
     Some(SetUp::Map(Some(number(w, 1)?)))
@@ -130,7 +119,7 @@ fn map_of(w: &[u8]) -> Option<SetUp<'_>> {
 // (upsert KEY VALUE) or (upsert KEY -)
 fn upsert_of(w: &[u8]) -> Option<Call<'_>> {
     let key = bytes(w, 1)?;
-    if !given(w, 2) {
+    if is_none(w, 2) {
         return Some(Call::Upsert { key, value: None });
     }
     let value = Some(bytes(w, 2)?);
@@ -146,7 +135,7 @@ fn set_up_of(w: &[u8]) -> Option<SetUp<'_>> {
         (2, b"slots") => SetUp::Slots(number(w, 1)?),
         (3, b"block") => SetUp::Block {
             address: number(w, 1)?,
-            hex: bytes(w, 2)?,
+            bytes: bytes(w, 2)?,
         },
         (2, b"seal") => SetUp::Seal(number(w, 1)?),
         (3, b"mark") => SetUp::Mark {
@@ -214,17 +203,27 @@ impl Call<'_> {
     }
 }
 
-// What a line says; nothing where it is no line of the language, or was longer than there is room for.
-pub fn parse(line: &[u8], long: bool) -> Option<Line<'_>> {
-    if let None | Some(b';') = line.first() {
+// Whether a line is empty, or a comment.
+fn is_passed(line: &[u8]) -> bool {
+    matches!(line, [] | [b';', ..])
+}
+
+// What a line says; nothing where it is no line of the language.
+pub fn parse(line: &[u8]) -> Option<Line<'_>> {
+    if is_passed(line) {
         return Some(Line::Passed);
-    }
-    if long {
-        return None;
     }
     let w = words::inner(line);
     if let Some(s) = set_up_of(w) {
         return Some(Line::SetUp(s));
     }
     Some(Line::Call(call_of(w)?))
+}
+
+// The same of a line that is longer than there is room for, by its start: a comment at most.
+pub fn parse_long(start: &[u8]) -> Option<Line<'_>> {
+    if is_passed(start) {
+        return Some(Line::Passed);
+    }
+    None
 }

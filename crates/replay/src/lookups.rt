@@ -1,11 +1,10 @@
 // Open and the lookups.
-use crate::answers;
 use crate::fault::Fault;
-use crate::keys;
-use crate::limits;
 use crate::memory::Workspace;
 use crate::state::{Opened, Place, State};
+use crate::{answers, keys, limits};
 use node::order::Order;
+use script::words::ByteString;
 use tree::floor::Floor;
 use tree::get::Got;
 use tree::lookup;
@@ -21,13 +20,13 @@ impl State<'_> {
             map: self.map,
             moved: 0,
         };
-        let lent = self.lent_to(place);
         let Workspace {
             image,
             heads,
             bytes,
             scratch: _,
-        } = self.memory.workspace()?;
+            lent,
+        } = self.memory.workspace(place.map)?;
         let got = lookup::open(image, heads, bytes, lent, root, order.code, xid);
         match got {
             lookup::Opened::Refused(x) => Err(Fault::Refused(x)),
@@ -40,9 +39,8 @@ impl State<'_> {
     }
 
     // (get KEY)
-    pub fn get(&mut self, key: &[u8]) -> Result<(), Fault> {
+    pub fn get(&mut self, key: ByteString) -> Result<(), Fault> {
         let mut opened = self.opened()?;
-        let lent = self.lent_to(opened.place);
         let mut room = [0; limits::BYTES];
         let key = keys::read(key, &mut room)?;
         let Workspace {
@@ -50,7 +48,8 @@ impl State<'_> {
             heads,
             bytes,
             scratch,
-        } = self.memory.workspace()?;
+            lent,
+        } = self.memory.workspace(opened.place.map)?;
         let got = opened.tree.get(image, heads, bytes, lent, key, scratch);
         match got {
             Got::Refused(x) => return Err(Fault::Refused(x)),
@@ -74,9 +73,8 @@ impl State<'_> {
     }
 
     // (floor KEY)
-    pub fn floor(&mut self, key: &[u8]) -> Result<(), Fault> {
+    pub fn floor(&mut self, key: ByteString) -> Result<(), Fault> {
         let mut opened = self.opened()?;
-        let lent = self.lent_to(opened.place);
         let mut room = [0; limits::BYTES];
         let key = keys::read(key, &mut room)?;
         let Workspace {
@@ -84,7 +82,8 @@ impl State<'_> {
             heads,
             bytes,
             scratch,
-        } = self.memory.workspace()?;
+            lent,
+        } = self.memory.workspace(opened.place.map)?;
         let got = opened.tree.floor(image, heads, bytes, lent, key, scratch);
         match got {
             Floor::Refused(x) => return Err(Fault::Refused(x)),
@@ -104,9 +103,8 @@ impl State<'_> {
     }
 
     // (range LO HI)
-    pub fn range(&mut self, low: &[u8], high: &[u8]) -> Result<(), Fault> {
+    pub fn range(&mut self, low: ByteString, high: ByteString) -> Result<(), Fault> {
         let mut opened = self.opened()?;
-        let lent = self.lent_to(opened.place);
         let mut low_room = [0; limits::BYTES];
         let mut high_room = [0; limits::BYTES];
         let low = keys::read(low, &mut low_room)?;
@@ -116,7 +114,8 @@ impl State<'_> {
             heads,
             bytes,
             scratch,
-        } = self.memory.workspace()?;
+            lent,
+        } = self.memory.workspace(opened.place.map)?;
         let got = opened
             .tree
             .range(image, heads, bytes, lent, low, high, scratch);

@@ -19,7 +19,7 @@ mod memory;
 mod nodes;
 mod report;
 mod setup;
-mod shim;
+mod shown;
 mod sizes;
 mod state;
 mod walk;
@@ -27,7 +27,7 @@ mod walk;
 use fault::Fault;
 use line::{Call, Line, SetUp};
 use memory::Memory;
-use script::input::{Input, Source};
+use script::input::{Lines, TooLong};
 use sizes::Sizes;
 use state::State;
 use std::io;
@@ -37,7 +37,7 @@ impl State<'_> {
         match line {
             SetUp::Image { blocks, size } => self.image(blocks, size),
             SetUp::Slots(n) => self.slots(n),
-            SetUp::Block { address, hex } => self.block(address, hex),
+            SetUp::Block { address, bytes } => self.block(address, bytes),
             SetUp::Seal(address) => self.seal(address),
             SetUp::Mark { address, count } => self.mark(address, count),
             SetUp::Count {
@@ -85,15 +85,12 @@ impl State<'_> {
     }
 
     // Line after line, until there is none.
-    fn run(&mut self, input: &mut Input, room: &mut [u8; limits::LINE]) {
-        let mut src = Source::new();
+    fn run(&mut self, lines: &mut Lines, room: &mut [u8]) {
         for _ in 0..u64::MAX {
-            src = src.next(input, room);
-            if src.ended {
-                break;
-            }
-            if let Some(line) = room.get(..src.len) {
-                self.answer(line::parse(line, src.long));
+            match lines.next(room) {
+                None => break,
+                Some(Ok(n)) => self.answer(line::parse(&room[..n])),
+                Some(Err(TooLong)) => self.answer(line::parse_long(room)),
             }
         }
         self.out.flush();
@@ -128,9 +125,9 @@ fn main(rt: HostRuntime) -> io::Result<()> {
         places: &mut places,
     };
     let mut state = State::new(memory, rt.stdout());
-    let mut input = Input::new(rt.stdin());
-    let mut room = [0u8; limits::LINE];
-    state.run(&mut input, &mut room);
-    input.done()?;
+    let mut lines = Lines::new(rt.stdin());
+    let mut room = [0; limits::LINE];
+    state.run(&mut lines, &mut room);
+    lines.done()?;
     state.out.done()
 }

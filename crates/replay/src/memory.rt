@@ -2,7 +2,7 @@
 use crate::fault::Fault;
 use crate::limits;
 use crate::sizes::Sizes;
-use script::number;
+use tree::lent::Lent;
 
 #[derive(Drop)]
 pub struct Memory<'a> {
@@ -30,31 +30,22 @@ pub struct Workspace<'a> {
     pub heads: &'a mut [u64],
     pub bytes: &'a mut [u8],
     pub scratch: &'a mut [u8],
+    pub lent: Lent,
 }
 
 // The first n of an array.
-fn first<T, const N: usize>(s: &[T; N], n: usize) -> Result<&[T], Fault> {
-    s.get(..n).ok_or(Fault::NotTaken)
-}
-
-// The same, to be written.
 pub fn first_mut<T, const N: usize>(s: &mut [T; N], n: usize) -> Result<&mut [T], Fault> {
     s.get_mut(..n).ok_or(Fault::NotTaken)
 }
 
 impl Memory<'_> {
-    // The image.
-    pub fn image(&self) -> Result<&[u8], Fault> {
-        first(self.image, self.sizes.image_bytes())
-    }
-
     // The image from a block on.
     pub fn image_from(&mut self, a: u64) -> Result<&mut [u8], Fault> {
         let s = self.sizes;
         if s.blocks as u64 <= a {
             return Err(Fault::NotTaken);
         }
-        let start = number::times(a as usize, s.size);
+        let start = (a as usize).saturating_mul(s.size);
         let Memory { image, .. } = self;
         let whole = first_mut(image, s.image_bytes())?;
         whole.get_mut(start..).ok_or(Fault::NotTaken)
@@ -67,8 +58,9 @@ impl Memory<'_> {
         rest.get_mut(..size).ok_or(Fault::NotTaken)
     }
 
-    // What is lent to a call on the open tree, or to the one that opens it: an image there has to be.
-    pub fn workspace(&mut self) -> Result<Workspace<'_>, Fault> {
+    // What is lent to a call on the open tree, or to the one that opens it, with a map or without: an image there has
+    // to be.
+    pub fn workspace(&mut self, map: Option<u64>) -> Result<Workspace<'_>, Fault> {
         let s = self.sizes;
         if s.image_bytes() == 0 {
             return Err(Fault::NotTaken);
@@ -85,6 +77,7 @@ impl Memory<'_> {
             heads: first_mut(heads, s.head_words())?,
             bytes: first_mut(work, s.slot_bytes())?,
             scratch: first_mut(scratch, s.scratch_bytes())?,
+            lent: s.lent(map),
         })
     }
 }

@@ -8,32 +8,33 @@ use seal::bytes;
 
 const MOST_SIZE: usize = 65536;
 
-// A node and its block.
+// A node and its block: its areas follow each other there, and its contents hold its entries.
 #[derive(Clone, Copy)]
 pub struct Met<'a> {
     pub block: &'a [u8],
     pub node: Node,
+    ghost laid: { Laid node (length block.now) },
 }
 
 impl<'a> Met<'a> {
-    // Whether the node's areas follow each other in its block, and its contents hold its entries.
-    fn is_laid(self) -> bool {
-        let v = self.node;
-        let width = if v.ksize == 0 { 8 } else { 4 };
-        v.toc <= v.keys
-            && v.keys <= v.vals
-            && v.vals <= self.block.len()
-            && self.block.len() <= MOST_SIZE
-            && v.nkeys <= (v.keys - v.toc) as u64 / width
+    // A node that is read. What reading has checked is tested again, so that nothing is required here.
+    pub fn new(block: &'a [u8], node: Node) -> Option<Met<'a>> {
+        let width = if node.ksize == 0 { 8 } else { 4 };
+        if node.keys < node.toc || node.vals < node.keys || block.len() < node.vals {
+            return None;
+        }
+        if MOST_SIZE < block.len() || (node.keys - node.toc) as u64 / width < node.nkeys {
+            return None;
+        }
+        Some(Met { block, node })
     }
 
-    // Entry i; none where there is no such entry. What loading has checked is tested again, so that nothing is
-    // required here.
+    // Entry i.
     pub fn span(self, i: u64) -> Option<Span> {
-        if i < self.node.nkeys && self.is_laid() {
-            return Some(read::span_at(self.block, self.node, i as usize));
+        if self.node.nkeys <= i {
+            return None;
         }
-        None
+        Some(read::span_at(self.block, self.node, i as usize))
     }
 
     // The bytes of an entry's key.

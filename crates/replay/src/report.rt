@@ -1,10 +1,9 @@
 // The lines of an accepted flush.
-use crate::answers;
 use crate::memory::Memory;
-use crate::shim::Out;
+use crate::{answers, limits};
 use flush::flush::Flushed;
 use flush::space;
-use script::number;
+use script::out::Out;
 
 // A line of the first n numbers of a list.
 fn list(o: &mut Out, name: &[u8], numbers: &[u64], n: usize) {
@@ -26,21 +25,21 @@ fn moved(o: &mut Out, ids: &[u64], places: &[u64], n: usize) {
 }
 
 // Whether a block's bit was 0 and is 1.
-fn is_new(m: &Memory, a: usize) -> bool {
-    a / 8 < m.bitmap.len() && !space::is_used(m.scratch, a) && space::is_used(m.bitmap, a)
+fn is_new(bitmap: &[u8], old: &[u8; limits::BITMAP], a: usize) -> bool {
+    a / 8 < bitmap.len().min(old.len()) && !space::is_used(old, a) && space::is_used(bitmap, a)
 }
 
 // The blocks written, in the order written: blocks are chosen by rising address.
-fn written(o: &mut Out, m: &Memory) {
+fn written(o: &mut Out, m: &Memory, old: &[u8; limits::BITMAP]) {
     let size = m.sizes.size;
     for a in 0..m.sizes.blocks {
-        if !is_new(m, a) {
+        if !is_new(m.bitmap, old, a) {
             continue;
         }
-        let start = number::times(a, size);
+        let start = a.saturating_mul(size);
         o.open(b"wrote");
         o.number(a as u64);
-        answers::part(o, m.image, start, number::plus(start, size));
+        answers::part(o, m.image, start, start.saturating_add(size));
         o.close();
     }
 }
@@ -55,12 +54,12 @@ fn first(o: &mut Out, f: Flushed) {
     o.close();
 }
 
-// What a flush answered: its numbers, its lists, and the blocks that it wrote.
-pub fn flushed(o: &mut Out, m: &Memory, f: Flushed) {
+// What a flush answered: its numbers, its lists, and the blocks that it wrote, by the bitmap as it was before.
+pub fn flushed(o: &mut Out, m: &Memory, old: &[u8; limits::BITMAP], f: Flushed) {
     let d = f.done;
     first(o, f);
     list(o, b"freed", m.freed, d.freed);
     list(o, b"removed", m.removed, d.removed);
     moved(o, m.ids, m.places, d.moved);
-    written(o, m);
+    written(o, m, old);
 }

@@ -1,54 +1,49 @@
 // Lines that set up the image, the slots and the object map.
 use crate::fault::Fault;
 use crate::limits;
-use crate::memory::{first_mut, Memory};
+use crate::memory::{Memory, first_mut};
 use crate::sizes::Sizes;
 use crate::state::State;
-use script::number;
 use tree::lent;
-
-// Slots of a new image.
-const SLOTS: usize = 64;
 
 impl Memory<'_> {
     // Each chunk's block count what remains for it, its free count the same.
-    fn count_chunks(&mut self) {
-        let each = self.sizes.chunk();
-        let mut rest = self.sizes.blocks;
+    fn count_chunks(&mut self, blocks: u32, each: u32) {
+        let mut rest = blocks;
         for c in 0..limits::CHUNKS {
             let here = rest.min(each);
-            self.counts[c] = here as u32;
-            self.free[c] = here as u32;
+            self.counts[c] = here;
+            self.free[c] = here;
             rest -= here;
         }
     }
 
     // An image of zeros, and its block accounts.
-    fn wipe(&mut self) {
-        if let Ok(image) = first_mut(self.image, self.sizes.image_bytes()) {
-            image.fill(0);
-        }
+    fn wipe(&mut self, blocks: u32, size: u32) -> Result<(), Fault> {
+        self.sizes = Sizes {
+            blocks: blocks as usize,
+            size: size as usize,
+            ..Sizes::NONE
+        };
+        first_mut(self.image, self.sizes.image_bytes())?.fill(0);
         self.bitmap.fill(0);
-        self.count_chunks();
+        self.count_chunks(blocks, size.saturating_mul(8));
+        Ok(())
     }
 }
 
 impl State<'_> {
     // (image BLOCKS SIZE)
     pub fn image(&mut self, blocks: u64, size: u64) -> Result<(), Fault> {
-        let sizes = Sizes {
-            blocks: blocks as usize,
-            size: size as usize,
-            slots: SLOTS,
-        };
-        if blocks == 0 || !lent::is_size(sizes.size) {
+        let b = u32::try_from(blocks)?;
+        let s = u32::try_from(size)?;
+        if b == 0 || !lent::is_size(s as usize) {
             return Err(Fault::NotTaken);
         }
-        if limits::IMAGE / sizes.size < sizes.blocks {
+        if blocks.saturating_mul(size) > limits::IMAGE as u64 {
             return Err(Fault::NotTaken);
         }
-        self.memory.sizes = sizes;
-        self.memory.wipe();
+        self.memory.wipe(b, s)?;
         self.map = None;
         self.opened = None;
         self.walked = None;
@@ -62,7 +57,7 @@ impl State<'_> {
         if slots == 0 || lent::MOST_SLOTS < slots {
             return Err(Fault::NotTaken);
         }
-        if limits::ROOM < number::times(slots, self.memory.sizes.size) {
+        if limits::ROOM < slots.saturating_mul(self.memory.sizes.size) {
             return Err(Fault::NotTaken);
         }
         self.memory.sizes.slots = slots;

@@ -1,8 +1,9 @@
 // How much of the memory an image and the slots take.
-ghost use Rattle.std.specs.Prelude.{◌≡◌};
-ghost use Rattle.script.specs.Number.{sum_of, product};
+ghost use Rattle.std.specs.Prelude.{◌≡◌, ◌+◌, min};
+ghost use Rattle.script.specs.Number.{most, product};
 
 use script::number;
+use tree::lent::Lent;
 
 // Words of a slot, of its shadow, and its mark.
 const WORDS_EACH: usize = 19;
@@ -22,6 +23,16 @@ impl Sizes {
         size: 0,
         slots: 64,
     };
+
+    // What a call on a tree is lent, with a map or without.
+    pub fn lent(self, map: Option<u64>) -> Lent {
+        Lent {
+            size: self.size,
+            slots: self.slots,
+            mapped: map.is_some(),
+            map: map.unwrap_or(0),
+        }
+    }
 
     // Blocks of a chunk: a bit each in a block.
     pub fn chunk(self) -> usize
@@ -67,8 +78,8 @@ impl Sizes {
 
     // Bytes of the scratch.
     pub fn scratch_bytes(self) -> usize
-        ensures { result ≡ product (sum_of (product 2 self.slots) 2) self.size }
+        ensures { result ≡ product (min (product 2 self.slots + 2) most) self.size }
     {
-        number::times(number::plus(number::times(2, self.slots), 2), self.size)
+        number::times(number::times(2, self.slots).saturating_add(2), self.size)
     }
 }

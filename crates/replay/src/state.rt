@@ -1,11 +1,10 @@
 // What the program remembers from line to line, its memory, and where it answers.
 use crate::fault::Fault;
 use crate::memory::Memory;
-use crate::shim::Out;
 use node::order::Order;
+use script::out::Out;
 use std::io::Stdout;
 use tree::editor::Tree;
-use tree::lent::Lent;
 
 // A root, and how it is found: with the map that is lent, if one is, and with the blocks that a flush moved ids to.
 #[derive(Clone, Copy)]
@@ -51,17 +50,6 @@ impl<'a> State<'a> {
     // The open tree.
     pub fn opened(&self) -> Result<Opened, Fault> {
         self.opened.ok_or(Fault::NotTaken)
-    }
-
-    // What is lent to a call on a tree that is found so.
-    pub fn lent_to(&self, p: Place) -> Lent {
-        let s = self.memory.sizes;
-        Lent {
-            size: s.size,
-            slots: s.slots,
-            mapped: p.map.is_some(),
-            map: p.map.unwrap_or(0),
-        }
     }
 
     // An edit or an open is accepted: the tree that it leaves, and an answer that ends in its counts.

@@ -1,52 +1,19 @@
-// The entries walked from the root last opened or flushed, each node read where it lies in the image.
-ghost use Rattle.std.specs.Prelude.{◌≤◌};
+// A walk over the leaves from the root last opened or flushed, each node read where it lies in the image.
+ghost use Rattle.std.specs.Prelude.{◌≤◌, ◌<◌, ◌/◌, length, OnOk};
 
 use crate::fault::Fault;
+use crate::memory::{Memory, first_mut};
 use crate::nodes::Met;
-use crate::shim::Out;
 use crate::state::{Place, State};
 use node::read::Read;
 use node::{read, refusal};
-use script::number;
 use tree::lent::Lent;
 use tree::map;
 use tree::map::Address;
 
 // What is done at each leaf that is met.
-trait Visitor {
+pub trait Visitor {
     fn leaf(&mut self, met: Met);
-}
-
-// How many entries were met.
-#[derive(Drop)]
-struct Count(u64);
-
-impl Visitor for Count {
-    fn leaf(&mut self, met: Met) {
-        self.0 = number::sum(self.0, met.node.nkeys);
-    }
-}
-
-impl Visitor for Out {
-    // Its entries shown.
-    fn leaf(&mut self, met: Met) {
-        for i in 0..met.node.nkeys {
-            if let Some(s) = met.span(i) {
-                entry(self, met, s);
-            }
-        }
-    }
-}
-
-// An entry of a leaf.
-fn entry(o: &mut Out, met: Met, s: read::Span) {
-    if let Some(key) = met.key_in(s) {
-        o.bytes(key);
-    }
-    match met.value_in(s) {
-        Some(value) => o.bytes(value),
-        None => o.text(b" -"),
-    }
 }
 
 // Keys that bound a node: not below the lower one, and below the upper one, if there is one.
@@ -56,10 +23,15 @@ struct Bounds<'a> {
     upper: Option<&'a [u8]>,
 }
 
+const NO_BOUNDS: Bounds = Bounds {
+    lower: &[],
+    upper: None,
+};
+
 // What a walk reads: the image, what is lent to a call on its tree, the root, and the lists of where the last flush
 // moved ids.
 #[derive(Clone, Copy)]
-struct Walk<'a> {
+pub struct Walk<'a> {
     image: &'a [u8],
     lent: Lent,
     place: Place,
@@ -84,14 +56,20 @@ impl<'a> Walk<'a> {
     }
 
     // The node at an address, in its place.
-    fn load(self, place: read::Place, b: Bounds, a: u64) -> Result<Met<'a>, Fault> {
+    fn load(self, place: read::Place, b: Bounds, a: u64) -> Result<Met<'a>, Fault>
+        ensures { OnOk result (a < length self.entry.image.now / self.entry.lent.size) }
+    {
+        let size = self.lent.size;
+        if (self.image.len() / size) as u64 <= a {
+            return Err(Fault::Refused(refusal::ADDRESS));
+        }
         let upper = b.upper.unwrap_or(b.lower);
         let order = self.place.order;
         match map::load_block(self.image, self.lent, order, place, b.lower, upper, a) {
             Read::Refused(x) => Err(Fault::Refused(x)),
             Read::Loaded(node) => {
-                let block = map::block_of(self.image, self.lent.size, a);
-                Ok(Met { block, node })
+                let block = map::block_of(self.image, size, a);
+                Met::new(block, node).ok_or(Fault::Refused(refusal::LAYOUT))
             }
         }
     }
@@ -99,7 +77,7 @@ impl<'a> Walk<'a> {
     // The bounds of child i: its index key, and the next one, or where there is none its parent's.
     fn bounds(self, met: Met<'a>, b: Bounds<'a>, i: u64) -> Bounds<'a> {
         let lower = met.key(i).unwrap_or(b.lower);
-        let upper = met.key(number::sum(i, 1)).or(b.upper);
+        let upper = met.key(i.saturating_add(1)).or(b.upper);
         Bounds { lower, upper }
     }
 
@@ -118,7 +96,7 @@ impl<'a> Walk<'a> {
         self.load(place, b, self.address(r)?)
     }
 
-    // The root, with 10 as open has it.
+    // The root, held to 10 as open has it.
     fn root(self) -> Result<Met<'a>, Fault> {
         let place = read::Place {
             root: true,
@@ -130,7 +108,8 @@ impl<'a> Walk<'a> {
         };
         let a = self.address(self.place.root)?;
         let met = self.load(place, NO_BOUNDS, a)?;
-        if !map::root_holds(self.image, self.lent, a, self.lent.mapped, met.node) {
+        let by_id = self.place.map.is_some();
+        if !map::root_holds(self.image, self.lent, a, by_id, met.node) {
             return Err(Fault::Refused(refusal::ROOT));
         }
         Ok(met)
@@ -157,39 +136,32 @@ impl<'a> Walk<'a> {
     }
 
     // The leaves from the root on.
-    fn leaves<V: Visitor>(self, to: &mut V) -> Result<(), Fault> {
+    pub fn leaves<V: Visitor>(self, to: &mut V) -> Result<(), Fault> {
         let root = self.root()?;
         self.below(root, NO_BOUNDS, root.node.level, to)
     }
 }
 
-const NO_BOUNDS: Bounds = Bounds {
-    lower: &[],
-    upper: None,
-};
-
-impl State<'_> {
-    // (walk): walked twice, since the answer starts with how many entries there are.
-    pub fn walk(&mut self) -> Result<(), Fault> {
-        let place = self.walked.ok_or(Fault::NotTaken)?;
-        let lent = self.lent_to(place);
+impl Memory<'_> {
+    // What is read by a walk from a root.
+    pub fn walk(&mut self, place: Place) -> Result<Walk<'_>, Fault> {
+        let s = self.sizes;
+        let lent = s.lent(place.map);
         if lent.size < 512 || 65536 < lent.size {
             return Err(Fault::Refused(refusal::LENT));
         }
-        let memory = &self.memory;
-        let walk = Walk {
-            image: memory.image()?,
+        let Memory {
+            image,
+            ids,
+            places,
+            ..
+        } = self;
+        Ok(Walk {
+            image: first_mut(image, s.image_bytes())?,
             lent,
             place,
-            ids: memory.ids.get(..place.moved).ok_or(Fault::NotTaken)?,
-            places: memory.places.as_slice(),
-        };
-        let mut count = Count(0);
-        walk.leaves(&mut count)?;
-        self.out.open(b"walk");
-        self.out.number(count.0);
-        walk.leaves(&mut self.out)?;
-        self.out.close();
-        Ok(())
+            ids: first_mut(ids, place.moved)?,
+            places: first_mut(places, place.moved)?,
+        })
     }
 }
