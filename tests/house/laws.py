@@ -8,7 +8,7 @@ TOKEN = re.compile(r'[^\s(){}\[\],;.«»⌜⌝`]+')
 PARTS = re.compile(r'([\s(){}\[\],;.«»⌜⌝]+)')
 DECLARED = re.compile(r'^(\s*)((?:unfoldable |abbrev |opaque )*)(pub )?((?:unfoldable |abbrev )*)(record |data )?([^\s(){}:;=]+)((?:\s+[({][^)}]*[)}])*)\s*:\s')
 NO_NAME = {'use', 'mod', 'unfolding', 'where', 'let', 'in', 'infixr', 'infixl', 'infix', 'module'}
-BROUGHT = re.compile(r'^(?:unfoldable )?(?:pub |ghost )?use Rattle\.(\w+)\.specs\.([\w.]+?)(?:\.\{([^}]*)\}| as (\S+?));?\s*$', re.M)
+BROUGHT = re.compile(r'^ *(?:unfoldable )?(?:pub |ghost )?use Rattle\.(\w+)\.specs\.([\w.]+?)(?:\.\{([^}]*)\}| as (\S+?));?\s*$', re.M)
 WHOLE = re.compile(r'Rattle\.(\w+)\.specs\.((?:[a-z]\w*\.)*[A-Z]\w*)\.([^\s(){}\[\],;]+)')
 BOUND = re.compile(r'[({]([^(){}:]+?) : |λ ([^.()]+?)\.')
 

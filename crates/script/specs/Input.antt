@@ -1,6 +1,6 @@
 -- Lines of standard input: what becomes of the bytes that were read, and, where the reader's bytes are known, of those to come.
-use Rattle.std.specs.Prelude.{Option, Some, None, Result, Ok, Err, IsSome, IsNone, is_none, IfSome, IfOk, cond, not, ◌&&◌, ◌||◌, ◌^◌, ◌<◌, ◌≡◌, List, [], ◌∷◌, Bool, true, false, ℕ, ◌+◌, ◌-◌, ◌≤◌, length, take, drop, set, ltb, eqb}
-use Rattle.std.specs.Io.KnownBytes.{Consumes, IsAtEnd, prepend_known}
+use Rattle.std.specs.Prelude.{Option, Some, None, Result, Ok, Err, IsSome, IsNone, is_none, IfSome, IfOk, cond, ◌||◌, ◌^◌, ◌<◌, ◌≡◌, List, [], ◌∷◌, Bool, true, false, ℕ, ◌+◌, ◌-◌, ◌≤◌, length, take, drop, set, ltb, eqb}
+use Rattle.std.specs.Io.KnownBytes.{prepend_known}
 use Rattle.script.specs.declared.input.Lines.{Lines}
 use Rattle.script.specs.declared.input.TooLong.{TooLong}
 
@@ -65,18 +65,12 @@ pub record Ahead {R : Type 0} (o : Lines R) (l : List ℕ) (r : Option (Result �
 
 -- ---- a reader whose bytes are known
 
--- a read that gave n bytes, unless it failed: the known bytes begin with them, and none are left where it gave none
-pub record Came {E : Type 0} (f g : Option E) (old new : Option (List ℕ)) (n : ℕ) (input : List ℕ) : Type 0 where
-  pub kept : IsNone g → IsNone f
-  pub came : IsNone g → Consumes old new (take n input)
-  pub done : IsNone g → n ≡ 0 → 0 < length input → IsAtEnd new
-
--- bytes read into a line: it has those before the first line feed, those behind it are to come, and it ends the input where
--- there is neither a byte nor a line feed
+-- bytes read into a line: it has those before the first line feed, those behind it are to come, and there is no line where
+-- there is no byte
 pub record Reads (l : Line) (xs : List ℕ) (r : Option (Result ℕ TooLong)) (room : List ℕ) (to_come : Option (List ℕ)) : Type 0 where
   pub line : line_of r room ≡ filled l xs
   pub rest : to_come ≡ Some (after_line xs)
-  pub ended : is_none r ≡ (not (has_feed xs) && eqb (line_of r room).len 0)
+  pub ended : is_none r ≡ eqb (length xs) 0
 
 -- the bytes to come, those left of the bytes read first
 abbrev pub to_come : {R : Type 0} → (R → Option (List ℕ)) → Lines R → Option (List ℕ)

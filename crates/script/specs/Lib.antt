@@ -3,3 +3,7 @@ pub mod Number
 pub mod Words
 pub mod Out
 pub mod Input
+-- What only internal contracts and proofs cite.
+pub mod internal
+-- Laws: checked by the machine, nothing to believe.
+pub mod laws

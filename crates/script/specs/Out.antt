@@ -1,6 +1,6 @@
 -- Answers: the bytes that wait after a text was put, and what is written. Where as many wait as there is room for, they are
 -- written and the next byte waits alone.
-use Rattle.std.specs.Prelude.{◌≡◌, Option, IsSome, IsNone, List, [], ◌∷◌, ◌++◌, cond, ℕ, zero, suc, ◌+◌, ◌/◌, ◌%◌, length, ltb}
+use Rattle.std.specs.Prelude.{◌≡◌, Option, IsSome, IsNone, List, [], ◌∷◌, ◌++◌, cond, ℕ, ◌+◌, ◌/◌, ◌%◌, length, ltb, decimal}
 use Rattle.std.specs.Io.KnownBytes.{Appends}
 use Rattle.script.specs.declared.out.TheConstants.{ROOM}
 use Rattle.script.specs.declared.out.Out.{Out}
@@ -33,14 +33,9 @@ pub record Gathers {W : Type 0} (contents : W → Option (List ℕ)) (o p : Out 
   pub buffer : p.waiting.items ≡ puts o.waiting.items s
   pub written : Wrote o.failed p.failed (contents o.to) (contents p.to) (sents o.waiting.items s)
 
--- the decimal digits of n, at most f of them
-unfoldable pub decimal : ℕ → ℕ → List ℕ
-decimal zero n = []
-decimal (suc f) n = cond (ltb n 10) ((48 + n) ∷ []) (decimal f (n / 10) ++ ((48 + n % 10) ∷ []))
-
--- a space and a decimal number; 20 digits hold each number of 64 bits
-unfoldable pub number_text : ℕ → List ℕ
-number_text x = 32 ∷ decimal 20 x
+-- a space and a decimal number
+abbrev pub number_text : ℕ → List ℕ
+number_text x = 32 ∷ decimal x
 
 -- a lower-case hexadecimal digit
 unfoldable pub hex_digit : ℕ → ℕ

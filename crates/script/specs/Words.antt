@@ -1,6 +1,7 @@
 -- One line of the script language: what stands between its brackets, the words there, the numbers and the byte strings.
 -- A text is a list of bytes.
-use Rattle.std.specs.Prelude.{Option, Some, None, List, [], ◌∷◌, Bool, true, false, cond, not, ◌&&◌, ℕ, zero, suc, ◌+◌, ◌-◌, ◌*◌, ◌/◌, ◌%◌, ◌^◌, min, length, take, drop, get_or, leb, ltb, eqb}
+use Rattle.std.specs.Prelude.{Option, Some, None, List, [], ◌∷◌, Bool, true, cond, ◌&&◌, ℕ, ◌+◌, ◌-◌, ◌*◌, ◌%◌, ◌^◌, length, take, drop, get_or, leb, ltb, eqb, slice_get, slice_index, EachIndex, unwrap_or, is_some, ◌≡◌, ◌<◌}
+use Rattle.std.specs.List.{slice_split, list_all}
 use Rattle.script.specs.Number.{most}
 use Rattle.script.specs.declared.words.ByteString.{ByteString}
 
@@ -12,29 +13,17 @@ bracketed l = leb 2 (length l) && eqb (get_or l 0 0) 40 && eqb (get_or l (length
 unfoldable pub inner_of : List ℕ → List ℕ
 inner_of l = cond (bracketed l) (take (length l - 2) (drop 1 l)) []
 
--- how many spaces a text has
-unfoldable pub spaces : List ℕ → ℕ
-spaces [] = 0
-spaces (b ∷ s) = cond (eqb b 32) 1 0 + spaces s
+-- the words of a text: what stands between its spaces
+unfoldable pub words_of : List ℕ → List (List ℕ)
+words_of s = slice_split (λ b. eqb b 32) s
 
 -- how many words a text has: one more than spaces
 abbrev pub word_count : List ℕ → ℕ
-word_count s = 1 + spaces s
-
--- what follows the first k spaces; nothing where there are fewer
-unfoldable pub after : ℕ → List ℕ → List ℕ
-after zero s = s
-after (suc k) [] = []
-after (suc k) (b ∷ s) = cond (eqb b 32) (after k s) (after (suc k) s)
-
--- what stands before the first space; all where there is none
-unfoldable pub up_to_space : List ℕ → List ℕ
-up_to_space [] = []
-up_to_space (b ∷ s) = cond (eqb b 32) [] (b ∷ up_to_space s)
+word_count s = length (words_of s)
 
 -- word k; an empty one where there are fewer words
 unfoldable pub word_of : List ℕ → ℕ → List ℕ
-word_of s k = up_to_space (after k s)
+word_of s k = unwrap_or (slice_get (words_of s) k) []
 
 -- the value of a decimal digit; 10 where a byte is none
 unfoldable pub digit_of : ℕ → ℕ
@@ -58,52 +47,33 @@ numeral n w = all_digits w && leb (spelled n w) most
 unfoldable pub is_number : List ℕ → Bool
 is_number w = leb 1 (length w) && numeral 0 w
 
--- the number of a word; the greatest where it is above that
-unfoldable pub number_of : List ℕ → ℕ
-number_of w = min (spelled 0 w) most
-
 -- the number of a word that is one
 abbrev pub number_read : List ℕ → Option ℕ
-number_read w = cond (is_number w) (Some (number_of w)) None
-
--- whether a word is a number below 2^32
-unfoldable pub is_u32 : List ℕ → Bool
-is_u32 w = is_number w && ltb (number_of w) (2 ^ 32)
+number_read w = cond (is_number w) (Some (spelled 0 w)) None
 
 -- the number below 2^32 of a word that is one
 abbrev pub u32_read : List ℕ → Option ℕ
-u32_read w = cond (is_u32 w) (Some (number_of w)) None
+u32_read w = cond (is_number w && ltb (spelled 0 w) (2 ^ 32)) (Some (spelled 0 w)) None
 
--- whether the n words from word k on are numbers
-unfoldable pub are_numbers : List ℕ → ℕ → ℕ → Bool
-are_numbers s k zero = true
-are_numbers s k (suc n) = is_number (word_of s k) && are_numbers s (k + 1) n
+-- whether each of the words from word k on, as many as there are numbers, is its number
+abbrev pub AreNumbers : List ℕ → ℕ → List ℕ → Type 0
+AreNumbers s k xs = EachIndex xs (λ i. number_read (word_of s (k + i)) ≡ Some (slice_index xs i))
 
--- the numbers of the n words from word k on
-unfoldable pub numbers_of : List ℕ → ℕ → ℕ → List ℕ
-numbers_of s k zero = []
-numbers_of s k (suc n) = number_of (word_of s k) ∷ numbers_of s (k + 1) n
+-- whether one of the n words from word k on is no number
+abbrev pub LacksNumber : List ℕ → ℕ → ℕ → Type 0
+LacksNumber s k n = (i : ℕ) × (i < n) × (number_read (word_of s (k + i)) ≡ None)
 
--- the value of a lower-case hexadecimal digit; 16 where a byte is none
-unfoldable pub nibble_of : ℕ → ℕ
-nibble_of b = cond (leb 48 b && leb b 57) (b - 48) (cond (leb 97 b && leb b 102) (b - 87) 16)
+-- the value of a lower-case hexadecimal digit
+abbrev pub nibble_of : ℕ → Option ℕ
+nibble_of b = cond (leb 48 b && leb b 57) (Some (b - 48)) (cond (leb 97 b && leb b 102) (Some (b - 87)) None)
 
--- whether every byte is a lower-case hexadecimal digit
-unfoldable pub all_nibbles : List ℕ → Bool
-all_nibbles [] = true
-all_nibbles (b ∷ w) = not (eqb (nibble_of b) 16) && all_nibbles w
-
--- whether a word is a byte string: x and two hexadecimal digits a byte
+-- whether a word is a byte string: x and two lower-case hexadecimal digits a byte
 unfoldable pub is_bytes : List ℕ → Bool
-is_bytes w = eqb (length w % 2) 1 && eqb (get_or w 0 0) 120 && all_nibbles (drop 1 w)
-
--- how many bytes a byte string has: two digits a byte, behind the x
-abbrev pub byte_count : List ℕ → ℕ
-byte_count w = (length w - 1) / 2
+is_bytes w = eqb (length w % 2) 1 && eqb (get_or w 0 0) 120 && list_all (λ b. is_some (nibble_of b)) (drop 1 w)
 
 -- the byte of two hexadecimal digits, the upper first
 abbrev pub byte_of : ℕ → ℕ → ℕ
-byte_of a b = nibble_of a % 16 * 16 + nibble_of b % 16
+byte_of a b = unwrap_or (nibble_of a) 0 * 16 + unwrap_or (nibble_of b) 0
 
 -- the bytes of digits, two a byte; one left over at the end is left out
 unfoldable pub pairs : List ℕ → List ℕ

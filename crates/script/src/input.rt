@@ -1,5 +1,6 @@
 // Lines of standard input.
-ghost use Rattle.std.specs.Prelude.{◌≡◌, ◌+◌, ◌≤◌, ◌<◌, true, length, min, take, drop, ◌++◌, IsOk, IsNone, MatchOption, Err};
+ghost use Rattle.std.specs.Prelude.{◌≡◌, ◌+◌, ◌-◌, ◌^◌, ◌≤◌, ◌<◌, eqb, true, length, min, position, IsOk, IsNone, MatchOption, MatchResult, Err};
+ghost use Rattle.script.specs.internal.Written.{written};
 ghost use Rattle.script.specs.declared.input.TheConstants.{ROOM};
 
 use std::io::{Error, Read, Stdin};
@@ -60,14 +61,16 @@ impl<R> Lines<R> {
 }
 
 impl<R: Read> Lines<R> {
-    ghost use Rattle.script.specs.Input.{has_feed, left_of, Fits, Ahead, Came, ReadsKnown};
+    ghost use Rattle.script.specs.Input.{has_feed, left_of, Fits, Ahead, ReadsKnown};
+    ghost use Rattle.script.specs.internal.Coming.{Refills};
 
-    // Some more bytes, of which none is left then at the end.
-    fn fill(&mut self)
-        ensures start { self.new.start ≡ 0 }
-        ensures came { Came self.old.failed self.new.failed (R.remaining self.old.from) (R.remaining self.new.from)
-            self.new.end self.new.bytes }
+    // Reads some more bytes where none is left: there is none then at the end, and where a read failed.
+    fn refill(&mut self)
+        ensures { Refills R.remaining self.old self.new }
     {
+        if self.start < self.end {
+            return;
+        }
         self.start = 0;
         self.end = match self.from.read(&mut self.bytes) {
             Ok(n) => n,
@@ -86,14 +89,12 @@ impl<R: Read> Lines<R> {
     {
         let mut len = 0;
         for _turn in 0..u64::MAX {
-            if self.start == self.end {
-                self.fill();
-                if self.start == self.end {
-                    break;
-                }
-            }
+            self.refill();
             let left = &self.bytes[self.start..self.end];
-            match left.iter().position(|b| *b == b'\n') {
+            if left.is_empty() {
+                break;
+            }
+            match feed(left) {
                 Some(n) => {
                     len = put(line, len, &left[..n]);
                     self.start += n + 1;
@@ -105,20 +106,37 @@ impl<R: Read> Lines<R> {
                 }
             }
         }
-        if len.min(line.len()) == 0 {
-            return None;
-        }
-        Some(fitting(len, line.len()))
+        last(len, line.len())
     }
 }
 
+// Where the first line feed is.
+fn feed(bytes: &[u8]) -> Option<usize>
+    ensures { result ≡ position (λ b. eqb b 10) bytes.now }
+{
+    bytes.iter().position(|b| *b == b'\n')
+}
+
 // A line of so many bytes in its room.
-fn fitting(len: usize, room: usize) -> Result<usize, TooLong> {
+fn fitting(len: usize, room: usize) -> Result<usize, TooLong>
+    ensures { MatchResult result (λ n. (n ≡ len) × (len ≤ room)) (λ _. room < len) }
+{
     if len <= room { Ok(len) } else { Err(TooLong) }
 }
 
+// The last line, of so many bytes in its room: none where it has no byte.
+fn last(len: usize, room: usize) -> Option<Result<usize, TooLong>>
+    ensures { MatchOption result (len ≡ 0)
+        (λ l. (0 < len) × MatchResult l (λ n. (n ≡ len) × (len ≤ room)) (λ _. room < len)) }
+{
+    (0 < len).then(|| fitting(len, room))
+}
+
 // More bytes of a line that has so many, put into its room as far as it goes. The answer is how many the line has then.
-fn put(line: &mut [u8], len: usize, part: &[u8]) -> usize {
+fn put(line: &mut [u8], len: usize, part: &[u8]) -> usize
+    ensures count { result ≡ min (len + length part.now) (2 ^ 64 - 1) }
+    ensures room { line.new ≡ written line.old len part.now }
+{
     let start = len.min(line.len());
     let n = part.len().min(line.len() - start);
     line[start..start + n].copy_from_slice(&part[..n]);

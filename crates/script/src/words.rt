@@ -1,9 +1,11 @@
 // One line of the script language: what stands between its brackets, and the words there, parted by single spaces.
-ghost use Rattle.std.specs.Prelude.{◌≡◌, ◌++◌, ◌+◌, ◌<◌, ◌^◌, min, length, take, drop, true, false, MatchOption, SomeIff};
-ghost use Rattle.script.specs.Words.{inner_of, word_count, word_of, number_read, u32_read, are_numbers, numbers_of};
-ghost use Rattle.script.specs.Words.{nibble_of, is_bytes, decoded, bytes_of};
+ghost use Rattle.std.specs.Prelude.{◌≡◌, ◌++◌, ◌+◌, ◌*◌, ◌<◌, ◌^◌, min, length, take, drop, true, false, MatchOption, SomeIff, is_some};
+ghost use Rattle.std.specs.List.{list_all};
+ghost use Rattle.script.specs.Words.{inner_of, word_count, word_of, number_read, u32_read, AreNumbers, LacksNumber};
+ghost use Rattle.script.specs.Words.{digit_of, nibble_of, is_bytes, decoded, bytes_of};
 
 // What stands between the brackets; nothing where there are none.
+#[tactic(auto, unfolding(crate::specs::Words::inner_of, crate::specs::Words::bracketed))]
 pub fn inner(line: &[u8]) -> &[u8]
     ensures { result.now ≡ inner_of line.now }
 {
@@ -27,6 +29,15 @@ pub fn word(s: &[u8], k: usize) -> &[u8]
     s.split(|b| *b == b' ').nth(k).unwrap_or(&[])
 }
 
+// A number with one digit more, where the byte is one and the number stays below 2^64.
+#[tactic(auto, unfolding(crate::specs::Words::digit_of))]
+fn longer(n: u64, b: u8) -> Option<u64>
+    ensures { SomeIff result ((digit_of b < 10) × (n * 10 + digit_of b < 2 ^ 64)) (n * 10 + digit_of b) }
+{
+    let digit = char::from(b).to_digit(10)?;
+    n.checked_mul(10)?.checked_add(u64::from(digit))
+}
+
 // The number of a word, where it is a decimal number below 2^64.
 pub fn number(w: &[u8]) -> Option<u64>
     ensures { result ≡ number_read w.now }
@@ -34,10 +45,9 @@ pub fn number(w: &[u8]) -> Option<u64>
     if w.is_empty() {
         return None;
     }
-    let mut n: u64 = 0;
+    let mut n = 0;
     for b in w {
-        let digit = char::from(*b).to_digit(10)?;
-        n = n.checked_mul(10)?.checked_add(u64::from(digit))?;
+        n = longer(n, *b)?;
     }
     Some(n)
 }
@@ -52,8 +62,7 @@ pub fn number_u32(w: &[u8]) -> Option<u32>
 // The numbers of the words from one on, where all are numbers.
 pub fn numbers<const N: usize>(s: &[u8], from: usize) -> Option<[u64; N]>
     requires { from + N < 2 ^ 64 }
-    ensures { MatchOption result (are_numbers s.now from N ≡ false)
-        (λ xs. (are_numbers s.now from N ≡ true) × (xs ≡ numbers_of s.now from N)) }
+    ensures { MatchOption result (LacksNumber s.now from N) (AreNumbers s.now from) }
 {
     let mut found = [0; N];
     for i in 0..N {
@@ -69,20 +78,29 @@ pub struct ByteString<'a> {
 }
 
 // The byte string of a word, where it is one.
+#[tactic(auto, unfolding(crate::specs::Words::is_bytes, crate::specs::Words::decoded))]
 pub fn bytes(w: &[u8]) -> Option<ByteString<'_>>
     ensures { MatchOption result (is_bytes w.now ≡ false)
         (λ b. (is_bytes w.now ≡ true) × (bytes_of b ≡ decoded w.now)) }
 {
-    let digits = w.strip_prefix(b"x")?;
-    if digits.len() % 2 == 0 && digits.iter().all(|b| nibble(*b).is_some()) {
-        Some(ByteString { digits })
-    } else {
-        None
+    match w {
+        [b'x', digits @ ..] if digits.len() % 2 == 0 && are_nibbles(digits) => {
+            Some(ByteString { digits })
+        }
+        _ => None,
     }
+}
+
+// Whether every byte is a lower-case hexadecimal digit.
+fn are_nibbles(digits: &[u8]) -> bool
+    ensures { result ≡ list_all (λ b. is_some (nibble_of b)) digits.now }
+{
+    digits.iter().all(|b| nibble(*b).is_some())
 }
 
 impl ByteString<'_> {
     // How many bytes it has.
+    #[tactic(auto, using(crate::specs::laws::ByteLaws::length_pairs))]
     pub fn len(self) -> usize
         ensures { result ≡ length (bytes_of self.entry) }
     {
@@ -90,6 +108,7 @@ impl ByteString<'_> {
     }
 
     // Its bytes, as many as there is room for. The answer is how many.
+    #[tactic(auto, using(crate::specs::laws::ByteLaws::length_pairs, crate::specs::laws::ByteLaws::pairs_at))]
     pub fn decode(self, out: &mut [u8]) -> usize
         ensures count { result ≡ min (length (bytes_of self.entry)) (length out.old) }
         ensures bytes { out.new ≡ take result (bytes_of self.entry) ++ drop result out.old }
@@ -106,7 +125,7 @@ impl ByteString<'_> {
 
 // The value of a lower-case hexadecimal digit. `to_digit` has upper-case ones too.
 fn nibble(b: u8) -> Option<u8>
-    ensures { SomeIff result (nibble_of b < 16) (nibble_of b) }
+    ensures { result ≡ nibble_of b }
 {
     match b {
         b'0'..=b'9' => Some(b - b'0'),

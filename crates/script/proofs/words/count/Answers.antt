@@ -1,0 +1,10 @@
+use Rattle.std.proofs.Common.{rules, tests, eqb}
+use Rattle.std.proofs.lemmas.Iterator.Consumers.{count_from_yields_List}
+use Rattle.std.proofs.lemmas.Iterator.Splits.{YieldsList-from_slice_split}
+use Rattle.script.specs.Words.{words_of}
+use Rattle.script.proofs.words.count.Goals as goal
+
+pub returns : goal.returns
+unfolding words_of
+returns c = count_from_yields_List _ _ c.count.ensures.ran
+    (YieldsList-from_slice_split _ (λ b. eqb b 32) c.args.s.now c.split.ensures.rest c.split.ensures.done c.split.ensures.closure (λ x b q k. search (rules, tests)))

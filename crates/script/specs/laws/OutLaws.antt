@@ -1,0 +1,141 @@
+-- Laws of answers: what a buffer gathers, text by text. Assumes nothing.
+use Rattle.std.specs.Prelude.{◌≡◌, refl, List, [], ◌∷◌, ◌++◌, Bool, true, false, eqb, ℕ, zero, suc, ◌-◌, ◌/◌, ◌%◌, ◌^◌, ◌≤◌, ◌<◌, length, Option, None, Some, IsNone, IsSome, decimal}
+use Rattle.std.proofs.Common.{sym, ap, ◌∙◌, pow-suc, arith, append_assoc, append-nil, lt-ltb, le-ltb, eqb-true}
+use Rattle.std.proofs.Math.Nat.{one-le-pow}
+use Rattle.std.proofs.KnownBytes.{Appends-nil, Appends-trans}
+use Rattle.std.proofs.lemmas.Bool.{eqb-false}
+use Rattle.std.proofs.lemmas.Fmt.{decimal_digit, decimal_step}
+use Rattle.arrayvec.specs.ArrayVec.{ArrayVec}
+use Rattle.io.specs.Digits.{last_digits, IsDigitCount}
+use Rattle.script.specs.declared.out.TheConstants.{ROOM}
+use Rattle.script.specs.declared.out.Out.{Out}
+use Rattle.script.specs.Out.{put, puts, sent, sents, Wrote, Gathers, hex_digit, hex_text}
+
+-- ---- what is written
+
+-- nothing written
+pub wrote_none : {E : Type 0} (f : Option E) (a : Option (List ℕ)) → Wrote f f a a []
+wrote_none f a = record { kept = λ s. refl; grown = λ n. Appends-nil a }
+
+none_before : {E : Type 0} (g h : Option E) → (IsSome g → h ≡ g) → IsNone h → IsNone g
+none_before None h k n = refl
+none_before (Some e) h k n = rw (k refl) at n
+
+some_after : {E : Type 0} (f g : Option E) → g ≡ f → IsSome f → IsSome g
+some_after f g e s = rw e s
+
+-- one after another
+wrote_both : {E : Type 0} (f g h : Option E) (a b c : Option (List ℕ)) (xs ys : List ℕ) → Wrote f g a b xs → Wrote g h b c ys
+    → Wrote f h a c (xs ++ ys)
+wrote_both f g h a b c xs ys p q = record {
+  kept = λ (s : IsSome f). q.kept (some_after f g (p.kept s) s) ∙ p.kept s;
+  grown = λ (n : IsNone h). Appends-trans a b c xs ys (p.grown (none_before g h q.kept n)) (q.grown n);
+}
+
+-- ---- a text, and then one more
+
+puts_append : (s t h : List ℕ) → puts h (s ++ t) ≡ puts (puts h s) t
+unfolding puts
+puts_append [] t h = refl
+puts_append (b ∷ s) t h = puts_append s t (put h b)
+
+sents_append : (s t h : List ℕ) → sents h (s ++ t) ≡ sents h s ++ sents (puts h s) t
+unfolding sents puts
+sents_append [] t h = refl
+sents_append (b ∷ s) t h = ap (λ (x : List ℕ). sent h b ++ x) (sents_append s t (put h b))
+    ∙ sym (append_assoc (sent h b) (sents (put h b) s) (sents (puts (put h b) s) t))
+
+module _ {W : Type 0} {contents : W → Option (List ℕ)} where
+  pub gathers_none : (o : Out W) → Gathers contents o o []
+  unfolding puts sents
+  gathers_none o = record { buffer = refl; written = wrote_none o.failed (contents o.to) }
+
+  pub gathers_both : {o p q : Out W} {s t : List ℕ} → Gathers contents o p s → Gathers contents p q t → Gathers contents o q (s ++ t)
+  gathers_both {o} {p} {q} {s} {t} g h =
+      let e : sents o.waiting.items s ++ sents p.waiting.items t ≡ sents o.waiting.items (s ++ t) =
+          rw g.buffer (sym (sents_append s t o.waiting.items)) in
+      record {
+        buffer = h.buffer ∙ ap (λ (x : List ℕ). puts x t) g.buffer ∙ sym (puts_append s t o.waiting.items);
+        written = rw e at (wrote_both o.failed p.failed q.failed (contents o.to) (contents p.to) (contents q.to) _ _ g.written h.written);
+      }
+
+  -- ---- a byte
+
+  -- where there is room for it
+  pub gathers_room : (o m : Out W) (v : ArrayVec ℕ) (b : ℕ) (full : Bool) → full ≡ eqb (length o.waiting.items) ROOM → full ≡ false
+      → length o.waiting.items ≤ ROOM → m ≡ o → v.items ≡ m.waiting.items ++ (b ∷ [])
+      → Gathers contents o (record { waiting = v; to = m.to; failed = m.failed }) (b ∷ [])
+  unfolding puts put sents sent
+  gathers_room o m v b full t n l e f =
+      let k : length o.waiting.items ≡ ROOM → ⊥ = eqb-false (length o.waiting.items) ROOM (sym t ∙ n) in
+      let h : length o.waiting.items < ROOM = omega arith in
+      rw e (record {
+        buffer = rw (lt-ltb (length o.waiting.items) ROOM h) (rw e at f);
+        written = rw (lt-ltb (length o.waiting.items) ROOM h) (wrote_none o.failed (contents o.to));
+      })
+
+  -- where there is none, after what waited is written
+  pub gathers_full : (o p m : Out W) (v : ArrayVec ℕ) (b : ℕ) (full : Bool) → full ≡ eqb (length o.waiting.items) ROOM → full ≡ true
+      → p.waiting.items ≡ [] → Wrote o.failed p.failed (contents o.to) (contents p.to) o.waiting.items → m ≡ p
+      → v.items ≡ m.waiting.items ++ (b ∷ []) → Gathers contents o (record { waiting = v; to = m.to; failed = m.failed }) (b ∷ [])
+  unfolding puts put sents sent
+  gathers_full o p m v b full t n w r e f =
+      let k : length o.waiting.items ≡ ROOM = eqb-true (length o.waiting.items) ROOM (sym t ∙ n) in
+      let h : ROOM ≤ length o.waiting.items = omega arith in
+      rw e (record {
+        buffer = rw (le-ltb (length o.waiting.items) ROOM h) (rw (e, w) at f);
+        written = rw (le-ltb (length o.waiting.items) ROOM h, append-nil o.waiting.items) r;
+      })
+
+-- ---- numbers
+
+digits_one : (n : ℕ) → n < 10 ^ 1 → last_digits 10 1 n ≡ decimal n
+digits_one n g =
+    let p : n < 10 = g in
+    let q : n % 10 ≡ n = omega arith in
+    rw (q, lt-ltb n 10 p, decimal_digit n p)
+
+-- the fewest digits that hold a number are its decimal digits
+digits_decimal : (k n : ℕ) → n < 10 ^ suc k → (0 < k → 10 ^ k ≤ n) → n < 2 ^ 64 → last_digits 10 (suc k) n ≡ decimal n
+digits_decimal zero n g l s = digits_one n g
+digits_decimal (suc k) n g l s =
+    let a : 10 ^ suc k ≤ n = l (omega arith) in
+    let z : 0 < 10 = omega arith in
+    let t : 10 ≤ n = omega (arith, pow-suc 10 k, one-le-pow k 10 z) in
+    let m : n % 10 < 10 = omega arith in
+    let c : n / 10 < 10 ^ suc k = omega (arith, pow-suc 10 (suc k)) in
+    let d : 10 ^ k ≤ n / 10 = omega (arith, pow-suc 10 k) in
+    let v : n / 10 < 2 ^ 64 = omega arith in
+    rw (decimal_step n t s, lt-ltb (n % 10) 10 m, digits_decimal k (n / 10) c (λ (z : 0 < k). d) v)
+
+pub fewest_decimal : (k n : ℕ) → IsDigitCount 10 1 n k → n < 2 ^ 64 → last_digits 10 k n ≡ decimal n
+fewest_decimal zero n (a, b, c) f = absurd (omega arith)
+fewest_decimal (suc k) n (a, b, c) f =
+    let e : suc k - 1 ≡ k = omega arith in
+    let l : 0 < k → 10 ^ k ≤ n = λ (z : 0 < k). rw e at (c (omega arith)) in
+    digits_decimal k n b l f
+
+-- ---- byte strings
+
+two_places : (k b : ℕ) → 2 ≤ k → (2 < k → 16 ^ (k - 1) ≤ b) → b < 2 ^ 8 → k ≡ 2
+two_places (suc (suc zero)) b l m h = refl
+two_places (suc (suc (suc k))) b l m h =
+    let e : suc (suc (suc k)) - 1 ≡ suc (suc k) = omega arith in
+    let p : 16 ^ suc (suc k) ≤ b = rw e at (m (omega arith)) in
+    let z : 0 < 16 = omega arith in
+    absurd (omega (arith, pow-suc 16 (suc k), pow-suc 16 k, one-le-pow k 16 z))
+two_places zero b l m h = absurd (omega arith)
+two_places (suc zero) b l m h = absurd (omega arith)
+
+-- a byte has two hexadecimal digits
+pub two_digits : (k b : ℕ) → IsDigitCount 16 2 b k → b < 2 ^ 8 → last_digits 16 k b ≡ hex_text (b ∷ [])
+unfolding hex_text hex_digit
+two_digits k b (l, g, m) h =
+    let e : k ≡ 2 = two_places k b l m h in
+    let q : b / 16 % 16 ≡ b / 16 = omega arith in
+    rw (e, q)
+
+pub hex_append : (s t : List ℕ) → hex_text (s ++ t) ≡ hex_text s ++ hex_text t
+unfolding hex_text
+hex_append [] t = refl
+hex_append (b ∷ s) t = ap (λ (x : List ℕ). hex_digit (b / 16) ∷ hex_digit (b % 16) ∷ x) (hex_append s t)
