@@ -54,6 +54,7 @@ impl Root {
     }
 
     // Packs it, a node with no entries, if that fits the block.
+    #[tactic(auto, unfolding(node::specs::Records::records_length))]
     fn pack(self, block: &mut [u8]) -> Result<(), Fault> {
         let size = block.len();
         if size < 512 || 65536 < size {

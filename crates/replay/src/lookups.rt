@@ -5,10 +5,45 @@ use crate::state::{Opened, Place, State};
 use crate::{answers, keys, limits};
 use node::order::Order;
 use script::words::ByteString;
+use tree::editor::Tree;
 use tree::floor::Floor;
 use tree::get::Got;
 use tree::lookup;
 use tree::range::Ranged;
+
+// What `get` found.
+enum Copied {
+    Ghost,
+    // A value, copied, of so many bytes.
+    Value(usize),
+}
+
+// The tree that `get` leaves, and what it found.
+fn got(got: Got) -> Result<(Tree, Option<Copied>), Fault> {
+    match got {
+        Got::Refused(x) => Err(Fault::Refused(x)),
+        Got::None(tree) => Ok((tree, None)),
+        Got::Ghost(tree) => Ok((tree, Some(Copied::Ghost))),
+        Got::Value(tree, n) => Ok((tree, Some(Copied::Value(n)))),
+    }
+}
+
+// The tree that `floor` leaves, and how long the record is that it found.
+fn floored(got: Floor) -> Result<(Tree, Option<usize>), Fault> {
+    match got {
+        Floor::Refused(x) => Err(Fault::Refused(x)),
+        Floor::None(tree) => Ok((tree, None)),
+        Floor::Record(tree, n) => Ok((tree, Some(n))),
+    }
+}
+
+// The tree that `range` leaves, and how many records it found.
+fn ranged(got: Ranged) -> Result<(Tree, u64), Fault> {
+    match got {
+        Ranged::Refused(x) => Err(Fault::Refused(x)),
+        Ranged::Done(tree, count, _) => Ok((tree, count)),
+    }
+}
 
 impl State<'_> {
     // (open ROOT ORDER XID): a refused open keeps the old tree.
@@ -40,7 +75,7 @@ impl State<'_> {
 
     // (get KEY)
     pub fn get(&mut self, key: ByteString) -> Result<(), Fault> {
-        let mut opened = self.opened()?;
+        let Opened { tree, place } = self.opened()?;
         let mut room = [0; limits::BYTES];
         let key = keys::read(key, &mut room)?;
         let Workspace {
@@ -49,32 +84,24 @@ impl State<'_> {
             bytes,
             scratch,
             lent,
-        } = self.memory.workspace(opened.place.map)?;
-        let got = opened.tree.get(image, heads, bytes, lent, key, scratch);
-        match got {
-            Got::Refused(x) => return Err(Fault::Refused(x)),
-            Got::None(tree) => {
-                opened.tree = tree;
-                self.out.text(b"(get 0 none)\n");
-            }
-            Got::Ghost(tree) => {
-                opened.tree = tree;
-                self.out.text(b"(get 0 -)\n");
-            }
-            Got::Value(tree, n) => {
-                opened.tree = tree;
+        } = self.memory.workspace(place.map)?;
+        let (tree, found) = got(tree.get(image, heads, bytes, lent, key, scratch))?;
+        self.opened = Some(Opened { tree, place });
+        match found {
+            None => self.out.text(b"(get 0 none)\n"),
+            Some(Copied::Ghost) => self.out.text(b"(get 0 -)\n"),
+            Some(Copied::Value(n)) => {
                 self.out.open(b"get 0");
                 answers::part(&mut self.out, scratch, 0, n);
                 self.out.close();
             }
         }
-        self.opened = Some(opened);
         Ok(())
     }
 
     // (floor KEY)
     pub fn floor(&mut self, key: ByteString) -> Result<(), Fault> {
-        let mut opened = self.opened()?;
+        let Opened { tree, place } = self.opened()?;
         let mut room = [0; limits::BYTES];
         let key = keys::read(key, &mut room)?;
         let Workspace {
@@ -83,28 +110,23 @@ impl State<'_> {
             bytes,
             scratch,
             lent,
-        } = self.memory.workspace(opened.place.map)?;
-        let got = opened.tree.floor(image, heads, bytes, lent, key, scratch);
-        match got {
-            Floor::Refused(x) => return Err(Fault::Refused(x)),
-            Floor::None(tree) => {
-                opened.tree = tree;
-                self.out.text(b"(floor 0 none)\n");
-            }
-            Floor::Record(tree, _) => {
-                opened.tree = tree;
+        } = self.memory.workspace(place.map)?;
+        let (tree, found) = floored(tree.floor(image, heads, bytes, lent, key, scratch))?;
+        self.opened = Some(Opened { tree, place });
+        match found {
+            None => self.out.text(b"(floor 0 none)\n"),
+            Some(_) => {
                 self.out.open(b"floor 0");
                 answers::record(&mut self.out, scratch, 0);
                 self.out.close();
             }
         }
-        self.opened = Some(opened);
         Ok(())
     }
 
     // (range LO HI)
     pub fn range(&mut self, low: ByteString, high: ByteString) -> Result<(), Fault> {
-        let mut opened = self.opened()?;
+        let Opened { tree, place } = self.opened()?;
         let mut low_room = [0; limits::BYTES];
         let mut high_room = [0; limits::BYTES];
         let low = keys::read(low, &mut low_room)?;
@@ -115,21 +137,14 @@ impl State<'_> {
             bytes,
             scratch,
             lent,
-        } = self.memory.workspace(opened.place.map)?;
-        let got = opened
-            .tree
-            .range(image, heads, bytes, lent, low, high, scratch);
-        match got {
-            Ranged::Refused(x) => return Err(Fault::Refused(x)),
-            Ranged::Done(tree, count, _) => {
-                opened.tree = tree;
-                self.out.open(b"range 0");
-                self.out.number(count);
-                answers::records(&mut self.out, scratch, count);
-                self.out.close();
-            }
-        }
-        self.opened = Some(opened);
+        } = self.memory.workspace(place.map)?;
+        let got = tree.range(image, heads, bytes, lent, low, high, scratch);
+        let (tree, count) = ranged(got)?;
+        self.opened = Some(Opened { tree, place });
+        self.out.open(b"range 0");
+        self.out.number(count);
+        answers::records(&mut self.out, scratch, count);
+        self.out.close();
         Ok(())
     }
 }

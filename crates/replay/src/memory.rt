@@ -4,6 +4,7 @@ use crate::limits;
 use crate::sizes::Sizes;
 use tree::lent::Lent;
 
+// The arrays are lent: a struct that held them would stand on the stack twice while it is made, past its 8 MiB.
 #[derive(Drop)]
 pub struct Memory<'a> {
     pub sizes: Sizes,
@@ -33,7 +34,7 @@ pub struct Workspace<'a> {
     pub lent: Lent,
 }
 
-// The first n of an array.
+// The first n of an array, if it has so many.
 pub fn first_mut<T, const N: usize>(s: &mut [T; N], n: usize) -> Result<&mut [T], Fault> {
     s.get_mut(..n).ok_or(Fault::NotTaken)
 }

@@ -18,6 +18,7 @@ pub struct Met<'a> {
 
 impl<'a> Met<'a> {
     // A node that is read. What reading has checked is tested again, so that nothing is required here.
+    #[tactic(auto, unfolding(node::specs::Read::is_fixed))]
     pub fn new(block: &'a [u8], node: Node) -> Option<Met<'a>> {
         let width = if node.ksize == 0 { 8 } else { 4 };
         if node.keys < node.toc || node.vals < node.keys || block.len() < node.vals {

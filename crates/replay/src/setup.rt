@@ -35,15 +35,14 @@ impl Memory<'_> {
 impl State<'_> {
     // (image BLOCKS SIZE)
     pub fn image(&mut self, blocks: u64, size: u64) -> Result<(), Fault> {
-        let b = u32::try_from(blocks)?;
-        let s = u32::try_from(size)?;
-        if b == 0 || !lent::is_size(s as usize) {
+        if blocks == 0 || !lent::is_size(size as usize) {
             return Err(Fault::NotTaken);
         }
         if blocks.saturating_mul(size) > limits::IMAGE as u64 {
             return Err(Fault::NotTaken);
         }
-        self.memory.wipe(b, s)?;
+        self.memory
+            .wipe(u32::try_from(blocks)?, u32::try_from(size)?)?;
         self.map = None;
         self.opened = None;
         self.walked = None;
