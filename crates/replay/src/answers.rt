@@ -1,64 +1,37 @@
-// What calls answer: counts, records, byte strings.
-use crate::state::State;
+// What calls answer: records, and parts of a text as byte strings.
 use node::record;
-use script::out;
 use script::out::Out;
 
-// An answer that ends in the tree's counts.
-pub fn counts(mut s: State, o: &mut Out, name: &[u8]) -> State {
-    let t = s.tree;
-    let info = t.info;
-    s.at = out::two(o, s.at, name, info.key_count, info.node_count);
-    s
-}
-
 // The bytes of a part; nothing where it does not lie there.
-pub fn part(o: &mut Out, at: usize, s: &[u8], a: usize, e: usize) -> usize {
-    if s.len() < e {
-        return at;
+pub fn part(o: &mut Out, s: &[u8], from: usize, to: usize) {
+    if let Some(bytes) = s.get(from..to) {
+        o.bytes(bytes);
     }
-    if e < a {
-        return at;
-    }
-    out::bytes(o, at, &s[a..e])
 }
 
-// A record's key and value, or that it has none. Nothing where no whole record starts there.
-pub fn record(o: &mut Out, at: usize, found: &[u8], from: usize) -> usize {
-    if found.len() < from {
-        return at;
-    }
-    if !record::lies(found, from) {
-        return at;
+// A record's key and value, or that it has none, and where the next one starts; nothing where no whole record starts
+// there.
+pub fn record(o: &mut Out, found: &[u8], from: usize) -> Option<usize> {
+    if found.len() < from || !record::lies(found, from) {
+        return None;
     }
     let r = record::record_at(found, from);
-    let a = part(o, at, found, r.key, r.value);
+    part(o, found, r.key, r.value);
     if r.mark == record::GHOST {
-        return out::text(o, a, b" -");
+        o.text(b" -");
+    } else {
+        part(o, found, r.value, r.next);
     }
-    part(o, a, found, r.value, r.next)
-}
-
-// Where the record after the one that starts at a place starts.
-fn after(found: &[u8], from: usize) -> usize {
-    if found.len() < from {
-        return from;
-    }
-    if !record::lies(found, from) {
-        return from;
-    }
-    record::next(found, from)
+    Some(r.next)
 }
 
 // So many records, one after another.
-pub fn records(o: &mut Out, at: usize, found: &[u8], count: u64) -> usize {
-    let mut n = at;
-    let mut from: usize = 0;
-    let mut i: u64 = 0;
-    while i < count {
-        n = record(o, n, found, from);
-        from = after(found, from);
-        i += 1;
+pub fn records(o: &mut Out, found: &[u8], count: u64) {
+    let mut from = 0;
+    for _ in 0..count {
+        match record(o, found, from) {
+            Some(next) => from = next,
+            None => return,
+        }
     }
-    n
 }

@@ -1,99 +1,113 @@
 // The edits.
-use crate::answers;
-use crate::state::State;
-use script::out::Out;
-use script::words;
+use crate::fault::Fault;
+use crate::memory::Workspace;
+use crate::state::{Opened, State};
+use crate::{keys, limits};
+use script::words::ByteString;
 use tree::edited::{Edited, Removed};
+use tree::editor::Tree;
 
-// The answer of an edit, by its name refused and accepted.
-fn edited(mut s: State, got: Edited, name: &[u8], accepted: &[u8], o: &mut Out) -> State {
+// The tree that an edit leaves.
+fn edited(got: Edited) -> Result<Tree, Fault> {
     match got {
-        Edited::Refused(x) => s.refused(o, name, x),
-        Edited::Done(t) => {
-            s.tree = t;
-            answers::counts(s, o, accepted)
-        }
+        Edited::Refused(x) => Err(Fault::Refused(x)),
+        Edited::Done(tree) => Ok(tree),
     }
 }
 
-// (upsert KEY VALUE) or (upsert KEY -)
-pub fn upsert(
-    s: State,
-    key: &[u8],
-    is_ghost: bool,
-    value: &[u8],
-    image: &[u8],
-    heads: &mut [u64],
-    bytes: &mut [u8],
-    scratch: &mut [u8],
-    o: &mut Out,
-) -> State {
-    let t = s.tree;
-    let got = t.upsert(image, heads, bytes, scratch, s.lent(), key, is_ghost, value);
-    edited(s, got, b"upsert", b"upsert 0", o)
-}
-
-// The answer of remove.
-fn removed(mut s: State, got: Removed, o: &mut Out) -> State {
+// The tree that a remove leaves, and whether the key was there.
+fn removed(got: Removed) -> Result<(Tree, bool), Fault> {
     match got {
-        Removed::Refused(x) => s.refused(o, b"remove", x),
-        Removed::Yes(u) => {
-            s.tree = u;
-            answers::counts(s, o, b"remove 0 yes")
-        }
-        Removed::No(u) => {
-            s.tree = u;
-            answers::counts(s, o, b"remove 0 no")
-        }
+        Removed::Refused(x) => Err(Fault::Refused(x)),
+        Removed::Yes(tree) => Ok((tree, true)),
+        Removed::No(tree) => Ok((tree, false)),
     }
 }
 
-// (remove KEY)
-pub fn remove(
-    s: State,
-    key: &[u8],
-    image: &[u8],
-    heads: &mut [u64],
-    bytes: &mut [u8],
-    scratch: &mut [u8],
-    o: &mut Out,
-) -> State {
-    let t = s.tree;
-    let got = t.remove(image, heads, bytes, scratch, s.lent(), key);
-    removed(s, got, o)
-}
+impl State<'_> {
+    // (upsert KEY VALUE), or (upsert KEY -) for a ghost
+    pub fn upsert(&mut self, key: ByteString, value: Option<ByteString>) -> Result<(), Fault> {
+        let Opened { tree, place } = self.opened()?;
+        let mut key_room = [0; limits::BYTES];
+        let mut value_room = [0; limits::BYTES];
+        let key = keys::read(key, &mut key_room)?;
+        let value = match value {
+            Some(word) => Some(keys::read(word, &mut value_room)?),
+            None => None,
+        };
+        let Workspace {
+            image,
+            heads,
+            bytes,
+            scratch,
+            lent,
+        } = self.memory.workspace(place.map)?;
+        let ghost_value = value.is_none();
+        let got = tree.upsert(
+            image,
+            heads,
+            bytes,
+            scratch,
+            lent,
+            key,
+            ghost_value,
+            value.unwrap_or(key),
+        );
+        let tree = edited(got)?;
+        self.accept(Opened { tree, place }, b"upsert 0");
+        Ok(())
+    }
 
-// (put ID XID ADDR)
-pub fn put(
-    s: State,
-    w: &[u8],
-    image: &[u8],
-    heads: &mut [u64],
-    bytes: &mut [u8],
-    scratch: &mut [u8],
-    o: &mut Out,
-) -> State {
-    let id = words::number(words::word(w, 1));
-    let xid = words::number(words::word(w, 2));
-    let a = words::number(words::word(w, 3));
-    let size = s.size as u64;
-    let t = s.tree;
-    let got = t.omap_put(image, heads, bytes, scratch, s.lent(), id, xid, a, size);
-    edited(s, got, b"put", b"put 0", o)
-}
+    // (remove KEY)
+    pub fn remove(&mut self, key: ByteString) -> Result<(), Fault> {
+        let Opened { tree, place } = self.opened()?;
+        let mut room = [0; limits::BYTES];
+        let key = keys::read(key, &mut room)?;
+        let Workspace {
+            image,
+            heads,
+            bytes,
+            scratch,
+            lent,
+        } = self.memory.workspace(place.map)?;
+        let (tree, found) = removed(tree.remove(image, heads, bytes, scratch, lent, key))?;
+        let opened = Opened { tree, place };
+        if found {
+            self.accept(opened, b"remove 0 yes");
+        } else {
+            self.accept(opened, b"remove 0 no");
+        }
+        Ok(())
+    }
 
-// (drop ID)
-pub fn drop_id(
-    s: State,
-    w: &[u8],
-    image: &[u8],
-    heads: &mut [u64],
-    bytes: &mut [u8],
-    scratch: &mut [u8],
-    o: &mut Out,
-) -> State {
-    let id = words::number(words::word(w, 1));
-    let t = s.tree;
-    let got = t.omap_drop(image, heads, bytes, scratch, s.lent(), id);
-    edited(s, got, b"drop", b"drop 0", o)
+    // (put ID XID ADDR)
+    pub fn put(&mut self, id: u64, xid: u64, a: u64) -> Result<(), Fault> {
+        let Opened { tree, place } = self.opened()?;
+        let size = self.memory.sizes.size as u64;
+        let Workspace {
+            image,
+            heads,
+            bytes,
+            scratch,
+            lent,
+        } = self.memory.workspace(place.map)?;
+        let tree = edited(tree.omap_put(image, heads, bytes, scratch, lent, id, xid, a, size))?;
+        self.accept(Opened { tree, place }, b"put 0");
+        Ok(())
+    }
+
+    // (drop ID)
+    pub fn drop_id(&mut self, id: u64) -> Result<(), Fault> {
+        let Opened { tree, place } = self.opened()?;
+        let Workspace {
+            image,
+            heads,
+            bytes,
+            scratch,
+            lent,
+        } = self.memory.workspace(place.map)?;
+        let tree = edited(tree.omap_drop(image, heads, bytes, scratch, lent, id))?;
+        self.accept(Opened { tree, place }, b"drop 0");
+        Ok(())
+    }
 }

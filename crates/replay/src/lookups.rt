@@ -1,167 +1,150 @@
 // Open and the lookups.
-use crate::answers;
-use crate::state::{Place, State};
+use crate::fault::Fault;
+use crate::memory::Workspace;
+use crate::state::{Opened, Place, State};
+use crate::{answers, keys, limits};
 use node::order::Order;
-use script::out::Out;
-use script::{out, words};
+use script::words::ByteString;
+use tree::editor::Tree;
 use tree::floor::Floor;
 use tree::get::Got;
 use tree::lookup;
-use tree::lookup::Opened;
 use tree::range::Ranged;
 
-// The order that a word names.
-fn order_of(w: &[u8]) -> u64 {
-    if words::same(w, b"pair") {
-        return Order::PAIR;
-    }
-    Order::BYTE
+// What `get` found.
+enum Copied {
+    Ghost,
+    // A value, copied, of so many bytes.
+    Value(usize),
 }
 
-// What an `open` line says, with the map that is lent now.
-fn place_of(s: State, w: &[u8]) -> Place {
-    Place {
-        root: words::number(words::word(w, 1)),
-        order: order_of(words::word(w, 2)),
-        xid: words::number(words::word(w, 3)),
-        mapped: s.mapped,
-        map: s.map,
-        moved: 0,
-    }
-}
-
-// The tree that was opened; a refused open keeps the old one.
-fn opened(mut s: State, place: Place, got: Opened, o: &mut Out) -> State {
+// The tree that `get` leaves, and what it found.
+fn got(got: Got) -> Result<(Tree, Option<Copied>), Fault> {
     match got {
-        Opened::Refused(x) => s.refused(o, b"open", x),
-        Opened::Open(t) => {
-            s.open = true;
-            s.tree = t;
-            s.place = place;
-            s.seen = true;
-            s.walked = place;
-            answers::counts(s, o, b"open 0")
-        }
+        Got::Refused(x) => Err(Fault::Refused(x)),
+        Got::None(tree) => Ok((tree, None)),
+        Got::Ghost(tree) => Ok((tree, Some(Copied::Ghost))),
+        Got::Value(tree, n) => Ok((tree, Some(Copied::Value(n)))),
     }
 }
 
-// (open ROOT ORDER XID)
-pub fn open(
-    s: State,
-    w: &[u8],
-    image: &[u8],
-    heads: &mut [u64],
-    bytes: &mut [u8],
-    o: &mut Out,
-) -> State {
-    let p = place_of(s, w);
-    let got = lookup::open(image, heads, bytes, s.lent_to(p), p.root, p.order, p.xid);
-    opened(s, p, got, o)
-}
-
-// A text as the answer.
-fn told(mut s: State, o: &mut Out, text: &[u8]) -> State {
-    s.at = out::text(o, s.at, text);
-    s
-}
-
-// The answer of get.
-fn got(mut s: State, got: Got, found: &[u8], o: &mut Out) -> State {
+// The tree that `floor` leaves, and how long the record is that it found.
+fn floored(got: Floor) -> Result<(Tree, Option<usize>), Fault> {
     match got {
-        Got::Refused(x) => s.refused(o, b"get", x),
-        Got::None(u) => {
-            s.tree = u;
-            told(s, o, b"(get 0 none)\n")
-        }
-        Got::Ghost(u) => {
-            s.tree = u;
-            told(s, o, b"(get 0 -)\n")
-        }
-        Got::Value(u, n) => {
-            s.tree = u;
-            let a = out::open(o, s.at, b"get 0");
-            let b = answers::part(o, a, found, 0, n);
-            s.at = out::close(o, b);
-            s
-        }
+        Floor::Refused(x) => Err(Fault::Refused(x)),
+        Floor::None(tree) => Ok((tree, None)),
+        Floor::Record(tree, n) => Ok((tree, Some(n))),
     }
 }
 
-// (get KEY)
-pub fn get(
-    s: State,
-    key: &[u8],
-    image: &[u8],
-    heads: &mut [u64],
-    bytes: &mut [u8],
-    found: &mut [u8],
-    o: &mut Out,
-) -> State {
-    let t = s.tree;
-    let g = t.get(image, heads, bytes, s.lent(), key, found);
-    got(s, g, found, o)
-}
-
-// The answer of floor.
-fn floored(mut s: State, got: Floor, found: &[u8], o: &mut Out) -> State {
+// The tree that `range` leaves, and how many records it found.
+fn ranged(got: Ranged) -> Result<(Tree, u64), Fault> {
     match got {
-        Floor::Refused(x) => s.refused(o, b"floor", x),
-        Floor::None(u) => {
-            s.tree = u;
-            told(s, o, b"(floor 0 none)\n")
-        }
-        Floor::Record(u, _) => {
-            s.tree = u;
-            let a = out::open(o, s.at, b"floor 0");
-            let b = answers::record(o, a, found, 0);
-            s.at = out::close(o, b);
-            s
-        }
+        Ranged::Refused(x) => Err(Fault::Refused(x)),
+        Ranged::Done(tree, count, _) => Ok((tree, count)),
     }
 }
 
-// (floor KEY)
-pub fn floor(
-    s: State,
-    key: &[u8],
-    image: &[u8],
-    heads: &mut [u64],
-    bytes: &mut [u8],
-    found: &mut [u8],
-    o: &mut Out,
-) -> State {
-    let t = s.tree;
-    let got = t.floor(image, heads, bytes, s.lent(), key, found);
-    floored(s, got, found, o)
-}
-
-// The answer of range.
-fn ranged(mut s: State, got: Ranged, found: &[u8], o: &mut Out) -> State {
-    match got {
-        Ranged::Refused(x) => s.refused(o, b"range", x),
-        Ranged::Done(u, count, _) => {
-            s.tree = u;
-            let a = out::open(o, s.at, b"range 0");
-            let b = out::number(o, a, count);
-            let c = answers::records(o, b, found, count);
-            s.at = out::close(o, c);
-            s
+impl State<'_> {
+    // (open ROOT ORDER XID): a refused open keeps the old tree.
+    pub fn open(&mut self, root: u64, order: Order, xid: u64) -> Result<(), Fault> {
+        let place = Place {
+            root,
+            order,
+            xid,
+            map: self.map,
+            moved: 0,
+        };
+        let Workspace {
+            image,
+            heads,
+            bytes,
+            scratch: _,
+            lent,
+        } = self.memory.workspace(place.map)?;
+        let got = lookup::open(image, heads, bytes, lent, root, order.code, xid);
+        match got {
+            lookup::Opened::Refused(x) => Err(Fault::Refused(x)),
+            lookup::Opened::Open(tree) => {
+                self.walked = Some(place);
+                self.accept(Opened { tree, place }, b"open 0");
+                Ok(())
+            }
         }
     }
-}
 
-// (range LO HI)
-pub fn range(
-    s: State,
-    lo: &[u8],
-    hi: &[u8],
-    image: &[u8],
-    heads: &mut [u64],
-    bytes: &mut [u8],
-    found: &mut [u8],
-    o: &mut Out,
-) -> State {
-    let t = s.tree;
-    let got = t.range(image, heads, bytes, s.lent(), lo, hi, found);
-    ranged(s, got, found, o)
+    // (get KEY)
+    pub fn get(&mut self, key: ByteString) -> Result<(), Fault> {
+        let Opened { tree, place } = self.opened()?;
+        let mut room = [0; limits::BYTES];
+        let key = keys::read(key, &mut room)?;
+        let Workspace {
+            image,
+            heads,
+            bytes,
+            scratch,
+            lent,
+        } = self.memory.workspace(place.map)?;
+        let (tree, found) = got(tree.get(image, heads, bytes, lent, key, scratch))?;
+        self.opened = Some(Opened { tree, place });
+        match found {
+            None => self.out.text(b"(get 0 none)\n"),
+            Some(Copied::Ghost) => self.out.text(b"(get 0 -)\n"),
+            Some(Copied::Value(n)) => {
+                self.out.open(b"get 0");
+                answers::part(&mut self.out, scratch, 0, n);
+                self.out.close();
+            }
+        }
+        Ok(())
+    }
+
+    // (floor KEY)
+    pub fn floor(&mut self, key: ByteString) -> Result<(), Fault> {
+        let Opened { tree, place } = self.opened()?;
+        let mut room = [0; limits::BYTES];
+        let key = keys::read(key, &mut room)?;
+        let Workspace {
+            image,
+            heads,
+            bytes,
+            scratch,
+            lent,
+        } = self.memory.workspace(place.map)?;
+        let (tree, found) = floored(tree.floor(image, heads, bytes, lent, key, scratch))?;
+        self.opened = Some(Opened { tree, place });
+        match found {
+            None => self.out.text(b"(floor 0 none)\n"),
+            Some(_) => {
+                self.out.open(b"floor 0");
+                answers::record(&mut self.out, scratch, 0);
+                self.out.close();
+            }
+        }
+        Ok(())
+    }
+
+    // (range LO HI)
+    pub fn range(&mut self, low: ByteString, high: ByteString) -> Result<(), Fault> {
+        let Opened { tree, place } = self.opened()?;
+        let mut low_room = [0; limits::BYTES];
+        let mut high_room = [0; limits::BYTES];
+        let low = keys::read(low, &mut low_room)?;
+        let high = keys::read(high, &mut high_room)?;
+        let Workspace {
+            image,
+            heads,
+            bytes,
+            scratch,
+            lent,
+        } = self.memory.workspace(place.map)?;
+        let got = tree.range(image, heads, bytes, lent, low, high, scratch);
+        let (tree, count) = ranged(got)?;
+        self.opened = Some(Opened { tree, place });
+        self.out.open(b"range 0");
+        self.out.number(count);
+        answers::records(&mut self.out, scratch, count);
+        self.out.close();
+        Ok(())
+    }
 }

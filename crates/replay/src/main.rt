@@ -7,193 +7,127 @@
 
 mod answers;
 mod blocks;
-mod calls;
 mod edits;
 mod empty;
+mod fault;
 mod flushing;
-mod kind;
+mod keys;
 mod limits;
+mod line;
 mod lookups;
+mod memory;
 mod nodes;
 mod report;
 mod setup;
+mod shown;
+mod sizes;
 mod state;
 mod walk;
 
-ghost use Rattle.std.specs.Prelude.{◌<◌};
-
-use script::input::{Input, Source};
-use script::out::Out;
-use script::{out, words};
+use fault::Fault;
+use line::{Call, Line, SetUp};
+use memory::Memory;
+use script::input::{Lines, TooLong};
+use sizes::Sizes;
 use state::State;
 use std::io;
 
-// A line that is no flush.
-fn turn(
-    s: State,
-    k: u64,
-    w: &[u8],
-    image: &mut [u8],
-    bitmap: &mut [u8],
-    counts: &mut [u32],
-    free: &mut [u32],
-    heads: &mut [u64],
-    work: &mut [u8],
-    scratch: &mut [u8],
-    ids: &[u64],
-    places: &[u64],
-    o: &mut Out,
-) -> State {
-    if k == kind::PASSED {
-        return s;
+impl State<'_> {
+    fn set_up(&mut self, line: SetUp) -> Result<(), Fault> {
+        match line {
+            SetUp::Image { blocks, size } => self.image(blocks, size),
+            SetUp::Slots(n) => self.slots(n),
+            SetUp::Block { address, bytes } => self.block(address, bytes),
+            SetUp::Seal(address) => self.seal(address),
+            SetUp::Mark { address, count } => self.mark(address, count),
+            SetUp::Count {
+                chunk,
+                blocks,
+                free,
+            } => self.count(chunk, blocks, free),
+            SetUp::Empty(root) => self.empty(root),
+            SetUp::Map(map) => self.map(map),
+        }
     }
-    if k == kind::NONE {
-        return s.error(o);
+
+    // A call, answered: by its number where it is refused.
+    fn call(&mut self, call: Call) -> Result<(), Fault> {
+        let answered = match call {
+            Call::Open { root, order, xid } => self.open(root, order, xid),
+            Call::Get(key) => self.get(key),
+            Call::Floor(key) => self.floor(key),
+            Call::Range { low, high } => self.range(low, high),
+            Call::Upsert { key, value } => self.upsert(key, value),
+            Call::Remove(key) => self.remove(key),
+            Call::Put { id, xid, address } => self.put(id, xid, address),
+            Call::Drop(id) => self.drop_id(id),
+            Call::Flush { xid, next } => self.flush(xid, next),
+            Call::Walk => self.walk(),
+        };
+        if let Err(Fault::Refused(x)) = answered {
+            self.out.one(call.name(), x);
+            return Ok(());
+        }
+        answered
     }
-    if k == kind::WALK {
-        return walk::run(s, image, ids, places, o);
+
+    // A line, answered.
+    fn answer(&mut self, line: Option<Line>) {
+        let answered = match line {
+            Some(Line::Passed) => Ok(()),
+            Some(Line::SetUp(s)) => self.set_up(s),
+            Some(Line::Call(c)) => self.call(c),
+            None => Err(Fault::NotTaken),
+        };
+        if answered.is_err() {
+            self.out.error();
+        }
     }
-    if k < kind::WALK {
-        return setup::run(s, k, w, image, bitmap, counts, free, o);
+
+    // Line after line, until there is none.
+    fn run(&mut self, lines: &mut Lines, room: &mut [u8]) {
+        for _ in 0..u64::MAX {
+            match lines.next(room) {
+                None => break,
+                Some(Ok(n)) => self.answer(line::parse(&room[..n])),
+                Some(Err(TooLong)) => self.answer(line::parse_long(room)),
+            }
+        }
+        self.out.flush();
     }
-    calls::run(s, k, w, image, heads, work, scratch, o)
 }
 
-// A line.
-fn line_of(
-    s: State,
-    k: u64,
-    w: &[u8],
-    image: &mut [u8],
-    bitmap: &mut [u8],
-    counts: &mut [u32],
-    free: &mut [u32],
-    heads: &mut [u64],
-    work: &mut [u8],
-    scratch: &mut [u8],
-    ids: &mut [u64],
-    places: &mut [u64],
-    o: &mut Out,
-) -> State {
-    if k == kind::FLUSH {
-        return flushing::run(
-            s, w, image, bitmap, counts, free, heads, work, ids, places, scratch, o,
-        );
-    }
-    turn(
-        s, k, w, image, bitmap, counts, free, heads, work, scratch, ids, places, o,
-    )
-}
-
-// A line, if there is one.
-fn step(
-    s: State,
-    src: Source,
-    line: &[u8],
-    image: &mut [u8],
-    bitmap: &mut [u8],
-    counts: &mut [u32],
-    free: &mut [u32],
-    heads: &mut [u64],
-    work: &mut [u8],
-    scratch: &mut [u8],
-    ids: &mut [u64],
-    places: &mut [u64],
-    o: &mut Out,
-) -> State {
-    if src.ended {
-        return s;
-    }
-    let start: usize = 0;
-    let n = src.len;
-    if line.len() < n {
-        return s;
-    }
-    let l = &line[start..n];
-    let k = kind::of(l, src.long);
-    let w = words::inner(l);
-    line_of(
-        s, k, w, image, bitmap, counts, free, heads, work, scratch, ids, places, o,
-    )
-}
-
-// How many lines may follow: none after the end.
-fn left(turns: u64, ended: bool) -> u64
-    requires { 0 < turns }
-    ensures { result < turns }
-{
-    if ended {
-        return 0;
-    }
-    turns - 1
-}
-
-// Line after line, until there is none.
-fn run(
-    image: &mut [u8],
-    bitmap: &mut [u8],
-    counts: &mut [u32],
-    free: &mut [u32],
-    heads: &mut [u64],
-    work: &mut [u8],
-    scratch: &mut [u8],
-    ids: &mut [u64],
-    places: &mut [u64],
-    input: &mut Input,
-    line: &mut [u8],
-    o: &mut Out,
-) {
-    let mut s = State::new(0, 0, 0);
-    let mut src = Source::new();
-    let mut turns = u64::MAX;
-    while 0 < turns {
-        src = src.next(input, line);
-        s = step(
-            s, src, line, image, bitmap, counts, free, heads, work, scratch, ids, places, o,
-        );
-        turns = left(turns, src.ended);
-    }
-    out::flush(o, s.at);
-}
-
-// The rest of the memory. The three largest arrays are parameters, so their lengths are known without counting.
-fn begin(
-    image: &mut [u8; limits::IMAGE],
-    work: &mut [u8; limits::WORK],
-    scratch: &mut [u8; limits::SCRATCH],
-    input: &mut Input,
-    o: &mut Out,
-) {
-    let mut bitmap = [0u8; limits::BITMAP];
-    let mut counts = [0u32; limits::CHUNKS];
-    let mut free = [0u32; limits::CHUNKS];
-    let mut heads = [0u64; limits::HEADS];
-    let mut ids = [0u64; limits::SLOTS];
-    let mut places = [0u64; limits::SLOTS];
-    let mut line = [0u8; limits::LINE];
-    run(
-        image,
-        &mut bitmap,
-        &mut counts,
-        &mut free,
-        &mut heads,
-        work,
-        scratch,
-        &mut ids,
-        &mut places,
-        input,
-        &mut line,
-        o,
-    );
-}
-
+// Each array is made once, here, and lent from then on.
 fn main(rt: HostRuntime) -> io::Result<()> {
-    let mut image = [0u8; limits::IMAGE];
-    let mut work = [0u8; limits::WORK];
-    let mut scratch = [0u8; limits::SCRATCH];
-    let mut input = Input::new(rt.stdin());
-    let mut o = Out::new(rt.stdout());
-    begin(&mut image, &mut work, &mut scratch, &mut input, &mut o);
-    input.done()?;
-    o.done()
+    let mut image = [0; limits::IMAGE];
+    let mut bitmap = [0; limits::BITMAP];
+    let mut counts = [0; limits::CHUNKS];
+    let mut free = [0; limits::CHUNKS];
+    let mut heads = [0; limits::HEADS];
+    let mut work = [0; limits::WORK];
+    let mut scratch = [0; limits::SCRATCH];
+    let mut freed = [0; limits::SLOTS];
+    let mut removed = [0; limits::SLOTS];
+    let mut ids = [0; limits::SLOTS];
+    let mut places = [0; limits::SLOTS];
+    let memory = Memory {
+        sizes: Sizes::NONE,
+        image: &mut image,
+        bitmap: &mut bitmap,
+        counts: &mut counts,
+        free: &mut free,
+        heads: &mut heads,
+        work: &mut work,
+        scratch: &mut scratch,
+        freed: &mut freed,
+        removed: &mut removed,
+        ids: &mut ids,
+        places: &mut places,
+    };
+    let mut state = State::new(memory, rt.stdout());
+    let mut lines = Lines::new(rt.stdin());
+    let mut room = [0; limits::LINE];
+    state.run(&mut lines, &mut room);
+    lines.done()?;
+    state.out.done()
 }

@@ -1,145 +1,68 @@
-// A node read in the image, and its entries. What loading has checked is tested again, so that nothing is required here.
-use node::read::{Node, Span};
-use node::{bytes, read};
-use script::number;
-use tree::map;
-use tree::map::{Edge, Edges};
+// A node read where it lies in the image, and its entries.
+ghost use Rattle.std.specs.Prelude.{length};
+ghost use Rattle.node.specs.internal.ReadSteps.{Laid};
 
-// Where there is no value (`BTOFF_INVALID`).
-const NO_VALUE: usize = 0xFFFF;
+use node::read;
+use node::read::{Node, Span};
+use seal::bytes;
 
 const MOST_SIZE: usize = 65536;
 
-// A node, and its address.
+// A node and its block: its areas follow each other there, and its contents hold its entries.
 #[derive(Clone, Copy)]
-pub struct Met {
-    pub at: u64,
+pub struct Met<'a> {
+    pub block: &'a [u8],
     pub node: Node,
+    ghost laid: { Laid node (length block.now) },
 }
 
-// The block at an address; nothing where there is none.
-fn block_at(image: &[u8], size: usize, a: u64) -> &[u8] {
-    if size == 0 {
-        return &image[..0];
-    }
-    if (image.len() / size) as u64 <= a {
-        return &image[..0];
-    }
-    map::block_of(image, size, a)
-}
-
-// The block of a node.
-pub fn block_of(image: &[u8], size: usize, m: Met) -> &[u8] {
-    block_at(image, size, m.at)
-}
-
-// An entry that is none.
-fn no_span() -> Span {
-    Span {
-        key: 0,
-        klen: 0,
-        voff: NO_VALUE,
-        vlen: 0,
-    }
-}
-
-// Entry i of a node; none where its areas do not follow each other in its block, or there is no such entry.
-pub fn span_of(block: &[u8], v: Node, i: u64) -> Span {
-    if v.nkeys <= i {
-        return no_span();
-    }
-    if MOST_SIZE < block.len() {
-        return no_span();
-    }
-    if block.len() < v.vals {
-        return no_span();
-    }
-    if v.vals < v.keys {
-        return no_span();
-    }
-    if v.keys < v.toc {
-        return no_span();
-    }
-    let room = (v.keys - v.toc) as u64;
-    if v.ksize == 0 {
-        if room / 8 < v.nkeys {
-            return no_span();
+impl<'a> Met<'a> {
+    // A node that is read. What reading has checked is tested again, so that nothing is required here.
+    #[tactic(auto, unfolding(node::specs::Read::is_fixed))]
+    pub fn new(block: &'a [u8], node: Node) -> Option<Met<'a>> {
+        let width = if node.ksize == 0 { 8 } else { 4 };
+        if node.keys < node.toc || node.vals < node.keys || block.len() < node.vals {
+            return None;
         }
-        return read::span_at(block, v, i as usize);
+        if MOST_SIZE < block.len() || (node.keys - node.toc) as u64 / width < node.nkeys {
+            return None;
+        }
+        Some(Met { block, node })
     }
-    if room / 4 < v.nkeys {
-        return no_span();
-    }
-    read::span_at(block, v, i as usize)
-}
 
-// Whether an entry is a ghost.
-pub fn is_ghost(s: Span) -> bool {
-    s.voff == NO_VALUE
-}
+    // Entry i.
+    pub fn span(self, i: u64) -> Option<Span> {
+        if self.node.nkeys <= i {
+            return None;
+        }
+        Some(read::span_at(self.block, self.node, i as usize))
+    }
 
-// Where an entry's value starts.
-pub fn value_start(v: Node, s: Span) -> usize {
-    if v.vals < s.voff {
-        return v.vals;
+    // The bytes of an entry's key.
+    pub fn key_in(self, s: Span) -> Option<&'a [u8]> {
+        self.block.get(s.key..)?.get(..s.klen)
     }
-    v.vals - s.voff
-}
 
-// A number that lies at an offset; 0 where none does.
-fn number_at(block: &[u8], at: usize) -> u64 {
-    if block.len() < 8 {
-        return 0;
+    // The bytes of an entry's value; none of a ghost.
+    pub fn value_in(self, s: Span) -> Option<&'a [u8]> {
+        if read::is_ghost(s) {
+            return None;
+        }
+        let start = self.node.vals.checked_sub(s.voff)?;
+        self.block.get(start..)?.get(..s.vlen)
     }
-    if block.len() - 8 < at {
-        return 0;
-    }
-    bytes::u64_at(block, at)
-}
 
-// The child of entry i.
-pub fn child_of(image: &[u8], size: usize, m: Met, i: u64) -> u64 {
-    let block = block_of(image, size, m);
-    let v = m.node;
-    let s = span_of(block, v, i);
-    number_at(block, value_start(v, s))
-}
+    // The key of entry i.
+    pub fn key(self, i: u64) -> Option<&'a [u8]> {
+        self.key_in(self.span(i)?)
+    }
 
-// Where the key of entry i lies in the image.
-fn edge_at(image: &[u8], size: usize, m: Met, i: u64) -> Edge {
-    let s = span_of(block_of(image, size, m), m.node, i);
-    Edge {
-        some: true,
-        at: number::plus(number::times(m.at as usize, size), s.key),
-        len: s.klen,
+    // The number of child i.
+    pub fn child(self, i: u64) -> Option<u64> {
+        let value = self.value_in(self.span(i)?)?;
+        if value.len() < 8 {
+            return None;
+        }
+        Some(bytes::u64_at(value, 0))
     }
-}
-
-// The key of a bound; nothing where there is none.
-pub fn edge_key(image: &[u8], e: Edge) -> &[u8] {
-    if !e.some {
-        return &image[..0];
-    }
-    let a = e.at;
-    let end = number::plus(e.at, e.len);
-    if image.len() < end {
-        return &image[..0];
-    }
-    if end < a {
-        return &image[..0];
-    }
-    &image[a..end]
-}
-
-// The bounds of child i: its index key, and the next one, or where there is none its parent's.
-pub fn bounds_of(image: &[u8], size: usize, m: Met, b: Edges, i: u64) -> Edges {
-    let lower = edge_at(image, size, m, i);
-    let v = m.node;
-    let next = number::sum(i, 1);
-    let end = b.upper;
-    if v.nkeys <= next {
-        return Edges { lower, upper: end };
-    }
-    let upper = edge_at(image, size, m, next);
-    Edges { lower, upper }
 }

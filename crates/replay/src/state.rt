@@ -1,173 +1,61 @@
-// What the program remembers from line to line, beside image, bitmap and workspace.
-ghost use Rattle.std.specs.Prelude.{◌≡◌};
-ghost use Rattle.script.specs.Number.{sum_of, product};
-
-use node::info::BTreeInfo;
+// What the program remembers from line to line, its memory, and where it answers.
+use crate::fault::Fault;
+use crate::memory::Memory;
+use node::order::Order;
 use script::out::Out;
-use script::{number, out};
+use std::io::Stdout;
 use tree::editor::Tree;
-use tree::lent::Lent;
 
-// Words of a slot, of its shadow, and its mark.
-const WORDS_EACH: usize = 19;
-
-// A root, and how it is found: with a map lent or not, and with the blocks that a flush moved ids to.
+// A root, and how it is found: with the map that is lent, if one is, and with the blocks that a flush moved ids to.
 #[derive(Clone, Copy)]
 pub struct Place {
     pub root: u64,
-    pub order: u64,
+    pub order: Order,
     pub xid: u64,
-    pub mapped: bool,
-    pub map: u64,
+    pub map: Option<u64>,
     // How many ids the lists of the last flush say.
     pub moved: usize,
 }
 
+// The open tree, and where it was opened.
 #[derive(Clone, Copy)]
-pub struct State {
-    // How much output waits.
-    pub at: usize,
-    // The image: no blocks where there is none.
-    pub blocks: usize,
-    pub size: usize,
-    pub slots: usize,
-    // The map lent from the next open on.
-    pub mapped: bool,
-    pub map: u64,
-    // The open tree, and where it was opened.
-    pub open: bool,
+pub struct Opened {
     pub tree: Tree,
     pub place: Place,
+}
+
+#[derive(Drop)]
+pub struct State<'a> {
+    pub memory: Memory<'a>,
+    pub out: Out,
+    // The map lent from the next open on.
+    pub map: Option<u64>,
+    pub opened: Option<Opened>,
     // The root last opened or flushed.
-    pub seen: bool,
-    pub walked: Place,
+    pub walked: Option<Place>,
 }
 
-fn no_place() -> Place {
-    Place {
-        root: 0,
-        order: 0,
-        xid: 0,
-        mapped: false,
-        map: 0,
-        moved: 0,
-    }
-}
-
-fn no_tree() -> Tree {
-    let info = BTreeInfo {
-        flags: 0,
-        node_size: 0,
-        key_size: 0,
-        val_size: 0,
-        longest_key: 0,
-        longest_val: 0,
-        key_count: 0,
-        node_count: 0,
-    };
-    Tree {
-        root: 0,
-        used: 0,
-        info: info,
-        by_id: false,
-        subtype: 0,
-        order: 0,
-        xid: 0,
-    }
-}
-
-impl State {
-    // An image of so many blocks, 64 slots, no tree and no map; so much output waits.
-    pub fn new(at: usize, blocks: usize, size: usize) -> State {
+impl<'a> State<'a> {
+    // No tree and no map.
+    pub fn new(memory: Memory<'a>, to: Stdout) -> State<'a> {
         State {
-            at: at,
-            blocks: blocks,
-            size: size,
-            slots: 64,
-            mapped: false,
-            map: 0,
-            open: false,
-            tree: no_tree(),
-            place: no_place(),
-            seen: false,
-            walked: no_place(),
+            memory,
+            out: Out::new(to),
+            map: None,
+            opened: None,
+            walked: None,
         }
     }
 
-    // A line that is not taken.
-    pub fn error(mut self, o: &mut Out) -> State {
-        self.at = out::error(o, self.at);
-        self
+    // The open tree.
+    pub fn opened(&self) -> Result<Opened, Fault> {
+        self.opened.ok_or(Fault::NotTaken)
     }
 
-    // A refusal by its number.
-    pub fn refused(mut self, o: &mut Out, name: &[u8], r: u64) -> State {
-        self.at = out::one(o, self.at, name, r);
-        self
-    }
-
-    // Blocks of a chunk: a bit each in a block.
-    pub fn chunk(self) -> usize
-        ensures { result ≡ product 8 self.size }
-    {
-        number::times(8, self.size)
-    }
-
-    // Chunks of the bitmap.
-    pub fn chunks(self) -> usize {
-        let each = self.chunk();
-        if each == 0 {
-            return 0;
-        }
-        number::plus(self.blocks, each - 1) / each
-    }
-
-    // Bytes of the bitmap: a block a chunk.
-    pub fn bitmap_bytes(self) -> usize {
-        number::times(self.chunks(), self.size)
-    }
-
-    // Bytes of the image.
-    pub fn image_bytes(self) -> usize
-        ensures { result ≡ product self.blocks self.size }
-    {
-        number::times(self.blocks, self.size)
-    }
-
-    // Words of the slots.
-    pub fn head_words(self) -> usize
-        ensures { result ≡ product self.slots 19 }
-    {
-        number::times(self.slots, WORDS_EACH)
-    }
-
-    // Bytes of the slots and their shadows.
-    pub fn slot_bytes(self) -> usize
-        ensures { result ≡ product self.slots (product 8 self.size) }
-    {
-        number::times(self.slots, number::times(8, self.size))
-    }
-
-    // Bytes of the scratch.
-    pub fn scratch_bytes(self) -> usize
-        ensures { result ≡ product (sum_of (product 2 self.slots) 2) self.size }
-    {
-        number::times(number::plus(number::times(2, self.slots), 2), self.size)
-    }
-
-    // What is lent to a call on the open tree.
-    pub fn lent(self) -> Lent {
-        let p = self.place;
-        self.lent_to(p)
-    }
-
-    // What is lent to a call on a tree that is found so.
-    pub fn lent_to(self, p: Place) -> Lent {
-        Lent {
-            size: self.size,
-            slots: self.slots,
-            mapped: p.mapped,
-            map: p.map,
-        }
+    // An edit or an open is accepted: the tree that it leaves, and an answer that ends in its counts.
+    pub fn accept(&mut self, opened: Opened, answer: &[u8]) {
+        self.opened = Some(opened);
+        let info = opened.tree.info;
+        self.out.two(answer, info.key_count, info.node_count);
     }
 }

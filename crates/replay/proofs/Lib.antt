@@ -1,2 +1,0 @@
--- What the proofs share: tests taken back to what they say.
-mod Laws

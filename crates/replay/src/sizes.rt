@@ -1,0 +1,85 @@
+// How much of the memory an image and the slots take.
+ghost use Rattle.std.specs.Prelude.{◌≡◌, ◌+◌, min};
+ghost use Rattle.script.specs.Number.{most, product};
+
+use script::number;
+use tree::lent::Lent;
+
+// Words of a slot, of its shadow, and its mark.
+const WORDS_EACH: usize = 19;
+
+// The image's blocks, none where there is no image, and their size; the slots.
+#[derive(Clone, Copy)]
+pub struct Sizes {
+    pub blocks: usize,
+    pub size: usize,
+    pub slots: usize,
+}
+
+impl Sizes {
+    // No image.
+    pub const NONE: Sizes = Sizes {
+        blocks: 0,
+        size: 0,
+        slots: 64,
+    };
+
+    // What a call on a tree is lent, with a map or without.
+    pub fn lent(self, map: Option<u64>) -> Lent {
+        Lent {
+            size: self.size,
+            slots: self.slots,
+            mapped: map.is_some(),
+            map: map.unwrap_or(0),
+        }
+    }
+
+    // Blocks of a chunk: a bit each in a block.
+    pub fn chunk(self) -> usize
+        ensures { result ≡ product 8 self.size }
+    {
+        number::times(8, self.size)
+    }
+
+    // Chunks of the bitmap.
+    pub fn chunks(self) -> usize {
+        let each = self.chunk();
+        if each == 0 {
+            return 0;
+        }
+        self.blocks.div_ceil(each)
+    }
+
+    // Bytes of the bitmap: a block a chunk.
+    pub fn bitmap_bytes(self) -> usize {
+        number::times(self.chunks(), self.size)
+    }
+
+    // Bytes of the image.
+    pub fn image_bytes(self) -> usize
+        ensures { result ≡ product self.blocks self.size }
+    {
+        number::times(self.blocks, self.size)
+    }
+
+    // Words of the slots.
+    pub fn head_words(self) -> usize
+        ensures { result ≡ product self.slots 19 }
+    {
+        number::times(self.slots, WORDS_EACH)
+    }
+
+    // Bytes of the slots and their shadows.
+    pub fn slot_bytes(self) -> usize
+        ensures { result ≡ product self.slots (product 8 self.size) }
+    {
+        number::times(self.slots, number::times(8, self.size))
+    }
+
+    // Bytes of the scratch.
+    pub fn scratch_bytes(self) -> usize
+        ensures { result ≡ product (min (product 2 self.slots + 2) most) self.size }
+    {
+        number::times(number::times(2, self.slots).saturating_add(2), self.size)
+    }
+}
