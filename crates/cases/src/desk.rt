@@ -76,6 +76,7 @@ fn pair(a: u64, b: u64) -> [u8; 16] {
     out
 }
 
+// What is lent to the calls. One for `dock` too would be a library, whose contracts would say again what those of the calls say.
 #[derive(Drop)]
 pub struct Desk {
     image: [u8; IMAGE],

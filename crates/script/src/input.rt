@@ -8,7 +8,7 @@ use std::io::{Error, Read, Stdin};
 // How many bytes are read at once.
 pub const ROOM: usize = 16384;
 
-// Room for the bytes read, and where they come from.
+// Room for the bytes read, and where they come from. `BufReader` would allocate.
 #[derive(Drop)]
 pub struct Lines<R = Stdin> {
     bytes: [u8; ROOM],

@@ -9,7 +9,7 @@ use std::io::{Error, Stdout, Write};
 // How many bytes of answers are gathered before they are written.
 pub const ROOM: usize = 32768;
 
-// A buffer of answers, and where it is written.
+// A buffer of answers, and where it is written. `BufWriter` would allocate.
 #[derive(Drop)]
 pub struct Out<W = Stdout> {
     // The bytes that wait.
@@ -78,7 +78,7 @@ impl<W: Write> Out<W> {
         }
     }
 
-    // A space and a decimal number.
+    // A space and a decimal number. Of a `write!` that fails nothing would be known, and its contract does not say that none does.
     pub fn number(&mut self, x: u64)
         ensures { Gathers W.contents self.old self.new (number_text x) }
     {

@@ -38,7 +38,7 @@ fn longer(n: u64, b: u8) -> Option<u64>
     n.checked_mul(10)?.checked_add(u64::from(digit))
 }
 
-// The number of a word, where it is a decimal number below 2^64.
+// The number of a word, where it is a decimal number below 2^64. `parse` takes a + before it too.
 pub fn number(w: &[u8]) -> Option<u64>
     ensures { result ≡ number_read w.now }
 {

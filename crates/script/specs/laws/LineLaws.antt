@@ -44,8 +44,15 @@ written_room l bs len b h =
     let e : length l - len ≡ suc (length l - (len + 1)) = omega arith in
     let f : len + suc (length bs) ≡ len + 1 + length bs = omega arith in
     let g : len < len + 1 + length bs = omega arith in
-    rw (take_more_set l len b h, length-set l len b, drop-set-lt (len + 1 + length bs) l len b g, append_snoc (take len l) b
-        (take (length l - (len + 1)) bs), e, f)
+    rw (
+      take_more_set l len b h,
+      length-set l len b,
+      drop-set-lt (len + 1 + length bs) l len b g,
+      append_snoc (take len l) b
+          (take (length l - (len + 1)) bs),
+      e,
+      f,
+    )
 
 written_past : (l bs : List ℕ) (len b : ℕ) → length l ≤ len → written (set l len b) (len + 1) bs ≡ written l len (b ∷ bs)
 written_past l bs len b h = grind (arith, common_steps)

@@ -39,7 +39,7 @@ made_over b n w h =
 made_none : (b n : ℕ) (w : List ℕ) → (digit_of b < 10 × n * 10 + digit_of b < 2 ^ 64 → ⊥) → made n (b ∷ w) ≡ None
 made_none b n w h = ⊎_elim
     (λ (l : digit_of b < 10). ⊎_elim (λ (k : n * 10 + digit_of b < 2 ^ 64). absurd (h (l, k)))
-        (λ (k : 2 ^ 64 ≤ n * 10 + digit_of b). made_over b n w k) (cases_lt (n * 10 + digit_of b) (2 ^ 64)))
+    (λ (k : 2 ^ 64 ≤ n * 10 + digit_of b). made_over b n w k) (cases_lt (n * 10 + digit_of b) (2 ^ 64)))
     (λ (l : 10 ≤ digit_of b). made_letter b n w l) (cases_lt (digit_of b) 10)
 
 -- ---- what is left from i on makes of n what all makes of 0

@@ -53,7 +53,7 @@ module _ {W : Type 0} {contents : W → Option (List ℕ)} where
   pub gathers_both : {o p q : Out W} {s t : List ℕ} → Gathers contents o p s → Gathers contents p q t → Gathers contents o q (s ++ t)
   gathers_both {o} {p} {q} {s} {t} g h =
       let e : sents o.waiting.items s ++ sents p.waiting.items t ≡ sents o.waiting.items (s ++ t) =
-          rw g.buffer (sym (sents_append s t o.waiting.items)) in
+      rw g.buffer (sym (sents_append s t o.waiting.items)) in
       record {
         buffer = h.buffer ∙ ap (λ (x : List ℕ). puts x t) g.buffer ∙ sym (puts_append s t o.waiting.items);
         written = rw e at (wrote_both o.failed p.failed q.failed (contents o.to) (contents p.to) (contents q.to) _ _ g.written h.written);

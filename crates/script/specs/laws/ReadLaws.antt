@@ -172,7 +172,7 @@ module _ {R : Type 0} {remaining : R → Option (List ℕ)} where
             let j : IsNone p.failed = rw v at i in
             let b = c.coming (r.kept j) xs x in
             rw (d, known_none (remaining q.from), u) (rest_turn l xs m (left_of p) n len turn k _ (remaining p.from) h none g e w b
-                (r.same j b.ys b.there));
+            (r.same j b.ys b.there));
       }
 
   pub reads_found : (o s p : Lines R) (l m r z : List ℕ) (len turn k n : ℕ) (f : Result ℕ TooLong) (xs : List ℕ) → Coming remaining o s l m len turn
@@ -184,7 +184,7 @@ module _ {R : Type 0} {remaining : R → Option (List ℕ)} where
       let at = feed_at (left_of p) n e in
       let b = c.coming (d.kept i) xs x in
       let y : prepend_known (take n (left_of p) ++ (10 ∷ drop (n + 1) (left_of p))) (remaining p.from) ≡ Some b.ys =
-          rw at.1 at (d.same i b.ys b.there) in
+      rw at.1 at (d.same i b.ys b.there) in
       let a = rest_found l xs m (take n (left_of p)) (drop (n + 1) (left_of p)) r len turn k _ (remaining p.from) h at.0 w v b y in
       record {
         line = fitted f r k fit ∙ a.line;

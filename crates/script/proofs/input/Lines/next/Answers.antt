@@ -33,12 +33,13 @@ loop-turn-preserved g c =
 ended : (g : Given.Over) (c : goal.After-last g)
     → Ended g.R.Read.remaining c.args.self.now c.loop-turn-test.self c.args.line.now c.loop-turn.line c.loop-turn.len
 ended g c = elim c.loop-turn-test.branch [
-    else-loop-turn-test w ↦ rw w.self-is
-    (ended_turns c.args.self.now c.loop-turn.self c.args.line.now c.loop-turn.line c.loop-turn.len c.loop-turn._turn
-    c.loop-turn.invariant w.loop-turn-test.false) |
-    then-loop-turn-test+then-is_empty w ↦ rw w.self-is
-    (ended_empty c.args.self.now c.loop-turn.self w.refill.new.self c.args.line.now c.loop-turn.line c.loop-turn.len c.loop-turn._turn
-    c.loop-turn.invariant w.refill.ensures (search (rules, tests))) ]
+  | else-loop-turn-test w ↦ rw w.self-is
+      (ended_turns c.args.self.now c.loop-turn.self c.args.line.now c.loop-turn.line c.loop-turn.len c.loop-turn._turn
+      c.loop-turn.invariant w.loop-turn-test.false)
+  | then-loop-turn-test+then-is_empty w ↦ rw w.self-is
+      (ended_empty c.args.self.now c.loop-turn.self w.refill.new.self c.args.line.now c.loop-turn.line c.loop-turn.len c.loop-turn._turn
+      c.loop-turn.invariant w.refill.ensures (search (rules, tests)))
+]
 
 pub returns-clause-ahead : goal.returns-clause-ahead
 returns-clause-ahead g c = λ t. absurd ((ended g c).none t)

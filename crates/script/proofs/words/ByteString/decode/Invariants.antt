@@ -6,5 +6,5 @@ abbrev pub invariant-loop-i : goal.invariant-loop-i
 invariant-loop-i l = record {
   room : length l.out ≡ length l.initial.out;
   decoded : take l.i l.out ≡ take l.i (bytes_of l.self);
-  kept : drop l.i l.out ≡ drop l.i l.initial.out
+  kept : drop l.i l.out ≡ drop l.i l.initial.out;
 }
