@@ -1,10 +1,11 @@
 -- What the definitions come to, on the line (put 12 x0aff) and a few other texts: each is computed. Assumes nothing.
 use Rattle.std.specs.Prelude.{◌≡◌, refl, List, [], ◌∷◌, ◌++◌, true, None, Some, ℕ}
+use Rattle.std.specs.Fmt.{digits}
 use Rattle.std.proofs.Common.{◌≤◌, length, le-ltb}
 use Rattle.script.specs.declared.out.TheConstants.{ROOM}
 use Rattle.script.specs.Words.{bracketed, inner_of, words_of, word_count, word_of, digit_of, all_digits, spelled, numeral, is_number, number_read}
 use Rattle.script.specs.Words.{is_bytes, pairs, decoded}
-use Rattle.script.specs.Out.{put, puts, sent, hex_digit, hex_text, bytes_text}
+use Rattle.script.specs.Out.{put, puts, sent, number_text, hex_digit, hex_text, bytes_text}
 use Rattle.script.specs.Input.{empty_line, took, filled, after_line}
 
 -- put 12 x0aff
@@ -35,6 +36,10 @@ pub number_second : number_read (word_of call 1) ≡ Some 12
 unfolding is_number numeral all_digits spelled digit_of word_of words_of
 number_second = refl
 
+pub number_is : is_number (word_of call 1) ≡ true
+unfolding is_number numeral all_digits spelled digit_of word_of words_of
+number_is = refl
+
 pub number_over : number_read over ≡ None
 unfolding is_number numeral all_digits spelled digit_of
 number_over = refl
@@ -64,6 +69,14 @@ put_full h f = rw (le-ltb (length h) ROOM f)
 pub sent_full : (h : List ℕ) → ROOM ≤ length h → sent h 1 ≡ h
 unfolding sent
 sent_full h f = rw (le-ltb (length h) ROOM f)
+
+pub text_1203 : number_text 1203 ≡ 32 ∷ 49 ∷ 50 ∷ 48 ∷ 51 ∷ []
+unfolding digits
+text_1203 = refl
+
+pub text_zero : number_text 0 ≡ 32 ∷ 48 ∷ []
+unfolding digits
+text_zero = refl
 
 pub text_bytes : bytes_text (10 ∷ 255 ∷ []) ≡ 32 ∷ 120 ∷ 48 ∷ 97 ∷ 102 ∷ 102 ∷ []
 unfolding hex_text hex_digit
