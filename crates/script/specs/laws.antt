@@ -5,3 +5,5 @@ pub mod OutLaws
 pub mod LineLaws
 pub mod ReadLaws
 pub mod Examples
+-- Read and not used: a number that is one, and what two numbers are written as.
+pub use Rattle.script.specs.laws.Examples.{number_is, text_1203, text_zero}
