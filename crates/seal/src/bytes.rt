@@ -1,7 +1,7 @@
 // Little-endian fields at an offset of a slice, and runs of bytes copied, moved and cleared (bytes.rs; the
 // `put_*` of write/mod.rs). A field comes back as a u64 whatever its width, since every caller computes with it.
 ghost use Rattle.std.specs.Prelude.{◌≡◌, ◌+◌, ◌≤◌, ◌<◌, ◌^◌, length, replicate};
-ghost use Rattle.seal.specs.Bytes.{field_at, u16_at, u32_at, u64_at, splice, moved, bytes_of};
+ghost use Rattle.seal.specs.Bytes.{field_at, splice, moved, bytes_of};
 
 // The field of N bytes at offset i.
 #[tactic(auto, using(crate::specs::laws::WordLaws::field_read, crate::specs::laws::WordLaws::field_read_fits))]
@@ -51,62 +51,4 @@ pub fn clear(s: &mut [u8], a: usize, n: usize)
     ensures { s.new ≡ splice s.old a (replicate n 0) }
 {
     s[a..a + n].fill(0);
-}
-
-// Fields of 2, 4 and 8 bytes, and moves of one direction: for callers that do not yet name the width, or call `shift`.
-
-pub fn u16_at(s: &[u8], i: usize) -> u64
-    requires { i + 2 ≤ length s.now }
-    ensures { (result ≡ u16_at s.now i) × (result < 2 ^ 16) }
-{
-    field_at::<2>(s, i)
-}
-
-pub fn u32_at(s: &[u8], i: usize) -> u64
-    requires { i + 4 ≤ length s.now }
-    ensures { (result ≡ u32_at s.now i) × (result < 2 ^ 32) }
-{
-    field_at::<4>(s, i)
-}
-
-pub fn u64_at(s: &[u8], i: usize) -> u64
-    requires { i + 8 ≤ length s.now }
-    ensures { (result ≡ u64_at s.now i) × (result < 2 ^ 64) }
-{
-    field_at::<8>(s, i)
-}
-
-pub fn put_u16(s: &mut [u8], i: usize, x: u64)
-    requires { i + 2 ≤ length s.old }
-    ensures { s.new ≡ splice s.old i (bytes_of 2 x) }
-{
-    put_field::<2>(s, i, x);
-}
-
-pub fn put_u32(s: &mut [u8], i: usize, x: u64)
-    requires { i + 4 ≤ length s.old }
-    ensures { s.new ≡ splice s.old i (bytes_of 4 x) }
-{
-    put_field::<4>(s, i, x);
-}
-
-pub fn put_u64(s: &mut [u8], i: usize, x: u64)
-    requires { i + 8 ≤ length s.old }
-    ensures { s.new ≡ splice s.old i (bytes_of 8 x) }
-{
-    put_field::<8>(s, i, x);
-}
-
-pub fn move_down(s: &mut [u8], a: usize, b: usize, n: usize)
-    requires { (b ≤ a) × (a + n ≤ length s.old) }
-    ensures { s.new ≡ moved s.old a b n }
-{
-    shift(s, a, b, n);
-}
-
-pub fn move_up(s: &mut [u8], a: usize, b: usize, n: usize)
-    requires { (a ≤ b) × (b + n ≤ length s.old) }
-    ensures { s.new ≡ moved s.old a b n }
-{
-    shift(s, a, b, n);
 }

@@ -1,9 +1,9 @@
 -- Laws of `window` and `splice`: lengths, what lies where a run was replaced and where it was not. Assumes nothing.
-use Rattle.std.specs.Prelude.{◌≡◌, List, [], ◌∷◌, ◌++◌, ℕ, zero, suc, ◌+◌, ◌≤◌, ◌<◌, ◌-◌, length, take, drop, get_or, set, replicate}
-use Rattle.std.proofs.Common.{sym, ap, ap₂, ◌∙◌, append_assoc, append-nil, add-zero, add_assoc, not-suc-le-zero, le_of_suc-le-suc, add-one, arith, length-append, length-take, length-drop, take-append-drop, take-add, drop-drop, drop-cons, length-take-le, take_at, drop_at, take-take, get_or-take, get_or-drop, take-suc, take_all}
+use Rattle.std.specs.Prelude.{◌≡◌, List, [], ◌∷◌, ◌++◌, ℕ, zero, suc, ◌+◌, ◌≤◌, ◌<◌, ◌-◌, length, take, drop, get_or}
+use Rattle.std.proofs.Common.{sym, ap, ap₂, ◌∙◌, append_assoc, append-nil, add-zero, add_assoc, not-suc-le-zero, le_of_suc-le-suc, arith, length-append, length-take, length-drop, take-append-drop, take-add, drop-drop, drop-cons, length-take-le, take_at, drop_at, take-take, get_or-take, get_or-drop}
 use Rattle.std.proofs.Math.Nat.{sub-zero, suc-sub-suc}
-use Rattle.std.proofs.lemmas.List.{length-replicate, get_or-replicate, take-append-le, drop-append-le, set_split}
-use Rattle.std.proofs.Math.Seq.{drop-append-add, take-nil, take-append_seam, append_snoc}
+use Rattle.std.proofs.lemmas.List.{take-append-le, drop-append-le}
+use Rattle.std.proofs.Math.Seq.{drop-append-add, take-nil, take-append_seam}
 use Rattle.seal.specs.Bytes.{window, splice}
 
 -- ---- lengths
@@ -89,10 +89,6 @@ pub splice_none : (l : List ℕ) (i : ℕ) → splice l i [] ≡ l
 unfolding splice
 splice_none l i = rw (add-zero, append-nil, take-append-drop)
 
-pub set_is_splice : (l : List ℕ) (i v : ℕ) → i < length l → set l i v ≡ splice l i (v ∷ [])
-unfolding splice
-set_is_splice l i v h = set_split l i v h ∙ rw (add-one, ← append_snoc)
-
 pub splice_under : (l : List ℕ) (i : ℕ) (a b : List ℕ) → i + length a + length b ≤ length l → splice (splice l (i + length a) b) i a ≡ splice l i
     (a ++ b)
 unfolding splice
@@ -126,39 +122,3 @@ get_d_after l i vs j h k =
     ∙ ap (λ (q : List ℕ). get_or q 0 0) (window_splice_after l i vs j 1 h k) ∙ get_d_window j 1 l 0 z ∙ ap (λ (q : ℕ). get_or l q 0) (add-zero j)
 
 -- ---- a loop that stores one element a turn
-
--- the run stored so far is l's window of k elements of src
-pub copy_start : (l src : List ℕ) (at : ℕ) → l ≡ splice l at (take 0 src)
-copy_start l src at = sym (splice_none l at)
-
-pub copy_next : (l s src : List ℕ) (at k : ℕ) → s ≡ splice l at (take k src) → at + length src ≤ length l → k < length src
-    → set s (at + k) (get_or src k 0) ≡ splice l at (take (k + 1) src)
-copy_next l s src at k e room h =
-    let le1 : k ≤ length src = omega arith in
-    let lt : length (take k src) ≡ k = length-take-le k src le1 in
-    let ls : length s ≡ length l = ap length e ∙ length_splice l at (take k src) (omega arith) in
-    let in_it : at + k < length s = omega arith in
-    let fit : at + length (take k src) + 1 ≤ length l = omega arith in
-    set_is_splice s (at + k) (get_or src k 0) in_it
-    ∙ ap (λ (q : List ℕ). splice q (at + k) (get_or src k 0 ∷ [])) e
-    ∙ ap (λ (q : ℕ). splice (splice l at (take k src)) (at + q) (get_or src k 0 ∷ [])) (sym lt)
-    ∙ splice_two l at (take k src) (get_or src k 0 ∷ []) fit
-    ∙ ap (splice l at) (sym (rw add-one (take-suc src k 0 h)))
-
-pub copy_done : (l s src : List ℕ) (at k : ℕ) → s ≡ splice l at (take k src) → length src ≤ k → s ≡ splice l at src
-copy_done l s src at k e h = e ∙ ap (splice l at) (take_all k src h)
-
-pub clear_next : (l s : List ℕ) (at n k : ℕ) → s ≡ splice l at (take k (replicate n 0)) → at + n ≤ length l → k < n
-    → set s (at + k) 0 ≡ splice l at (take (k + 1) (replicate n 0))
-clear_next l s at n k e room h =
-    let z : List ℕ = replicate n 0 in
-    let ln : length z ≡ n = length-replicate n 0 in
-    let kn : k < length z = omega arith in
-    let fit : at + length z ≤ length l = omega arith in
-    ap (set s (at + k)) (sym (get_or-replicate n k 0 0 h)) ∙ copy_next l s z at k e fit kn
-
-pub clear_done : (l s : List ℕ) (at n k : ℕ) → s ≡ splice l at (take k (replicate n 0)) → n ≤ k → s ≡ splice l at (replicate n 0)
-clear_done l s at n k e h =
-    let z : List ℕ = replicate n 0 in
-    let ln : length z ≡ n = length-replicate n 0 in
-    copy_done l s z at k e (omega arith)
