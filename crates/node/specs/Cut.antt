@@ -1,12 +1,13 @@
 -- The cut of a node that does not fit (RULES: cut; `split_up` of write/tree.rs).
-use Rattle.std.specs.Prelude.{List, [], ◌∷◌, Bool, false, cond, ◌&&◌, not, ℕ, zero, suc, ◌+◌, ◌-◌, ◌/◌, length, take, drop, leb, ltb}
+use Rattle.std.specs.Prelude.{List, [], ◌∷◌, Bool, false, cond, ◌&&◌, not, ℕ, zero, suc, ◌+◌, ◌-◌, ◌/◌, length, take, drop, leb, ltb, Ok, Err}
+use Rattle.std.specs.Prelude as std
 use Rattle.node.specs.Result.{Result, ok, refused, ◌>>◌, check}
 use Rattle.node.specs.Refusals as refusal
 use Rattle.node.specs.Entry.{Entry, value_length}
 use Rattle.node.specs.Fit.{fits, greater}
 use Rattle.node.specs.declared.info.BTreeInfo.{BTreeInfo}
-use Rattle.node.specs.declared.cut.Answer.{Answer}
-use Rattle.node.specs.declared.cut.Answer.TheVariants.{TooLarge, Nowhere, After}
+use Rattle.node.specs.declared.cut.CutAt.{CutAt}
+use Rattle.node.specs.declared.refusal.Refusal.{Refusal}
 
 -- entry size = key + value + 8, unpadded
 unfoldable pub entry_size : Entry → ℕ
@@ -53,7 +54,6 @@ cut t level es = do
   ok c
 
 -- what an answer of the code means
-unfoldable pub cut_means : Answer → Result ℕ
-cut_means TooLarge = refused refusal.single
-cut_means Nowhere = refused refusal.no_cut
-cut_means (After place at) = ok place
+unfoldable pub cut_means : std.Result CutAt Refusal → Result ℕ
+cut_means (Err x) = refused (refusal.number_of x)
+cut_means (Ok c) = ok c.place

@@ -1,5 +1,6 @@
 -- Reading a node's block: the Reference's fields, and the load line from 3 to 9 (RULES: load-3 to load-9).
-use Rattle.std.specs.Prelude.{List, [], ◌∷◌, Bool, true, cond, ◌&&◌, ◌||◌, not, ℕ, zero, suc, ◌+◌, ◌-◌, ◌*◌, length, leb, eqb}
+use Rattle.std.specs.Prelude.{List, [], ◌∷◌, Bool, true, cond, ◌&&◌, ◌||◌, not, ℕ, zero, suc, ◌+◌, ◌-◌, ◌*◌, length, leb, eqb, Ok, Err}
+use Rattle.std.specs.Prelude as std
 use Rattle.seal.specs.Bytes.{window, u16_at, u32_at, u64_at}
 use Rattle.seal.specs.Checksum.{verified}
 use Rattle.seal.specs.Obj as obj
@@ -13,8 +14,7 @@ use Rattle.node.specs.declared.info.BTreeInfo.{BTreeInfo}
 use Rattle.node.specs.declared.read.Node.{Node}
 use Rattle.node.specs.declared.read.Span.{Span}
 use Rattle.node.specs.declared.read.Place.{Place}
-use Rattle.node.specs.declared.read.Read.{Read}
-use Rattle.node.specs.declared.read.Read.TheVariants.{Refused, Loaded}
+use Rattle.node.specs.declared.refusal.Refusal.{Refusal}
 
 -- btree_info_t, the last 40 bytes of a root
 unfoldable pub info_at : List ℕ → BTreeInfo
@@ -164,6 +164,6 @@ read_node o p lower upper b = do
   ok (on_disk v b)
 
 -- what an answer of `read` means, of the block it read
-unfoldable pub read_of : List ℕ → Read → Result OnDisk
-read_of b (Refused n) = refused n
-read_of b (Loaded v) = ok (on_disk v b)
+unfoldable pub read_of : List ℕ → std.Result Node Refusal → Result OnDisk
+read_of b (Err x) = refused (refusal.number_of x)
+read_of b (Ok v) = ok (on_disk v b)

@@ -1,5 +1,7 @@
 -- The numbers of docs/RULES.md, by name.
 use Rattle.std.specs.Prelude.{ℕ}
+use Rattle.node.specs.declared.refusal.Refusal.{Refusal}
+use Rattle.node.specs.declared.refusal.Refusal.TheVariants as is
 
 abbrev pub lent : ℕ
 lent = 1
@@ -60,3 +62,26 @@ encrypted = 19
 
 abbrev pub output : ℕ
 output = 20
+
+-- the number of each refusal that the code answers
+abbrev pub number_of : Refusal → ℕ
+number_of is.Lent = lent
+number_of is.Address = address
+number_of is.Fletcher = fletcher
+number_of is.Kind = kind
+number_of is.Hashed = hashed
+number_of is.Layout = layout
+number_of is.Level = level
+number_of is.Entry = entry
+number_of is.Keys = keys
+number_of is.Root = root
+number_of is.NoSlot = no_slot
+number_of is.Argument = argument
+number_of is.Single = single
+number_of is.NoCut = no_cut
+number_of is.NewRoot = new_root
+number_of is.Full = full
+number_of is.Count = count
+number_of is.Unmapped = unmapped
+number_of is.Encrypted = encrypted
+number_of is.Output = output

@@ -5,3 +5,4 @@ pub mod CutSteps
 pub mod ReadSteps
 pub mod PackSteps
 pub mod Packable
+pub mod Sought

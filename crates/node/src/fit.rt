@@ -1,11 +1,13 @@
 // Fitting: what a node's entries take as packed, and whether that is within its block (`layout` of btree_write.rs).
-ghost use Rattle.std.specs.Prelude.{◌≡◌, true, ◌+◌, ◌≤◌, ◌<◌, ◌^◌, length, drop};
-ghost use Rattle.node.specs.Records.{record_length, records_length, entries_of};
+ghost use Rattle.std.specs.Prelude.{◌≡◌, true, ◌+◌, ◌≤◌, ◌<◌, ◌^◌, length};
+ghost use Rattle.node.specs.Records.{records_length, entries_of};
 ghost use Rattle.node.specs.Fit.{Sized, padded, data_space, packed_length, fits_sums, fits};
 ghost use Rattle.node.specs.internal.SlotSteps.{lengths_of, longer_of};
 
 use crate::info::BTreeInfo;
-use crate::{record, room};
+use crate::record::Record;
+use crate::room;
+use crate::slot::Records;
 
 // What the first records of a slot take.
 #[derive(Clone, Copy)]
@@ -17,67 +19,84 @@ pub struct Lengths {
     pub values: u64,
 }
 
-// Whether n entries fit whose keys and values take `room` as packed.
-pub fn fits_sums(info: BTreeInfo, root: bool, level: u64, n: u64, room: u64) -> bool
-    requires { Sized info × (n < 2 ^ 32) × (room < 2 ^ 32) }
-    ensures { result ≡ fits_sums info root level n room }
-{
-    let slots = room::toc_slots(info, root, level, n);
-    if slots < n {
-        return false;
-    }
-    let toc = room::toc_length(info, root, level, n);
-    let space = room::data_space(info.node_size, root);
-    toc + room <= space
-}
-
-// The lengths with the record that starts after those counted.
-pub fn longer(slot: &[u8], info: BTreeInfo, s: Lengths) -> Lengths
-    requires { (s.at + record_length (drop s.at slot.now) ≤ length slot.now)
-        × (length slot.now ≤ 2 ^ 20) × (s.keys < 2 ^ 32) × (s.values < 2 ^ 32) }
-    ensures { result ≡ longer_of info slot.now s }
-{
-    let r = record::record_at(slot, s.at);
-    let k = room::padded(info, r.klen as u64);
-    let v = room::padded(info, r.vlen as u64);
-    Lengths {
-        at: r.next,
-        keys: s.keys + k,
-        values: s.values + v,
-    }
-}
-
-// What the first n records take.
-pub fn lengths_of(slot: &[u8], n: usize, info: BTreeInfo) -> Lengths
-    requires { (records_length n slot.now ≤ length slot.now) × (length slot.now ≤ 2 ^ 20) }
-    ensures { (result ≡ lengths_of info n slot.now) × (result.keys + result.values < 2 ^ 24) }
-{
-    let mut s = Lengths {
+impl Lengths {
+    // Of no records.
+    pub const NONE: Lengths = Lengths {
         at: 0,
         keys: 0,
         values: 0,
     };
-    let mut i: usize = 0;
-    while i < n {
-        s = longer(slot, info, s);
-        i += 1;
+
+    // The lengths with the record that starts after those counted.
+    #[tactic(auto, using(crate::specs::laws::fit::Fit::counting))]
+    pub fn longer(self, r: Record<'_>, info: BTreeInfo) -> Lengths
+        requires next { r.at ≡ self.at }
+        requires small { (length r.slot.now ≤ 2 ^ 20) × (self.keys < 2 ^ 32) × (self.values < 2 ^ 32) }
+        ensures { result ≡ longer_of info r.entry.slot.now self }
+    {
+        let p = r.parts();
+        Lengths {
+            at: p.next,
+            keys: self.keys + room::padded(info, p.klen as u64),
+            values: self.values + room::padded(info, p.vlen as u64),
+        }
     }
-    s
 }
 
-// Whether the n entries of a slot fit, which take `used` bytes there. Padding adds at most 7 bytes to a key and 7 to a value, and a record's head
-// has 4: where there is room for so much, their lengths need not be looked at.
-pub fn fits(slot: &[u8], n: usize, used: u64, info: BTreeInfo, root: bool, level: u64) -> bool
-    requires sized { Sized info × (records_length n slot.now ≤ length slot.now) × (length slot.now ≤ 2 ^ 20) }
-    requires used_value { used ≡ records_length n slot.now }
-    ensures { result ≡ fits info root level (entries_of n slot.now) }
-{
-    let most = used + 10 * (n as u64);
-    if fits_sums(info, root, level, n as u64, most) {
-        return true;
+impl Records<'_> {
+    // What the records take.
+    #[tactic(auto, using(crate::specs::laws::fit::Fit::lengths))]
+    pub fn lengths(self, info: BTreeInfo) -> Lengths
+        requires { length self.slot.now ≤ 2 ^ 20 }
+        ensures { (result ≡ lengths_of info self.entry.count self.entry.slot.now) × (result.keys + result.values < 2 ^ 24) }
+    {
+        let mut s = Lengths::NONE;
+        for _ in 0..self.count {
+            let r = Record {
+                slot: self.slot,
+                at: s.at,
+            };
+            s = s.longer(r, info);
+        }
+        s
     }
-    let s = lengths_of(slot, n, info);
-    fits_sums(info, root, level, n as u64, s.keys + s.values)
+
+    // Whether the entries fit, which take `used` bytes in the slot. Padding adds at most 7 bytes to a key and 7 to a
+    // value, and a record's head has 4: where there is room for so much, their lengths need not be looked at.
+    #[tactic(auto, using(crate::specs::laws::fit::Fit::fitting))]
+    pub fn fits(self, used: u64, info: BTreeInfo, root: bool, level: u64) -> bool
+        requires sized { Sized info × (length self.slot.now ≤ 2 ^ 20) }
+        requires used { used ≡ records_length self.count self.slot.now }
+        ensures { result ≡ fits info root level (entries_of self.entry.count self.entry.slot.now) }
+    {
+        let most = used + 10 * self.count;
+        if fits_sums(info, root, level, self.count, most) {
+            return true;
+        }
+        let s = self.lengths(info);
+        fits_sums(info, root, level, self.count, s.keys + s.values)
+    }
+
+    // What the entries take as packed: contents, keys and values.
+    #[tactic(auto, using(crate::specs::laws::fit::Fit::packing))]
+    pub fn packed_length(self, info: BTreeInfo, root: bool, level: u64) -> u64
+        requires { Sized info × (length self.slot.now ≤ 2 ^ 20) }
+        ensures { (result ≡ packed_length info root level (entries_of self.entry.count self.entry.slot.now)) × (result < 2 ^ 40) }
+    {
+        let s = self.lengths(info);
+        let toc = room::toc_length(info, root, level, self.count);
+        toc + (s.keys + s.values)
+    }
+}
+
+// Whether n entries fit whose keys and values take `room` as packed.
+#[tactic(auto, unfolding(crate::specs::Fit::fits_sums))]
+pub fn fits_sums(info: BTreeInfo, root: bool, level: u64, n: u64, room: u64) -> bool
+    requires { Sized info × (n < 2 ^ 32) × (room < 2 ^ 32) }
+    ensures { result ≡ fits_sums info root level n room }
+{
+    n <= room::toc_slots(info, root, level, n)
+        && room::toc_length(info, root, level, n) + room <= room::data_space(info.node_size, root)
 }
 
 // Whether a root over two children fits whose keys have a and b bytes.
@@ -91,17 +110,8 @@ pub fn fits_two(info: BTreeInfo, level: u64, a: u64, b: u64) -> bool
     fits_sums(info, true, level, 2, left + right + (child + child))
 }
 
-// What the n entries of a slot take as packed: contents, keys and values.
-pub fn packed_length(slot: &[u8], n: usize, info: BTreeInfo, root: bool, level: u64) -> u64
-    requires { Sized info × (records_length n slot.now ≤ length slot.now) × (length slot.now ≤ 2 ^ 20) }
-    ensures { (result ≡ packed_length info root level (entries_of n slot.now)) × (result < 2 ^ 40) }
-{
-    let s = lengths_of(slot, n, info);
-    let toc = room::toc_length(info, root, level, n as u64);
-    toc + (s.keys + s.values)
-}
-
 // The data space of a root.
+#[tactic(auto, unfolding(crate::specs::Fit::data_space))]
 pub fn root_space(info: BTreeInfo) -> u64
     requires { Sized info }
     ensures { (result ≡ data_space info.node_size true) × (0 < result) }

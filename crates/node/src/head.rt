@@ -1,5 +1,5 @@
 // The words of a slot: what is known of its node beside its entries (`MemNode` of write/tree.rs).
-ghost use Rattle.std.specs.Prelude.{◌≡◌, cond, ◌+◌, ◌*◌, ◌≤◌, length};
+ghost use Rattle.std.specs.Prelude.{◌≡◌, ◌+◌, ◌*◌, ◌≤◌, length};
 ghost use Rattle.seal.specs.Bytes.{splice};
 ghost use Rattle.node.specs.Slot.{head_at, head_words};
 ghost use Rattle.node.specs.internal.SlotSteps.{read_head};
@@ -8,6 +8,7 @@ use crate::read::Node;
 
 pub const HEAD_WORDS: usize = 9;
 
+// Marks stay words and are no flags: the C interface lends them, and another number than 1 comes back as it was.
 #[derive(Clone, Copy)]
 pub struct Head {
     pub level: u64,
@@ -24,17 +25,8 @@ pub struct Head {
     pub dead: u64,
 }
 
-// A number that is there, else 0.
-fn number_if(on: bool, x: u64) -> u64
-    ensures { result ≡ cond on x 0 }
-{
-    if on {
-        return x;
-    }
-    0
-}
-
 // The words of a node just read from a block, whose records take `used` bytes: of a virtual tree (by_id) it has its id.
+#[tactic(auto, unfolding(crate::specs::internal::SlotSteps::read_head))]
 pub fn head_of(node: Node, used: usize, block: u64, by_id: bool) -> Head
     ensures { result ≡ read_head node used block by_id }
 {
@@ -44,8 +36,8 @@ pub fn head_of(node: Node, used: usize, block: u64, by_id: bool) -> Head
         used: used as u64,
         placed: 1,
         block: block,
-        named: number_if(by_id, 1),
-        id: number_if(by_id, node.oid),
+        named: u64::from(by_id),
+        id: if by_id { node.oid } else { 0 },
         dirty: 0,
         dead: 0,
     }
@@ -53,6 +45,7 @@ pub fn head_of(node: Node, used: usize, block: u64, by_id: bool) -> Head
 
 impl Head {
     // The words of slot s.
+    #[tactic(auto, unfolding(crate::specs::Slot::head_at))]
     pub fn load(heads: &[u64], s: usize) -> Head
         requires { (s + 1) * 9 ≤ length heads.now }
         ensures { result ≡ head_at heads.now s }
@@ -71,6 +64,7 @@ impl Head {
         }
     }
 
+    #[tactic(auto, using(crate::specs::laws::slot::Head::head_stored))]
     pub fn store(self, heads: &mut [u64], s: usize)
         requires { (s + 1) * 9 ≤ length heads.old }
         ensures { heads.new ≡ splice heads.old (s * 9) (head_words self) }

@@ -1,12 +1,13 @@
 // Tree-wide numbers, as `btree_info_t` stores them in a root (BTreeInfo of btree.rs).
 ghost use Rattle.std.specs.Prelude.{◌≡◌, ◌≤◌, ◌<◌, ◌^◌, length};
 ghost use Rattle.node.specs.Obj.{info_size};
+ghost use Rattle.node.specs.Fit.{fixed};
 ghost use Rattle.node.specs.Read.{info_at};
 
 use crate::layout;
 use seal::bytes;
 
-#[derive(Clone, Copy)]
+#[derive(Clone, Copy, PartialEq, Eq)]
 pub struct BTreeInfo {
     pub flags: u64,
     pub node_size: u64,
@@ -19,7 +20,16 @@ pub struct BTreeInfo {
 }
 
 impl BTreeInfo {
+    // Whether keys and values have fixed lengths.
+    #[tactic(auto, unfolding(crate::specs::Fit::fixed))]
+    pub fn is_fixed(self) -> bool
+        ensures { result ≡ fixed self }
+    {
+        self.key_size != 0
+    }
+
     // A root's last 40 bytes.
+    #[tactic(auto, unfolding(crate::specs::Read::info_at))]
     pub fn parse(block: &[u8]) -> BTreeInfo
         requires { info_size ≤ length block.now }
         ensures { (result ≡ info_at block.now)
@@ -27,14 +37,14 @@ impl BTreeInfo {
     {
         let i = block.len() - layout::BTREE_INFO_SIZE;
         BTreeInfo {
-            flags: bytes::u32_at(block, i),
-            node_size: bytes::u32_at(block, i + layout::BT_NODE_SIZE),
-            key_size: bytes::u32_at(block, i + layout::BT_KEY_SIZE),
-            val_size: bytes::u32_at(block, i + layout::BT_VAL_SIZE),
-            longest_key: bytes::u32_at(block, i + layout::BT_LONGEST_KEY),
-            longest_val: bytes::u32_at(block, i + layout::BT_LONGEST_VAL),
-            key_count: bytes::u64_at(block, i + layout::BT_KEY_COUNT),
-            node_count: bytes::u64_at(block, i + layout::BT_NODE_COUNT),
+            flags: bytes::field_at::<4>(block, i),
+            node_size: bytes::field_at::<4>(block, i + layout::BT_NODE_SIZE),
+            key_size: bytes::field_at::<4>(block, i + layout::BT_KEY_SIZE),
+            val_size: bytes::field_at::<4>(block, i + layout::BT_VAL_SIZE),
+            longest_key: bytes::field_at::<4>(block, i + layout::BT_LONGEST_KEY),
+            longest_val: bytes::field_at::<4>(block, i + layout::BT_LONGEST_VAL),
+            key_count: bytes::field_at::<8>(block, i + layout::BT_KEY_COUNT),
+            node_count: bytes::field_at::<8>(block, i + layout::BT_NODE_COUNT),
         }
     }
 }

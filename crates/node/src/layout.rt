@@ -1,4 +1,8 @@
-// Where the fields of a node's block lie (`btree_node_phys_t`, `btree_info_t`): specs/Obj.antt has the same table.
+// Where the fields of a node's block lie (`btree_node_phys_t`, `btree_info_t`): specs/Obj.antt has the same table. And
+// flags.
+ghost use Rattle.std.specs.Prelude.{◌≡◌, ◌<◌};
+ghost use Rattle.node.specs.Fit.{flag};
+
 pub const BTN_FLAGS: usize = 32;
 
 pub const BTN_LEVEL: usize = 34;
@@ -48,3 +52,25 @@ pub const BT_KEY_COUNT: usize = 24;
 pub const BT_NODE_COUNT: usize = 32;
 
 pub const BTREE_INFO_SIZE: usize = 40;
+
+// The flags of a node (`btn_flags`).
+pub const BTNODE_ROOT: u64 = 1;
+
+pub const BTNODE_LEAF: u64 = 2;
+
+pub const BTNODE_FIXED_KV_SIZE: u64 = 4;
+
+pub const BTNODE_HASHED: u64 = 8;
+
+// The flag of a tree (`bt_flags`) whose keys and values are not padded.
+pub const BTREE_KV_NONALIGNED: u64 = 0x40;
+
+// Whether a flag is set in a word of flags.
+// A quotient and no mask, as the definition has it: for `&` each call would have to show which power of two f is.
+#[tactic(auto, unfolding(crate::specs::Fit::flag))]
+pub fn flag(word: u64, f: u64) -> bool
+    requires { 0 < f }
+    ensures { result ≡ flag word f }
+{
+    word / f % 2 == 1
+}

@@ -1,110 +1,84 @@
-// Leading records that a search in byte order passes. Nearly all of them are seen to be below by their first or their second eight bytes,
-// and the loops here do nothing else.
-ghost use Rattle.std.specs.Prelude.{◌≡◌, true, ◌+◌, ◌≤◌, ◌<◌, ◌^◌, length, drop};
-ghost use Rattle.seal.specs.Bytes.{u16_at};
-ghost use Rattle.node.specs.Records.{record_length, entry_of, records_length};
-ghost use Rattle.node.specs.internal.Lead.{Passes, RunLed};
+// Leading records that a search passes. Nearly all of them are seen at once to be below the key, and the loop here does nothing else.
+ghost use Rattle.std.specs.Prelude.{◌≡◌, ℕ, ◌+◌, ◌<◌, ◌^◌};
+ghost use Rattle.node.specs.Records.{mark_length};
+ghost use Rattle.node.specs.internal.Sought.{Passed};
 
-use crate::slot::Run;
-use crate::{lead, record};
-use seal::bytes;
+use crate::record;
+use crate::record::Record;
+use crate::slot::{Records, Run};
+use crate::sought::Sought;
 
-// Whether a record's key is seen to be below every key whose first and second eight bytes spell these numbers.
-fn lead_below(slot: &[u8], at: usize, klen: u64, first: u64, second: u64) -> bool
-    requires lies { at + record_length (drop at slot.now) ≤ length slot.now }
-    requires long { klen ≡ u16_at slot.now at }
-    ensures { result ≡ true → Passes (entry_of (drop at slot.now)).key first second }
+// The leading records that are seen to be below the key, as far as `rest` says of each mark what its value adds to the `bare` bytes of a record.
+// `after` is where the next record would start if this one had `bare` bytes; it is reckoned a turn early, so that where the next record starts
+// waits for one load and two sums.
+fn run_while<S: Sought, M: Fn(u64) -> Option<u64>>(
+    records: Records<'_>,
+    s: &S,
+    bare: usize,
+    rest: M,
+) -> Run
+    requires small { bare < 2 ^ 17 }
+    requires callable { M.IsAlwaysCallable rest }
+    requires adds { (m x : ℕ) → M.post rest m (Some x) → bare + x ≡ 4 + mark_length m }
+    ensures { Passed S.order (S.wanted s.now) records.entry.count records.entry.slot.now result }
 {
-    if klen < 8 {
-        return false;
+    let slot = records.slot;
+    let mut at = 0;
+    let mut last = 0;
+    let mut after = bare;
+    for i in 0..records.count {
+        let r = Record { slot, at };
+        let klen = r.klen();
+        match rest(r.mark()) {
+            Some(more) => {
+                if !s.passes(r, klen) {
+                    return Run { count: i, at, last };
+                }
+                last = at;
+                at = after + (klen + more) as usize;
+                after = at + bare;
+            }
+            None => return Run { count: i, at, last },
+        }
     }
-    let x = lead::lead_at(slot, at + 4);
-    if x != first {
-        return x < first;
-    }
-    if klen < 16 {
-        return false;
-    }
-    lead::lead_at(slot, at + 12) < second
-}
-
-// So many records, where the next lies, and the last of them.
-fn run(count: u64, at: usize, last: usize) -> Run
-    ensures { result ≡ record { count = count; at = at; last = last } }
-{
     Run {
-        count: count,
-        at: at,
-        last: last,
+        count: records.count,
+        at,
+        last,
     }
 }
 
-// The leading records of a leaf, ghosts aside, that are seen to be below. `after` is where a record's key starts; it is reckoned a turn
-// early, so that where the next record starts waits for one load and two sums.
-pub fn run_plain(slot: &[u8], n: u64, first: u64, second: u64) -> Run
-    requires { records_length n slot.now ≤ length slot.now }
-    ensures { RunLed slot.now n first second result }
-{
-    let mut i = 0;
-    let mut at = 0;
-    let mut last = 0;
-    let mut after = 4;
-    while i < n {
-        let klen = bytes::u16_at(slot, at);
-        let mark = bytes::u16_at(slot, at + 2);
-        if 0xFFFC < mark {
-            return run(i, at, last);
-        }
-        if !lead_below(slot, at, klen, first, second) {
-            return run(i, at, last);
-        }
-        last = at;
-        at = after + (klen + mark) as usize;
-        i += 1;
-        after = at + 4;
+impl Records<'_> {
+    // Those of a leaf, ghosts aside: a value has as many bytes as its mark says.
+    pub fn run_plain<S: Sought>(self, s: &S) -> Run
+        ensures { Passed S.order (S.wanted s.now) self.entry.count self.entry.slot.now result }
+    {
+        run_while(self, s, 4, |m| if m <= 0xFFFC { Some(m) } else { None })
     }
-    run(i, at, last)
-}
 
-// The leading records of one mark that are seen to be below. Here `after` is where the next record would start if the key were empty.
-fn run_marked(slot: &[u8], n: u64, mark: u64, first: u64, second: u64) -> Run
-    requires slot_in_bounds { records_length n slot.now ≤ length slot.now }
-    requires mark_bound { mark < 2 ^ 16 }
-    ensures { RunLed slot.now n first second result }
-{
-    let mut i = 0;
-    let mut at = 0;
-    let mut last = 0;
-    let len = 4 + record::mark_length(mark);
-    let mut after = len;
-    while i < n {
-        let klen = bytes::u16_at(slot, at);
-        let m = bytes::u16_at(slot, at + 2);
-        if mark != m {
-            return run(i, at, last);
+    // Those that have the first one's mark: all their values have one length.
+    pub fn run_marked<S: Sought>(self, s: &S) -> Run
+        ensures { Passed S.order (S.wanted s.now) self.entry.count self.entry.slot.now result }
+    {
+        if self.count == 0 {
+            return Run {
+                count: 0,
+                at: 0,
+                last: 0,
+            };
         }
-        if !lead_below(slot, at, klen, first, second) {
-            return run(i, at, last);
-        }
-        last = at;
-        at = after + klen as usize;
-        i += 1;
-        after = at + len;
+        let mark = self.record(0).mark();
+        let bare = 4 + record::mark_length(mark);
+        run_while(self, s, bare, |m| if m == mark { Some(0) } else { None })
     }
-    run(i, at, last)
-}
 
-// The leading records that are seen to be below: of a leaf, or of an index whose children are all loaded, or all not.
-pub fn run_led(slot: &[u8], n: u64, first: u64, second: u64) -> Run
-    requires { records_length n slot.now ≤ length slot.now }
-    ensures { RunLed slot.now n first second result }
-{
-    if n == 0 {
-        return run(0, 0, 0);
+    // Those of a leaf, or of an index whose children are all loaded, or all not.
+    pub fn run_led<S: Sought>(self, s: &S) -> Run
+        ensures { Passed S.order (S.wanted s.now) self.entry.count self.entry.slot.now result }
+    {
+        if 0 < self.count && self.record(0).mark() <= 0xFFFC {
+            return self.run_plain(s);
+        }
+        self.run_marked(s)
     }
-    let mark = bytes::u16_at(slot, 2);
-    if mark <= 0xFFFC {
-        return run_plain(slot, n, first, second);
-    }
-    run_marked(slot, n, mark, first, second)
 }

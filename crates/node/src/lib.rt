@@ -20,5 +20,6 @@ pub mod refusal;
 mod room;
 pub mod search;
 pub mod slot;
+mod sought;
 pub mod stands;
 pub mod val;

@@ -1,17 +1,19 @@
 // Packing a node that fits (`build` of btree_write.rs): straight into the block that is lent from its start.
-ghost use Rattle.std.specs.Prelude.{◌≡◌, cond, true, map, ◌+◌, ◌*◌, ◌≤◌, ◌<◌, ◌^◌, length, drop};
+ghost use Rattle.std.specs.Prelude.{◌≡◌, true, map, ◌+◌, ◌*◌, ◌≤◌, ◌<◌, ◌^◌, length, drop};
 ghost use Rattle.seal.specs.Bytes.{splice};
 ghost use Rattle.seal.specs.Obj.{o_oid};
 ghost use Rattle.node.specs.Obj.{btn_flags, btn_lists, node_header, info_size};
 ghost use Rattle.node.specs.Entry.{value_bytes};
-ghost use Rattle.node.specs.Records.{mark_length, value_of, records_length, entries_of, entry_of};
+ghost use Rattle.node.specs.Records.{mark_length, value_of, entries_of, entry_of};
 ghost use Rattle.node.specs.Fit.{Sized, fits, slot_width, keys_length, values_length};
 ghost use Rattle.node.specs.Pack.{child_number, numbered_value, numbered, node_flags, info_bytes, pack_node};
-ghost use Rattle.node.specs.internal.PackSteps.{marked_at, loc_bytes, off_bytes, slot_bytes, mark_offset, put_entry, put_entries, spot_after, Room, Rooms, node_bytes, no_lists, head_of, filled, Packs};
+ghost use Rattle.node.specs.internal.PackSteps.{marked_at, slot_bytes, mark_offset, put_entry, put_entries, spot_after, Room, Rooms, node_bytes, no_lists, head_of, filled, Packs};
 
 use crate::build::NodeBuild;
 use crate::head::HEAD_WORDS;
 use crate::info::BTreeInfo;
+use crate::record::Record;
+use crate::slot::Records;
 use crate::{layout, record, room};
 use seal::obj::ObjHeader;
 use seal::{bytes, checksum};
@@ -20,6 +22,23 @@ use seal::{bytes, checksum};
 const HEAD_PLACED: usize = 3;
 
 const HEAD_NAMED: usize = 5;
+
+// What is packed: a slot's records. The words of all slots have the numbers of children in slots.
+#[derive(Clone, Copy)]
+struct Packed<'a> {
+    records: Records<'a>,
+    heads: &'a [u64],
+    // Whether the tree is virtual: then a child's number is its id, else its block.
+    by_id: bool,
+}
+
+// What a block is laid out by: its tree's numbers, where its keys start, and where its values end.
+#[derive(Clone, Copy)]
+struct Areas {
+    info: BTreeInfo,
+    keys: usize,
+    vals: usize,
+}
 
 // How far packing has come.
 #[derive(Clone, Copy)]
@@ -33,6 +52,7 @@ pub struct Spot {
 }
 
 // The number after a mark among the words of slot s; 0 without the mark, or where there are no such words.
+#[tactic(auto, unfolding(crate::specs::internal::PackSteps::marked_at))]
 fn marked_at(heads: &[u64], s: usize, mark: usize) -> u64
     requires { mark ≤ 8 }
     ensures { result ≡ marked_at heads.now s mark }
@@ -40,79 +60,56 @@ fn marked_at(heads: &[u64], s: usize, mark: usize) -> u64
     if heads.len() / HEAD_WORDS < s {
         return 0;
     }
-    if heads.len() - s * HEAD_WORDS <= mark + 1 {
-        return 0;
+    let words = &heads[s * HEAD_WORDS..];
+    if mark + 1 < words.len() && words[mark] == 1 {
+        words[mark + 1]
+    } else {
+        0
     }
-    if heads[s * HEAD_WORDS + mark] != 1 {
-        return 0;
-    }
-    heads[s * HEAD_WORDS + (mark + 1)]
 }
 
 // The number of the child in slot s: of a virtual tree (by_id) its id, else its block. 0 where it has none, or there is
 // no such slot.
+// No Option: the definition gives 0 there too, since what is packed is a number in any case.
+#[tactic(auto, using(crate::specs::laws::pack::Steps::child_id, crate::specs::laws::pack::Steps::child_block))]
 pub fn child_number(heads: &[u64], s: u64, by_id: bool) -> u64
     ensures { result ≡ child_number heads.now by_id s }
 {
-    let slot = s as usize;
-    if by_id {
-        return marked_at(heads, slot, HEAD_NAMED);
-    }
-    marked_at(heads, slot, HEAD_PLACED)
+    let mark = if by_id { HEAD_NAMED } else { HEAD_PLACED };
+    marked_at(heads, s as usize, mark)
 }
 
 // The offset that the contents give a value: a ghost has none.
+#[tactic(auto, unfolding(crate::specs::internal::PackSteps::mark_offset))]
 fn value_offset(mark: u64, val: u64) -> u64
     ensures { result ≡ mark_offset mark val }
 {
     if mark == record::GHOST {
-        return layout::BTOFF_INVALID;
+        layout::BTOFF_INVALID
+    } else {
+        val
     }
-    val
 }
 
-fn slot_width(t: BTreeInfo) -> usize
-    ensures { (result ≡ slot_width t) × (result ≤ 8) }
-{
-    if t.key_size == 0 {
-        return 8;
-    }
-    4
-}
-
-// kvloc_t at p: offset and length of the key, then of the value.
-fn put_loc(block: &mut [u8], p: usize, ko: u64, kl: u64, vo: u64, vl: u64)
-    requires { p + 8 ≤ length block.old }
-    ensures { block.new ≡ splice block.old p (loc_bytes ko kl vo vl) }
-{
-    bytes::put_u16(block, p, ko);
-    bytes::put_u16(block, p + 2, kl);
-    bytes::put_u16(block, p + 4, vo);
-    bytes::put_u16(block, p + 6, vl);
-}
-
-// kvoff_t at p: lengths are the tree's.
-fn put_off(block: &mut [u8], p: usize, ko: u64, vo: u64)
-    requires { p + 4 ≤ length block.old }
-    ensures { block.new ≡ splice block.old p (off_bytes ko vo) }
-{
-    bytes::put_u16(block, p, ko);
-    bytes::put_u16(block, p + 2, vo);
-}
-
-// A contents slot at p.
+// A contents slot at p: offset and length of the key, then of the value (`kvloc_t`); the offsets alone (`kvoff_t`)
+// where lengths are the tree's.
+#[tactic(auto, using(crate::specs::laws::pack::Steps::slot_laws), unfolding(crate::specs::Fit::slot_width))]
 fn put_slot(block: &mut [u8], p: usize, t: BTreeInfo, ko: u64, kl: u64, vo: u64, vl: u64)
     requires { p + slot_width t ≤ length block.old }
     ensures { block.new ≡ splice block.old p (slot_bytes t ko kl vo vl) }
 {
-    if t.key_size == 0 {
-        put_loc(block, p, ko, kl, vo, vl);
-        return;
+    bytes::put_field::<2>(block, p, ko);
+    if t.is_fixed() {
+        bytes::put_field::<2>(block, p + 2, vo);
+    } else {
+        bytes::put_field::<2>(block, p + 2, kl);
+        bytes::put_field::<2>(block, p + 4, vo);
+        bytes::put_field::<2>(block, p + 6, vl);
     }
-    put_off(block, p, ko, vo);
 }
 
 // The value of this mark and these bytes, at p; a child in a slot by its number.
+#[tactic(auto, using(crate::specs::laws::pack::Steps::value_laws))]
 fn put_value(block: &mut [u8], p: usize, mark: u64, v: &[u8], heads: &[u64], by_id: bool)
     requires { (length v.now ≡ mark_length mark) × (p + length v.now ≤ length block.old) }
     ensures { block.new ≡ splice block.old p
@@ -120,76 +117,69 @@ fn put_value(block: &mut [u8], p: usize, mark: u64, v: &[u8], heads: &[u64], by_
 {
     if mark <= 0xFFFC {
         bytes::copy_to(v, block, p);
-        return;
+    } else if mark != record::GHOST {
+        let x = bytes::field_at::<8>(v, 0);
+        let number = if mark == record::DISK {
+            x
+        } else {
+            child_number(heads, x, by_id)
+        };
+        bytes::put_field::<8>(block, p, number);
     }
-    if mark == record::GHOST {
-        return;
-    }
-    let x = bytes::u64_at(v, 0);
-    if mark == record::DISK {
-        bytes::put_u64(block, p, x);
-        return;
-    }
-    bytes::put_u64(block, p, child_number(heads, x, by_id));
 }
 
 // The record at s.at: its key after the keys, its value before the values, its contents slot.
-fn put_entry(
-    block: &mut [u8],
-    slot: &[u8],
-    heads: &[u64],
-    by_id: bool,
-    t: BTreeInfo,
-    keys: usize,
-    vals: usize,
-    s: Spot,
-) -> Spot
-    requires { Room t keys vals s slot.now block.old }
-    ensures { (block.new ≡ put_entry t keys vals s.toc s.key result.val
-        (numbered (child_number heads.now by_id) (entry_of (drop s.at slot.now)))
+#[tactic(auto, using(crate::specs::laws::pack::Steps::sums), unfolding(crate::specs::internal::SlotSteps::parts_at))]
+fn put_entry(block: &mut [u8], from: Packed, areas: Areas, s: Spot) -> Spot
+    requires { Room areas.info areas.keys areas.vals s from.records.slot.now block.old }
+    ensures { (block.new ≡ put_entry areas.info areas.keys areas.vals s.toc s.key result.val
+        (numbered (child_number from.entry.heads.now from.entry.by_id) (entry_of (drop s.at from.entry.records.slot.now)))
         block.old)
-        × (result ≡ spot_after t slot.now s) }
+        × (result ≡ spot_after areas.info from.entry.records.slot.now s) }
 {
-    let r = record::record_at(slot, s.at);
-    let k = r.key;
-    let v = r.value;
-    let e = r.next;
-    let klen = r.klen;
-    let vlen = r.vlen;
-    let kpad = room::padded(t, klen as u64) as usize;
-    let vpad = room::padded(t, vlen as u64) as usize;
-    let key = s.key + kpad;
-    let val = s.val + vpad;
-    bytes::copy_to(&slot[k..v], block, keys + s.key);
-    put_value(block, vals - val, r.mark, &slot[v..e], heads, by_id);
+    let t = areas.info;
+    let r = Record {
+        slot: from.records.slot,
+        at: s.at,
+    }
+    .parts();
+    let klen = r.klen as u64;
+    let vlen = r.vlen as u64;
+    let key = s.key + room::padded(t, klen) as usize;
+    let val = s.val + room::padded(t, vlen) as usize;
+    bytes::copy_to(
+        &from.records.slot[r.key..r.value],
+        block,
+        areas.keys + s.key,
+    );
+    let value = &from.records.slot[r.value..r.next];
+    put_value(
+        block,
+        areas.vals - val,
+        r.mark,
+        value,
+        from.heads,
+        from.by_id,
+    );
     let vo = value_offset(r.mark, val as u64);
-    put_slot(block, s.toc, t, s.key as u64, klen as u64, vo, vlen as u64);
-    let toc = s.toc + slot_width(t);
+    put_slot(block, s.toc, t, s.key as u64, klen, vo, vlen);
     Spot {
-        toc,
-        at: e,
+        toc: s.toc + room::slot_width(t) as usize,
+        at: r.next,
         key,
         val,
     }
 }
 
-// The n records of a slot, one after another: keys from `keys` up, values from `vals` down.
-fn put_entries(
-    block: &mut [u8],
-    slot: &[u8],
-    n: usize,
-    heads: &[u64],
-    by_id: bool,
-    t: BTreeInfo,
-    keys: usize,
-    vals: usize,
-) -> Spot
-    requires { Rooms t keys vals n slot.now block.old }
-    ensures { (block.new ≡ put_entries t keys vals node_header 0 0
-        (map (numbered (child_number heads.now by_id)) (entries_of n slot.now))
-        block.old)
-        × (result.key ≡ keys_length t (entries_of n slot.now))
-        × (result.val ≡ values_length t (entries_of n slot.now)) }
+// All records, one after another: keys from `keys` up, values from `vals` down.
+#[tactic(auto, using(crate::specs::laws::pack::Steps::going_laws))]
+fn put_entries(block: &mut [u8], from: Packed, areas: Areas) -> Spot
+    requires { Rooms areas.info areas.keys areas.vals from.records.count from.records.slot.now block.old }
+    ensures { (block.new ≡ put_entries areas.info areas.keys areas.vals node_header 0 0
+        (map (numbered (child_number from.entry.heads.now from.entry.by_id))
+        (entries_of from.entry.records.count from.entry.records.slot.now)) block.old)
+        × (result.key ≡ keys_length areas.info (entries_of from.entry.records.count from.entry.records.slot.now))
+        × (result.val ≡ values_length areas.info (entries_of from.entry.records.count from.entry.records.slot.now)) }
 {
     let mut s = Spot {
         toc: layout::BTN_DATA,
@@ -197,58 +187,57 @@ fn put_entries(
         key: 0,
         val: 0,
     };
-    let mut i: usize = 0;
-    while i < n {
-        s = put_entry(block, slot, heads, by_id, t, keys, vals, s);
-        i += 1;
+    for _ in 0..from.records.count {
+        s = put_entry(block, from, areas, s);
     }
     s
 }
 
-fn flag_if(on: bool, f: u64) -> u64
-    ensures { (result ≡ cond on f 0) × (result ≤ f) }
-{
-    if on {
-        return f;
-    }
-    0
-}
-
-// btn_flags: root 1, leaf 2, fixed lengths 4.
+// btn_flags.
+#[tactic(auto, unfolding(crate::specs::Pack::node_flags))]
 fn node_flags(b: NodeBuild) -> u64
     ensures { result ≡ node_flags b }
 {
-    let t = b.info;
-    flag_if(b.root, 1) + flag_if(b.level == 0, 2) + flag_if(t.key_size != 0, 4)
+    let root = if b.root { layout::BTNODE_ROOT } else { 0 };
+    let leaf = if b.level == 0 { layout::BTNODE_LEAF } else { 0 };
+    let fixed = if b.info.is_fixed() {
+        layout::BTNODE_FIXED_KV_SIZE
+    } else {
+        0
+    };
+    root + leaf + fixed
 }
 
 // btree_node_phys_t, up to its free lists.
+#[tactic(auto, using(crate::specs::laws::pack::Steps::node_law))]
 fn put_node(block: &mut [u8], flags: u64, level: u64, n: u64, toc: u64, keys: u64, free: u64)
     requires { node_header ≤ length block.old }
     ensures { block.new ≡ splice block.old btn_flags.offset
         (node_bytes flags level n toc keys free) }
 {
-    bytes::put_u16(block, layout::BTN_FLAGS, flags);
-    bytes::put_u16(block, layout::BTN_LEVEL, level);
-    bytes::put_u32(block, layout::BTN_NKEYS, n);
-    bytes::put_u16(block, layout::BTN_TABLE_OFF, 0);
-    bytes::put_u16(block, layout::BTN_TABLE_LEN, toc);
-    bytes::put_u16(block, layout::BTN_FREE_OFF, keys);
-    bytes::put_u16(block, layout::BTN_FREE_LEN, free);
+    bytes::put_field::<2>(block, layout::BTN_FLAGS, flags);
+    bytes::put_field::<2>(block, layout::BTN_LEVEL, level);
+    bytes::put_field::<4>(block, layout::BTN_NKEYS, n);
+    bytes::put_field::<2>(block, layout::BTN_TABLE_OFF, 0);
+    bytes::put_field::<2>(block, layout::BTN_TABLE_LEN, toc);
+    bytes::put_field::<2>(block, layout::BTN_FREE_OFF, keys);
+    bytes::put_field::<2>(block, layout::BTN_FREE_LEN, free);
 }
 
 // Its free lists: a node that is packed whole has none.
+#[tactic(auto, using(crate::specs::laws::pack::Steps::lists_law))]
 fn put_lists(block: &mut [u8])
     requires { node_header ≤ length block.old }
     ensures { block.new ≡ splice block.old btn_lists no_lists }
 {
-    bytes::put_u16(block, layout::BTN_KEY_FREE_OFF, layout::BTOFF_INVALID);
-    bytes::put_u16(block, layout::BTN_KEY_FREE_LEN, 0);
-    bytes::put_u16(block, layout::BTN_VAL_FREE_OFF, layout::BTOFF_INVALID);
-    bytes::put_u16(block, layout::BTN_VAL_FREE_LEN, 0);
+    bytes::put_field::<2>(block, layout::BTN_KEY_FREE_OFF, layout::BTOFF_INVALID);
+    bytes::put_field::<2>(block, layout::BTN_KEY_FREE_LEN, 0);
+    bytes::put_field::<2>(block, layout::BTN_VAL_FREE_OFF, layout::BTOFF_INVALID);
+    bytes::put_field::<2>(block, layout::BTN_VAL_FREE_LEN, 0);
 }
 
 // The header: obj_phys_t after the sum, then btree_node_phys_t.
+#[tactic(auto, using(crate::specs::laws::pack::Steps::head_law))]
 fn put_head(block: &mut [u8], b: NodeBuild, n: u64, toc: u64, keys: u64, free: u64)
     requires { node_header ≤ length block.old }
     ensures { block.new ≡ splice block.old o_oid.offset (head_of b n toc keys free) }
@@ -266,67 +255,64 @@ fn put_head(block: &mut [u8], b: NodeBuild, n: u64, toc: u64, keys: u64, free: u
 }
 
 // btree_info_t at p.
+#[tactic(auto, using(crate::specs::laws::pack::Steps::info_law))]
 fn put_info(block: &mut [u8], p: usize, t: BTreeInfo)
     requires { p + info_size ≤ length block.old }
     ensures { block.new ≡ splice block.old p (info_bytes t) }
 {
-    bytes::put_u32(block, p, t.flags);
-    bytes::put_u32(block, p + layout::BT_NODE_SIZE, t.node_size);
-    bytes::put_u32(block, p + layout::BT_KEY_SIZE, t.key_size);
-    bytes::put_u32(block, p + layout::BT_VAL_SIZE, t.val_size);
-    bytes::put_u32(block, p + layout::BT_LONGEST_KEY, t.longest_key);
-    bytes::put_u32(block, p + layout::BT_LONGEST_VAL, t.longest_val);
-    bytes::put_u64(block, p + layout::BT_KEY_COUNT, t.key_count);
-    bytes::put_u64(block, p + layout::BT_NODE_COUNT, t.node_count);
+    bytes::put_field::<4>(block, p, t.flags);
+    bytes::put_field::<4>(block, p + layout::BT_NODE_SIZE, t.node_size);
+    bytes::put_field::<4>(block, p + layout::BT_KEY_SIZE, t.key_size);
+    bytes::put_field::<4>(block, p + layout::BT_VAL_SIZE, t.val_size);
+    bytes::put_field::<4>(block, p + layout::BT_LONGEST_KEY, t.longest_key);
+    bytes::put_field::<4>(block, p + layout::BT_LONGEST_VAL, t.longest_val);
+    bytes::put_field::<8>(block, p + layout::BT_KEY_COUNT, t.key_count);
+    bytes::put_field::<8>(block, p + layout::BT_NODE_COUNT, t.node_count);
 }
 
 // A whole block but for its sum.
-fn fill(block: &mut [u8], slot: &[u8], n: usize, heads: &[u64], by_id: bool, b: NodeBuild)
-    requires { Packs b n slot.now block.old }
+#[tactic(auto, using(crate::specs::laws::pack::Block::fill_laws))]
+fn fill(block: &mut [u8], from: Packed, b: NodeBuild)
+    requires { Packs b from.records.count from.records.slot.now block.old }
     ensures { block.new ≡ filled b
-        (map (numbered (child_number heads.now by_id)) (entries_of n slot.now)) }
+        (map (numbered (child_number from.entry.heads.now from.entry.by_id))
+        (entries_of from.entry.records.count from.entry.records.slot.now)) }
 {
     let t = b.info;
+    let n = from.records.count;
     let size = t.node_size as usize;
     let space = room::data_space(t.node_size, b.root) as usize;
-    let toc = room::toc_length(t, b.root, b.level, n as u64) as usize;
+    let toc = room::toc_length(t, b.root, b.level, n) as usize;
     bytes::clear(block, 0, size);
-    let s = put_entries(
-        block,
-        slot,
-        n,
-        heads,
-        by_id,
-        t,
-        layout::BTN_DATA + toc,
-        layout::BTN_DATA + space,
-    );
+    let areas = Areas {
+        info: t,
+        keys: layout::BTN_DATA + toc,
+        vals: layout::BTN_DATA + space,
+    };
+    let s = put_entries(block, from, areas);
     let free = space - toc - s.key - s.val;
-    put_head(block, b, n as u64, toc as u64, s.key as u64, free as u64);
+    put_head(block, b, n, toc as u64, s.key as u64, free as u64);
     if b.root {
         put_info(block, size - layout::BTREE_INFO_SIZE, t);
     }
 }
 
-fn pack_block(block: &mut [u8], slot: &[u8], n: usize, heads: &[u64], by_id: bool, b: NodeBuild)
-    requires { Packs b n slot.now block.old }
-    ensures { block.new ≡ pack_node b
-        (map (numbered (child_number heads.now by_id)) (entries_of n slot.now)) }
-{
-    fill(block, slot, n, heads, by_id, b);
-    checksum::seal(block);
-}
-
-// Packs the n entries of a slot into the first node_size bytes of `dst`, and seals them.
-pub fn pack(dst: &mut [u8], slot: &[u8], n: usize, heads: &[u64], by_id: bool, b: NodeBuild)
+// Packs the entries of a slot into the first node_size bytes of `dst`, and seals them.
+#[tactic(auto, using(crate::specs::laws::pack::Block::part_laws))]
+pub fn pack(dst: &mut [u8], records: Records<'_>, heads: &[u64], by_id: bool, b: NodeBuild)
     requires tree { Sized b.info }
     requires block { b.info.node_size ≤ length dst.old }
-    requires records { (records_length n slot.now ≤ length slot.now) × (length slot.now ≤ 2 ^ 20) }
-    requires fit { fits b.info b.root b.level (entries_of n slot.now) ≡ true }
+    requires small { length records.slot.now ≤ 2 ^ 20 }
+    requires fit { fits b.info b.root b.level (entries_of records.count records.slot.now) ≡ true }
     ensures { dst.new ≡ splice dst.old 0
-        (pack_node b (map (numbered (child_number heads.now by_id)) (entries_of n slot.now))) }
+        (pack_node b (map (numbered (child_number heads.now by_id)) (entries_of records.entry.count records.entry.slot.now))) }
 {
-    let t = b.info;
-    let size = t.node_size as usize;
-    pack_block(&mut dst[..size], slot, n, heads, by_id, b);
+    let block = &mut dst[..b.info.node_size as usize];
+    let from = Packed {
+        records,
+        heads,
+        by_id,
+    };
+    fill(block, from, b);
+    checksum::seal(block);
 }

@@ -1,29 +1,21 @@
 // A node's block, read (`Node` of btree.rs). The bytes stay in the block.
-ghost use Rattle.std.specs.Prelude.{◌≡◌, true, cond, not, ◌&&◌, ◌||◌, ◌+◌, ◌-◌, ◌%◌, ◌≤◌, ◌<◌, ◌^◌, length, eqb};
+ghost use Rattle.std.specs.Prelude.{◌≡◌, true, not, ◌&&◌, ◌||◌, ◌+◌, ◌-◌, ◌≤◌, ◌<◌, ◌^◌, length};
 ghost use Rattle.seal.specs.Bytes.{window};
 ghost use Rattle.node.specs.Obj.{is_node};
 ghost use Rattle.node.specs.Order.{less, keyed};
-ghost use Rattle.node.specs.Entry.{disk};
+ghost use Rattle.node.specs.Entry.{disk, value_bytes};
 ghost use Rattle.node.specs.Slot.{value_means};
-ghost use Rattle.node.specs.Read.{parsed, same_bool, is_fixed, flags_hold, layout_holds, span_at, is_ghost, span_holds, span_length, entries_hold, entry_at, entries_from, in_bounds, keys_rise, keys_within, read_node, read_of};
+ghost use Rattle.node.specs.Read.{parsed, is_fixed, flags_hold, layout_holds, span_at, is_ghost, span_holds, span_length, entries_hold, value_at, entry_at, entries_from, in_bounds, keys_rise, keys_within, read_node, read_of};
 ghost use Rattle.node.specs.internal.ReadSteps.{Laid, Sound};
+ghost use Rattle.node.specs.laws.base.Bytes.{Bytes};
 
 use crate::info::BTreeInfo;
 use crate::order::Order;
+use crate::refusal::{Refusal, check};
 use crate::val::{Child, Val};
-use crate::{layout, refusal};
-use seal::obj::ObjHeader;
+use crate::{layout, room};
+use seal::obj::{OBJECT_TYPE_BTREE, OBJECT_TYPE_BTREE_NODE, OBJECT_TYPE_MASK, ObjHeader};
 use seal::{bytes, checksum};
-
-const BTNODE_ROOT: u64 = 1;
-
-const BTNODE_LEAF: u64 = 2;
-
-const BTNODE_FIXED_KV_SIZE: u64 = 4;
-
-const BTNODE_HASHED: u64 = 8;
-
-const BTOFF_INVALID: usize = layout::BTOFF_INVALID as usize;
 
 const MAX_DEPTH: u64 = 32;
 
@@ -48,6 +40,7 @@ pub struct Node {
 
 // Where an entry's key starts and how long it is; how far before the value area's end its value starts, and how long
 // that is.
+// The contents' own words, also a ghost's 0xFFFF, and no Option: `span_holds` has to test both before they are a value.
 #[derive(Clone, Copy)]
 pub struct Span {
     pub key: usize,
@@ -57,6 +50,7 @@ pub struct Span {
 }
 
 // Where a node is to stand in its tree.
+// The bounds stand beside it and not in it as Options: definitions make a place of numbers, and compare and keep it.
 #[derive(Clone, Copy)]
 pub struct Place {
     pub root: bool,
@@ -71,34 +65,9 @@ pub struct Place {
     pub bounded: bool,
 }
 
-#[derive(Clone, Copy)]
-pub enum Read {
-    Refused(u64),
-    Loaded(Node),
-}
-
-// The one or the other.
-fn pick(first: bool, a: u64, b: u64) -> u64
-    ensures { result ≡ cond first a b }
-{
-    if first {
-        return a;
-    }
-    b
-}
-
-// Whether two flags are alike.
-fn same(a: bool, b: bool) -> bool
-    ensures { result ≡ same_bool a b }
-{
-    if a {
-        return b;
-    }
-    !b
-}
-
 impl Node {
     // The header's fields and the places that follow from them; nothing is checked.
+    #[tactic(auto, unfolding(crate::specs::Read::parsed))]
     pub fn parse(block: &[u8], place: Place) -> Node
         requires { 512 ≤ length block.now }
         ensures { (result ≡ parsed place block.now)
@@ -107,25 +76,30 @@ impl Node {
     {
         let h = ObjHeader::parse(block);
         let info = BTreeInfo::parse(block);
-        let toc = layout::BTN_DATA + bytes::u16_at(block, layout::BTN_TABLE_OFF) as usize;
-        let tail = pick(place.root, layout::BTREE_INFO_SIZE as u64, 0) as usize;
+        let toc = layout::BTN_DATA + bytes::field_at::<2>(block, layout::BTN_TABLE_OFF) as usize;
+        let (tail, ksize, vsize) = if place.root {
+            (layout::BTREE_INFO_SIZE, info.key_size, info.val_size)
+        } else {
+            (0, place.ksize, place.vsize)
+        };
         Node {
             oid: h.oid,
             xid: h.xid,
             otype: h.obj_type,
             subtype: h.subtype,
-            flags: bytes::u16_at(block, layout::BTN_FLAGS),
-            level: bytes::u16_at(block, layout::BTN_LEVEL),
-            nkeys: bytes::u32_at(block, layout::BTN_NKEYS),
-            toc: toc,
-            keys: toc + bytes::u16_at(block, layout::BTN_TABLE_LEN) as usize,
+            flags: bytes::field_at::<2>(block, layout::BTN_FLAGS),
+            level: bytes::field_at::<2>(block, layout::BTN_LEVEL),
+            nkeys: bytes::field_at::<4>(block, layout::BTN_NKEYS),
+            toc,
+            keys: toc + bytes::field_at::<2>(block, layout::BTN_TABLE_LEN) as usize,
             vals: block.len() - tail,
-            ksize: pick(place.root, info.key_size, place.ksize),
-            vsize: pick(place.root, info.val_size, place.vsize),
+            ksize,
+            vsize,
         }
     }
 
     // Whether lengths are fixed (`is_fixed`, held against the flag by 6).
+    #[tactic(auto, unfolding(crate::specs::Read::is_fixed))]
     fn is_fixed(self) -> bool
         ensures { result ≡ is_fixed self }
     {
@@ -134,113 +108,96 @@ impl Node {
 }
 
 // Root, leaf and fixed flags against the node's place.
+#[tactic(auto, unfolding(crate::specs::Read::flags_hold))]
 fn flags_hold(place: Place, node: Node) -> bool
     ensures { result ≡ flags_hold place node }
 {
-    let leaf = node.flags / BTNODE_LEAF % 2 == 1;
-    let root = node.flags / BTNODE_ROOT % 2 == 1;
-    let fixed = node.flags / BTNODE_FIXED_KV_SIZE % 2 == 1;
-    if !same(leaf, node.level == 0) {
-        return false;
-    }
-    if !same(root, place.root) {
-        return false;
-    }
-    same(fixed, node.ksize != 0)
+    layout::flag(node.flags, layout::BTNODE_LEAF) == (node.level == 0)
+        && layout::flag(node.flags, layout::BTNODE_ROOT) == place.root
+        && layout::flag(node.flags, layout::BTNODE_FIXED_KV_SIZE) == node.is_fixed()
 }
 
 // 6 of the load line.
+#[tactic(auto, unfolding(crate::specs::Read::layout_holds))]
 fn layout_holds(place: Place, node: Node) -> bool
     requires { (node.nkeys < 2 ^ 32) × (node.toc ≤ node.keys) }
     ensures { result ≡ layout_holds place node }
 {
-    if node.vals < node.keys {
-        return false;
-    }
-    if MAX_DEPTH < node.level {
-        return false;
-    }
-    if !flags_hold(place, node) {
-        return false;
-    }
-    let width = pick(node.is_fixed(), 4, 8);
-    if ((node.keys - node.toc) as u64) < node.nkeys * width {
-        return false;
-    }
-    node.oid == place.oid
+    let width = if node.is_fixed() { 4 } else { 8 };
+    node.keys <= node.vals
+        && node.level <= MAX_DEPTH
+        && flags_hold(place, node)
+        && node.nkeys * width <= (node.keys - node.toc) as u64
+        && node.oid == place.oid
 }
 
 // Entry i of the contents.
+#[tactic(auto, unfolding(crate::specs::Read::span_at))]
 pub fn span_at(block: &[u8], node: Node, i: usize) -> Span
     requires laid { Laid node (length block.now) }
     requires i_lt_nkeys { i < node.nkeys }
     ensures { result ≡ span_at node block.now i }
 {
-    if node.ksize != 0 {
+    if node.is_fixed() {
         let e = node.toc + i * 4;
-        let wide = pick(node.level == 0, node.vsize, 8);
-        return Span {
-            key: node.keys + bytes::u16_at(block, e) as usize,
+        Span {
+            key: node.keys + bytes::field_at::<2>(block, e) as usize,
             klen: node.ksize as usize,
-            voff: bytes::u16_at(block, e + 2) as usize,
-            vlen: wide as usize,
-        };
-    }
-    let e = node.toc + i * 8;
-    Span {
-        key: node.keys + bytes::u16_at(block, e) as usize,
-        klen: bytes::u16_at(block, e + 2) as usize,
-        voff: bytes::u16_at(block, e + 4) as usize,
-        vlen: bytes::u16_at(block, e + 6) as usize,
+            voff: bytes::field_at::<2>(block, e + 2) as usize,
+            vlen: if node.level == 0 {
+                node.vsize as usize
+            } else {
+                8
+            },
+        }
+    } else {
+        let e = node.toc + i * 8;
+        Span {
+            key: node.keys + bytes::field_at::<2>(block, e) as usize,
+            klen: bytes::field_at::<2>(block, e + 2) as usize,
+            voff: bytes::field_at::<2>(block, e + 4) as usize,
+            vlen: bytes::field_at::<2>(block, e + 6) as usize,
+        }
     }
 }
 
 // An entry without a value.
+#[tactic(auto, unfolding(crate::specs::Read::is_ghost))]
 pub fn is_ghost(s: Span) -> bool
     ensures { result ≡ is_ghost s }
 {
-    s.voff == BTOFF_INVALID
+    s.voff == layout::BTOFF_INVALID as usize
 }
 
 // Whether an entry lies in a block of this size, and a child is one. No sum is made that could wrap: lengths are not
 // trusted.
+#[tactic(auto, unfolding(crate::specs::Read::span_holds, crate::specs::Read::is_ghost))]
 fn span_holds(node: Node, size: usize, s: Span) -> bool
     ensures { result ≡ span_holds node size s }
 {
-    if size < s.klen {
-        return false;
-    }
-    if size - s.klen < s.key {
-        return false;
-    }
-    if s.voff == BTOFF_INVALID {
-        return node.level == 0;
-    }
-    if node.vals < s.voff {
-        return false;
-    }
-    let start = node.vals - s.voff;
-    if size < s.vlen {
-        return false;
-    }
-    if size - s.vlen < start {
-        return false;
-    }
-    node.level == 0 || s.vlen == 8
+    s.klen <= size
+        && s.key <= size - s.klen
+        && if is_ghost(s) {
+            node.level == 0
+        } else {
+            s.voff <= node.vals
+                && s.vlen <= size
+                && node.vals - s.voff <= size - s.vlen
+                && (node.level == 0 || s.vlen == 8)
+        }
 }
 
 // The bytes of an entry's key and value.
+#[tactic(auto, unfolding(crate::specs::Read::span_length, crate::specs::Read::span_holds))]
 fn span_length(node: Node, size: usize, s: Span) -> usize
     requires { (span_holds node size s ≡ true) × (size ≤ 65536) }
     ensures { (result ≡ span_length s) × (result ≤ 131072) }
 {
-    if s.voff == BTOFF_INVALID {
-        return s.klen;
-    }
-    s.klen + s.vlen
+    if is_ghost(s) { s.klen } else { s.klen + s.vlen }
 }
 
 // 8 of the load line, in one pass: it ends at the first entry that is wrong or makes the sum too long.
+#[tactic(auto, using(crate::specs::laws::read::Read::entries))]
 fn entries_hold(block: &[u8], node: Node, place: Place) -> bool
     requires laid { Laid node (length block.now) }
     requires in_bounds { 512 ≤ length block.now }
@@ -250,11 +207,9 @@ fn entries_hold(block: &[u8], node: Node, place: Place) -> bool
     if n == 0 {
         return place.root && node.level == 0;
     }
-    let tail = pick(place.root, layout::BTREE_INFO_SIZE as u64, 0) as usize;
-    let space = block.len() - layout::BTN_DATA - tail;
+    let space = room::data_space(block.len() as u64, place.root) as usize;
     let mut sum = 0;
-    let mut i = 0;
-    while i < n {
+    for i in 0..n {
         let s = span_at(block, node, i);
         if !span_holds(node, block.len(), s) {
             return false;
@@ -263,19 +218,41 @@ fn entries_hold(block: &[u8], node: Node, place: Place) -> bool
         if space < sum {
             return false;
         }
-        i += 1;
     }
     true
 }
 
 // The key of an entry that lies in the block.
+#[tactic(auto, unfolding(seal::specs::Bytes::window))]
 pub fn key_in(block: &[u8], s: Span) -> &[u8]
     requires { s.key + s.klen ≤ length block.now }
     ensures { result.now ≡ window s.key s.klen block.now }
 {
-    let a = s.key;
-    let e = s.key + s.klen;
-    &block[a..e]
+    &block[s.key..s.key + s.klen]
+}
+
+// The bytes of a leaf's value, of an entry that lies in the block; a ghost has none.
+#[tactic(auto, using(crate::specs::laws::read::Adopt::leaf_bytes))]
+pub fn leaf_in(block: &[u8], node: Node, s: Span) -> &[u8]
+    requires { (span_holds node (length block.now) s ≡ true) × (node.level ≡ 0) }
+    ensures { result.now ≡ value_bytes (value_at node block.now s) }
+{
+    if is_ghost(s) {
+        &block[..0]
+    } else {
+        let start = node.vals - s.voff;
+        &block[start..start + s.vlen]
+    }
+}
+
+// The eight bytes of a child's number, of an entry that lies in the block.
+#[tactic(auto, using(crate::specs::laws::read::Adopt::child_bytes))]
+pub fn child_in(block: &[u8], node: Node, s: Span) -> &[u8]
+    requires { (span_holds node (length block.now) s ≡ true) × (1 ≤ node.level) }
+    ensures { result.now ≡ value_bytes (value_at node block.now s) }
+{
+    let start = node.vals - s.voff;
+    &block[start..start + 8]
 }
 
 // Whether one entry's key is below another's.
@@ -287,205 +264,186 @@ fn key_less(block: &[u8], order: Order, a: Span, b: Span) -> bool
     order.less(key_in(block, a), key_in(block, b))
 }
 
-// Of 9 of the load line: keys that the order can hold, and that rise.
-fn keys_rise(block: &[u8], order: Order, node: Node) -> bool
-    requires { Sound node block.now }
-    ensures { result ≡ keys_rise order.code (entries_from node block.now 0 node.nkeys) }
-{
-    let n = node.nkeys as usize;
-    if n == 0 {
-        return true;
-    }
-    let mut last = span_at(block, node, 0);
-    if !order.keyed(last.klen) {
-        return false;
-    }
-    let mut i = 1;
-    while i < n {
-        let s = span_at(block, node, i);
-        if !order.keyed(s.klen) {
-            return false;
-        }
-        if !key_less(block, order, last, s) {
-            return false;
-        }
-        last = s;
-        i += 1;
-    }
-    true
-}
-
-// Not below the lower bound; a root has none.
-fn above(order: Order, root: bool, key: &[u8], lower: &[u8]) -> bool
-    ensures { result ≡ (root || not (less order.code key.now lower.now)) }
-{
-    if root {
-        return true;
-    }
-    !order.less(key, lower)
-}
-
-// Below the upper bound, if there is one.
-fn below(order: Order, bounded: bool, key: &[u8], upper: &[u8]) -> bool
-    ensures { result ≡ (not bounded || less order.code key.now upper.now) }
-{
-    if !bounded {
-        return true;
-    }
-    order.less(key, upper)
-}
-
-fn in_bounds(order: Order, place: Place, lower: &[u8], upper: &[u8], key: &[u8]) -> bool
-    ensures { result ≡ in_bounds order.code place lower.now upper.now key.now }
-{
-    if !above(order, place.root, key, lower) {
-        return false;
-    }
-    below(order, place.bounded, key, upper)
-}
-
-// Whether the keys of the entries from one to another, the last left out, are within the bounds.
-fn within(
-    block: &[u8],
+// What a node's keys are held against: its place, and the bounds that go with it.
+#[derive(Clone, Copy)]
+struct Bounds<'a> {
     order: Order,
-    node: Node,
     place: Place,
-    lower: &[u8],
-    upper: &[u8],
-    from: usize,
-    to: usize,
-) -> bool
-    requires sound { Sound node block.now }
-    requires from_le_to { (from ≤ to) × (to ≤ node.nkeys) }
-    ensures { result ≡ keys_within order.code place lower.now upper.now
-        (entries_from node block.now from (to - from)) }
-{
-    let mut i = from;
-    while i < to {
-        let s = span_at(block, node, i);
-        if !in_bounds(order, place, lower, upper, key_in(block, s)) {
+    lower: &'a [u8],
+    upper: &'a [u8],
+    ghost bytes: { Bytes lower.now × Bytes upper.now },
+}
+
+impl Bounds<'_> {
+    // Not below the lower bound, which a root has not, and below the upper, if there is one.
+    #[tactic(auto, unfolding(crate::specs::Read::in_bounds))]
+    fn hold(self, key: &[u8]) -> bool
+        ensures { result ≡ in_bounds self.entry.order.code self.entry.place
+            self.entry.lower.now self.entry.upper.now key.now }
+    {
+        (self.place.root || !self.order.less(key, self.lower))
+            && (!self.place.bounded || self.order.less(key, self.upper))
+    }
+
+    // Whether each bound that is looked at is one of the order's keys.
+    #[tactic(auto, unfolding(crate::specs::Order::keyed))]
+    fn are_keys(self) -> bool
+        ensures { result ≡ ((self.entry.place.root || keyed self.entry.order.code self.entry.lower.now)
+            && (not self.entry.place.bounded || keyed self.entry.order.code self.entry.upper.now)) }
+    {
+        (self.place.root || self.order.keyed(self.lower.len()))
+            && (!self.place.bounded || self.order.keyed(self.upper.len()))
+    }
+}
+
+// A node that was read, in its block, in which its entries lie.
+#[derive(Clone, Copy)]
+pub struct ReadNode<'b> {
+    pub block: &'b [u8],
+    pub node: Node,
+    ghost bytes: { Bytes block.now },
+    ghost sound: { Sound node block.now },
+}
+
+impl ReadNode<'_> {
+    // Entry i of the contents.
+    pub fn span_at(self, i: usize) -> Span
+        requires { i < self.node.nkeys }
+        ensures { result ≡ span_at self.entry.node self.entry.block.now i }
+    {
+        span_at(self.block, self.node, i)
+    }
+
+    // Of 9 of the load line: keys that the order can hold, and that rise.
+    #[tactic(auto, using(crate::specs::laws::read::Keys::rise))]
+    fn keys_rise(self, order: Order) -> bool
+        ensures { result ≡ keys_rise order.code (entries_from self.entry.node self.entry.block.now 0 self.entry.node.nkeys) }
+    {
+        let n = self.node.nkeys as usize;
+        if n == 0 {
+            return true;
+        }
+        let mut last = self.span_at(0);
+        if !order.keyed(last.klen) {
             return false;
         }
-        i += 1;
+        for i in 1..n {
+            let s = self.span_at(i);
+            if !order.keyed(s.klen) || !key_less(self.block, order, last, s) {
+                return false;
+            }
+            last = s;
+        }
+        true
     }
-    true
+
+    // Whether the keys of the entries from one to another, the last left out, are within the bounds.
+    #[tactic(auto, using(crate::specs::laws::read::Keys::bound))]
+    fn within(self, bounds: Bounds, from: usize, to: usize) -> bool
+        requires { (from ≤ to) × (to ≤ self.node.nkeys) }
+        ensures { result ≡ keys_within bounds.entry.order.code bounds.entry.place
+            bounds.entry.lower.now bounds.entry.upper.now (entries_from self.entry.node self.entry.block.now from (to - from)) }
+    {
+        for i in from..to {
+            let s = self.span_at(i);
+            if !bounds.hold(key_in(self.block, s)) {
+                return false;
+            }
+        }
+        true
+    }
+
+    // Of 9 of the load line: keys within the bounds. Of keys that rise the first and the last speak for all, if the bounds
+    // are keys too.
+    #[tactic(auto, using(crate::specs::laws::read::Keys::bounds))]
+    fn bounds_hold(self, bounds: Bounds) -> bool
+        requires { keys_rise bounds.order.code (entries_from self.node self.block.now 0 self.node.nkeys) ≡ true }
+        ensures { result ≡ keys_within bounds.entry.order.code bounds.entry.place
+            bounds.entry.lower.now bounds.entry.upper.now (entries_from self.entry.node self.entry.block.now 0 self.entry.node.nkeys) }
+    {
+        let n = self.node.nkeys as usize;
+        if n == 0 {
+            return true;
+        }
+        if bounds.are_keys() {
+            self.within(bounds, 0, 1) && self.within(bounds, n - 1, n)
+        } else {
+            self.within(bounds, 0, n)
+        }
+    }
+
+    // The value of entry i, in place: where a leaf's bytes lie in the block, or the child's number.
+    #[tactic(auto, using(crate::specs::laws::read::Keys::value))]
+    pub fn value_at(self, i: usize) -> Val
+        requires { i < self.node.nkeys }
+        ensures { value_means self.entry.block.now result ≡ (entry_at self.entry.node self.entry.block.now i).value }
+    {
+        let s = self.span_at(i);
+        if is_ghost(s) {
+            return Val::Ghost;
+        }
+        let start = self.node.vals - s.voff;
+        if self.node.level == 0 {
+            Val::Leaf(start, s.vlen)
+        } else {
+            Val::Child(Child::Disk(bytes::field_at::<8>(self.block, start)))
+        }
+    }
+
+    // The child of entry i of an index node.
+    #[tactic(auto, using(crate::specs::laws::read::Keys::child))]
+    pub fn child_at(self, i: usize) -> u64
+        requires { (i < self.node.nkeys) × (1 ≤ self.node.level) }
+        ensures { (entry_at self.entry.node self.entry.block.now i).value ≡ disk result }
+    {
+        let s = self.span_at(i);
+        let start = self.node.vals - s.voff;
+        bytes::field_at::<8>(self.block, start)
+    }
 }
 
-// Whether a bound is one of the order's keys, or is not looked at.
-fn usable(order: Order, unused: bool, bound: &[u8]) -> bool
-    ensures { result ≡ (unused || keyed order.code bound.now) }
-{
-    if unused {
-        return true;
-    }
-    order.keyed(bound.len())
-}
-
-// Of 9 of the load line: keys within the bounds. Of keys that rise the first and the last speak for all, if the bounds
-// are keys too.
-fn bounds_hold(
-    block: &[u8],
-    order: Order,
-    node: Node,
-    place: Place,
-    lower: &[u8],
-    upper: &[u8],
-) -> bool
-    requires sound { Sound node block.now }
-    requires nkeys_value { keys_rise order.code (entries_from node block.now 0 node.nkeys) ≡ true }
-    ensures { result ≡ keys_within order.code place lower.now upper.now
-        (entries_from node block.now 0 node.nkeys) }
-{
-    let n = node.nkeys as usize;
-    if n == 0 {
-        return true;
-    }
-    if !usable(order, place.root, lower) {
-        return within(block, order, node, place, lower, upper, 0, n);
-    }
-    if !usable(order, !place.bounded, upper) {
-        return within(block, order, node, place, lower, upper, 0, n);
-    }
-    if !within(block, order, node, place, lower, upper, 0, 1) {
-        return false;
-    }
-    within(block, order, node, place, lower, upper, n - 1, n)
-}
-
-// Kinds 2 and 3: a root or another node.
+// A root or another node.
+#[tactic(auto, using(seal::specs::laws::ObjLaws::kind_masked))]
 fn is_node(otype: u64) -> bool
     ensures { result ≡ is_node otype }
 {
-    let kind = otype % 65536;
-    kind == 2 || kind == 3
-}
-
-// One below its parent; a root has none.
-fn level_holds(place: Place, level: u64) -> bool
-    requires { level < 2 ^ 16 }
-    ensures { result ≡ (place.root || eqb (level + 1) place.parent) }
-{
-    place.root || level + 1 == place.parent
+    matches!(
+        otype & OBJECT_TYPE_MASK,
+        OBJECT_TYPE_BTREE | OBJECT_TYPE_BTREE_NODE
+    )
 }
 
 // The load line from 3 to 9.
-pub fn read_node(block: &[u8], order: Order, place: Place, lower: &[u8], upper: &[u8]) -> Read
+#[tactic(auto, unfolding(crate::specs::Read::read_node, crate::specs::Read::read_of, crate::specs::Read::keys_hold))]
+pub fn read_node(
+    block: &[u8],
+    order: Order,
+    place: Place,
+    lower: &[u8],
+    upper: &[u8],
+) -> Result<Node, Refusal>
     requires { (512 ≤ length block.now) × (length block.now ≤ 65536) }
     ensures { read_of block.now result
         ≡ read_node order.code place lower.now upper.now block.now }
 {
-    if !checksum::verify(block) {
-        return Read::Refused(refusal::FLETCHER);
-    }
+    check(Refusal::Fletcher, checksum::verify(block))?;
     let node = Node::parse(block, place);
-    if !is_node(node.otype) {
-        return Read::Refused(refusal::KIND);
-    }
-    if node.flags / BTNODE_HASHED % 2 == 1 {
-        return Read::Refused(refusal::HASHED);
-    }
-    if !layout_holds(place, node) {
-        return Read::Refused(refusal::LAYOUT);
-    }
-    if !level_holds(place, node.level) {
-        return Read::Refused(refusal::LEVEL);
-    }
-    if !entries_hold(block, node, place) {
-        return Read::Refused(refusal::ENTRY);
-    }
-    if !keys_rise(block, order, node) {
-        return Read::Refused(refusal::KEYS);
-    }
-    if !bounds_hold(block, order, node, place, lower, upper) {
-        return Read::Refused(refusal::KEYS);
-    }
-    Read::Loaded(node)
-}
-
-// The value of entry i of a node that was read, in place: where a leaf's bytes lie in the block, or the child's number.
-pub fn value_at(block: &[u8], node: Node, i: usize) -> Val
-    requires sound { Sound node block.now }
-    requires i_lt_nkeys { i < node.nkeys }
-    ensures { value_means block.now result ≡ (entry_at node block.now i).value }
-{
-    let s = span_at(block, node, i);
-    if s.voff == BTOFF_INVALID {
-        return Val::Ghost;
-    }
-    let start = node.vals - s.voff;
-    if node.level == 0 {
-        return Val::Leaf(start, s.vlen);
-    }
-    Val::Child(Child::Disk(bytes::u64_at(block, start)))
-}
-
-// The child of entry i of an index node that was read.
-pub fn child_at(block: &[u8], node: Node, i: usize) -> u64
-    requires sound { Sound node block.now }
-    requires i_lt_nkeys { (i < node.nkeys) × (1 ≤ node.level) }
-    ensures { (entry_at node block.now i).value ≡ disk result }
-{
-    let s = span_at(block, node, i);
-    let start = node.vals - s.voff;
-    bytes::u64_at(block, start)
+    check(Refusal::Kind, is_node(node.otype))?;
+    check(
+        Refusal::Hashed,
+        !layout::flag(node.flags, layout::BTNODE_HASHED),
+    )?;
+    check(Refusal::Layout, layout_holds(place, node))?;
+    check(Refusal::Level, place.root || node.level + 1 == place.parent)?;
+    check(Refusal::Entry, entries_hold(block, node, place))?;
+    let read = ReadNode { block, node };
+    check(Refusal::Keys, read.keys_rise(order))?;
+    let bounds = Bounds {
+        order,
+        place,
+        lower,
+        upper,
+    };
+    check(Refusal::Keys, read.bounds_hold(bounds))?;
+    Ok(node)
 }

@@ -1,10 +1,11 @@
 // One record of a slot: an entry as it lies in the slot's bytes (specs/Records.antt).
-ghost use Rattle.std.specs.Prelude.{◌≡◌, ◌+◌, ◌≤◌, ◌<◌, ◌^◌, length, drop, leb};
-ghost use Rattle.seal.specs.Bytes.{splice};
+ghost use Rattle.std.specs.Prelude.{◌≡◌, false, ◌+◌, ◌≤◌, ◌<◌, ◌^◌, length, drop, leb, MatchOption};
+ghost use Rattle.seal.specs.Bytes.{splice, u16_at};
 ghost use Rattle.node.specs.Records.{mark_length, record_bytes, record_length, entry_of};
-ghost use Rattle.node.specs.internal.SlotSteps.{record_at};
-ghost use Rattle.node.specs.Slot.{is_child, suit};
+ghost use Rattle.node.specs.internal.SlotSteps.{parts_at};
+ghost use Rattle.node.specs.Slot.{is_child, suit, value_means};
 
+use crate::val::{Child, Val};
 use seal::bytes;
 
 pub const GHOST: u64 = 0xFFFF;
@@ -13,8 +14,18 @@ pub const DISK: u64 = 0xFFFE;
 
 pub const MEM: u64 = 0xFFFD;
 
+// A record that lies within its slot.
 #[derive(Clone, Copy)]
-pub struct Record {
+pub struct Record<'s> {
+    pub slot: &'s [u8],
+    // Where it starts.
+    pub at: usize,
+    ghost lies: { at + record_length (drop at slot.now) ≤ length slot.now },
+}
+
+// Where the parts of a record lie.
+#[derive(Clone, Copy)]
+pub struct RecordParts {
     // Where the key starts, and its length.
     pub key: usize,
     pub klen: usize,
@@ -40,68 +51,112 @@ pub fn mark_length(mark: u64) -> usize
     8
 }
 
-pub fn record_at(slot: &[u8], at: usize) -> Record
-    requires { at + record_length (drop at slot.now) ≤ length slot.now }
-    ensures { result ≡ record_at slot.now at }
-{
-    let klen = bytes::u16_at(slot, at) as usize;
-    let mark = bytes::u16_at(slot, at + 2);
-    let vlen = mark_length(mark);
-    Record {
-        key: at + 4,
-        klen: klen,
-        mark: mark,
-        value: at + 4 + klen,
-        vlen: vlen,
-        next: at + 4 + klen + vlen,
+impl<'s> Record<'s> {
+    // The record that starts at an offset, if it lies within the slot.
+    #[tactic(auto, using(crate::specs::laws::slot::Records::lies))]
+    pub fn at(slot: &'s [u8], at: usize) -> Option<Record<'s>>
+        requires { at ≤ length slot.now }
+        ensures { MatchOption result (leb (at + record_length (drop at slot.now)) (length slot.now) ≡ false)
+            (λ r. (r.slot.now ≡ slot.now) × (r.at ≡ at)) }
+    {
+        let room = slot.len() - at;
+        if room < 4 {
+            return None;
+        }
+        let klen = bytes::field_at::<2>(slot, at) as usize;
+        let vlen = mark_length(bytes::field_at::<2>(slot, at + 2));
+        if room - 4 < klen + vlen {
+            return None;
+        }
+        Some(Record { slot, at })
     }
-}
 
-// Where the record after the one at an offset starts.
-pub fn next(slot: &[u8], at: usize) -> usize
-    requires { at + record_length (drop at slot.now) ≤ length slot.now }
-    ensures { result ≡ at + record_length (drop at slot.now) }
-{
-    let r = record_at(slot, at);
-    r.next
-}
-
-// Whether a record that starts at an offset lies within the slot.
-pub fn lies(slot: &[u8], at: usize) -> bool
-    requires { at ≤ length slot.now }
-    ensures { result ≡ leb (at + record_length (drop at slot.now)) (length slot.now) }
-{
-    let room = slot.len() - at;
-    if room < 4 {
-        return false;
+    // The key's length.
+    #[tactic(auto, using(crate::specs::laws::slot::Records::record_room_1))]
+    pub fn klen(self) -> u64
+        ensures { (result ≡ u16_at self.entry.slot.now self.entry.at) × (result < 2 ^ 16) }
+    {
+        bytes::field_at::<2>(self.slot, self.at)
     }
-    let klen = bytes::u16_at(slot, at) as usize;
-    let vlen = mark_length(bytes::u16_at(slot, at + 2));
-    klen + vlen <= room - 4
-}
 
-// Whether the record at an offset holds a child.
-fn child_at(slot: &[u8], at: usize) -> bool
-    requires { at + record_length (drop at slot.now) ≤ length slot.now }
-    ensures { result ≡ is_child (entry_of (drop at slot.now)).value }
-{
-    let mark = bytes::u16_at(slot, at + 2);
-    if mark == DISK {
-        return true;
+    // The value's mark.
+    #[tactic(auto, using(crate::specs::laws::slot::Records::record_room_2))]
+    pub fn mark(self) -> u64
+        ensures { (result ≡ u16_at self.entry.slot.now (self.entry.at + 2)) × (result < 2 ^ 16) }
+    {
+        bytes::field_at::<2>(self.slot, self.at + 2)
     }
-    mark == MEM
-}
 
-// Whether the record at an offset suits a leaf, or an index.
-pub fn suits(slot: &[u8], at: usize, leaf: bool) -> bool
-    requires { at + record_length (drop at slot.now) ≤ length slot.now }
-    ensures { result ≡ suit leaf (entry_of (drop at slot.now)) }
-{
-    let child = child_at(slot, at);
-    if leaf {
-        return !child;
+    #[tactic(auto, using(crate::specs::laws::slot::SameHead::parts))]
+    pub fn parts(self) -> RecordParts
+        ensures { result ≡ parts_at self.entry.slot.now self.entry.at }
+    {
+        let klen = self.klen() as usize;
+        let mark = self.mark();
+        let value = self.at + 4 + klen;
+        let vlen = mark_length(mark);
+        RecordParts {
+            key: self.at + 4,
+            klen,
+            mark,
+            value,
+            vlen,
+            next: value + vlen,
+        }
     }
-    child
+
+    // Where the next record starts.
+    #[tactic(auto, using(crate::specs::laws::slot::Records::at_after))]
+    pub fn next(self) -> usize
+        ensures { result ≡ self.entry.at + record_length (drop self.entry.at self.entry.slot.now) }
+    {
+        self.parts().next
+    }
+
+    #[tactic(auto, using(crate::specs::laws::slot::Slot::key))]
+    pub fn key(self) -> &'s [u8]
+        ensures { result.now ≡ (entry_of (drop self.entry.at self.entry.slot.now)).key }
+    {
+        let r = self.parts();
+        &self.slot[r.key..r.value]
+    }
+
+    // The value; its bytes stay in the slot.
+    #[tactic(auto, using(crate::specs::laws::slot::Slot::value))]
+    pub fn value(self) -> Val
+        ensures { value_means self.entry.slot.now result ≡ (entry_of (drop self.entry.at self.entry.slot.now)).value }
+    {
+        let r = self.parts();
+        if r.mark <= 0xFFFC {
+            return Val::Leaf(r.value, r.vlen);
+        }
+        if r.mark == GHOST {
+            return Val::Ghost;
+        }
+        let x = bytes::field_at::<8>(self.slot, r.value);
+        if r.mark == DISK {
+            return Val::Child(Child::Disk(x));
+        }
+        Val::Child(Child::Mem(x))
+    }
+
+    // Whether the value is a child.
+    #[tactic(auto, using(crate::specs::laws::slot::Find::child))]
+    fn holds_child(self) -> bool
+        ensures { result ≡ is_child (entry_of (drop self.entry.at self.entry.slot.now)).value }
+    {
+        let mark = self.mark();
+        mark == DISK || mark == MEM
+    }
+
+    // Whether the record suits a leaf, or an index.
+    #[tactic(auto, using(crate::specs::laws::slot::Find::suits))]
+    pub fn suits(self, leaf: bool) -> bool
+        ensures { result ≡ suit leaf (entry_of (drop self.entry.at self.entry.slot.now)) }
+    {
+        let child = self.holds_child();
+        if leaf { !child } else { child }
+    }
 }
 
 // A record stored at an offset.
@@ -111,8 +166,8 @@ pub fn put(slot: &mut [u8], at: usize, key: &[u8], mark: u64, value: &[u8])
         (record_bytes key.now mark value.now) }
 {
     let klen = key.len();
-    bytes::put_u16(slot, at, klen as u64);
-    bytes::put_u16(slot, at + 2, mark);
+    bytes::put_field::<2>(slot, at, klen as u64);
+    bytes::put_field::<2>(slot, at + 2, mark);
     bytes::copy_to(key, slot, at + 4);
     bytes::copy_to(value, slot, at + 4 + klen);
 }

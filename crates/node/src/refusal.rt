@@ -1,42 +1,63 @@
-// The numbers of docs/RULES.md ("The numbers"). specs/Refusals.antt has the same table.
-pub const NONE: u64 = 0;
+// Why a call refuses: docs/RULES.md ("The numbers"). specs/Refusals.antt has the numbers.
+ghost use Rattle.std.specs.Prelude.{◌≡◌, true, false, MatchResult};
+ghost use Rattle.node.specs.Refusals.{number_of};
 
-pub const LENT: u64 = 1;
+#[derive(Clone, Copy, PartialEq, Eq, Debug)]
+pub enum Refusal {
+    // Sizes, words, slots or numbers that are lent.
+    Lent = 1,
+    // An address outside the image.
+    Address = 2,
+    // The Fletcher sum.
+    Fletcher = 3,
+    // An object that is no node.
+    Kind = 4,
+    // A hashed node.
+    Hashed = 5,
+    // Areas, flags, fixed lengths or the id.
+    Layout = 6,
+    // Not one below the parent.
+    Level = 7,
+    // An entry that does not lie in its block, or entries that are too many.
+    Entry = 8,
+    // Keys that do not rise, or lie outside the bounds.
+    Keys = 9,
+    // A root's storage class, or its stored node size.
+    Root = 10,
+    // No free slot.
+    NoSlot = 11,
+    // A key or a value of a length that the tree has not.
+    Argument = 12,
+    // A single entry that is too large.
+    Single = 13,
+    // No cut leaves two parts that fit.
+    NoCut = 14,
+    // A root over two parts that does not fit, or lies too high.
+    NewRoot = 15,
+    // Too few usable blocks.
+    Full = 16,
+    // A count or an id past the last.
+    Count = 17,
+    // An id without a mapping.
+    Unmapped = 18,
+    // An encrypted object.
+    Encrypted = 19,
+    // An output that is too short.
+    Output = 20,
+}
 
-pub const ADDRESS: u64 = 2;
+// A refusal's number, from 1 to 20.
+impl From<Refusal> for u64 {
+    ghost from_gives = { λ r n. n ≡ number_of r };
 
-pub const FLETCHER: u64 = 3;
+    fn from(refusal: Refusal) -> u64 {
+        refusal as u64
+    }
+}
 
-pub const KIND: u64 = 4;
-
-pub const HASHED: u64 = 5;
-
-pub const LAYOUT: u64 = 6;
-
-pub const LEVEL: u64 = 7;
-
-pub const ENTRY: u64 = 8;
-
-pub const KEYS: u64 = 9;
-
-pub const ROOT: u64 = 10;
-
-pub const NO_SLOT: u64 = 11;
-
-pub const ARGUMENT: u64 = 12;
-
-pub const SINGLE: u64 = 13;
-
-pub const NO_CUT: u64 = 14;
-
-pub const NEW_ROOT: u64 = 15;
-
-pub const FULL: u64 = 16;
-
-pub const COUNT: u64 = 17;
-
-pub const UNMAPPED: u64 = 18;
-
-pub const ENCRYPTED: u64 = 19;
-
-pub const OUTPUT: u64 = 20;
+// Refuses unless a test passed (`check` of specs/Result.antt).
+pub fn check(refusal: Refusal, passed: bool) -> Result<(), Refusal>
+    ensures { MatchResult result (λ _. passed ≡ true) (λ e. (passed ≡ false) × (e ≡ refusal)) }
+{
+    if passed { Ok(()) } else { Err(refusal) }
+}

@@ -1,10 +1,11 @@
 // What keys, values and contents take in a block, as packed (`layout` of btree_write.rs).
 ghost use Rattle.std.specs.Prelude.{◌≡◌, ◌+◌, ◌≤◌, ◌<◌, ◌^◌};
-ghost use Rattle.node.specs.Fit.{Sized, align8, padded, data_space, fixed_value, toc_slots, toc_length};
+ghost use Rattle.node.specs.Fit.{Sized, align8, padded, data_space, slot_width, fixed_value, toc_slots, toc_length};
 
 use crate::info::BTreeInfo;
 use crate::layout;
 
+#[tactic(auto, unfolding(crate::specs::Fit::align8))]
 fn align8(n: u64) -> u64
     requires { n < 2 ^ 32 }
     ensures { (result ≡ align8 n) × (result ≤ n + 7) }
@@ -13,60 +14,61 @@ fn align8(n: u64) -> u64
 }
 
 // A length as packed (`pad` of `layout`): 0x40 is BTREE_KV_NONALIGNED.
+#[tactic(auto, unfolding(crate::specs::Fit::padded))]
 pub fn padded(info: BTreeInfo, n: u64) -> u64
     requires { n < 2 ^ 32 }
-    ensures { (result ≡ padded info n) × (result < 2 ^ 33) }
+    ensures { (result ≡ padded info n) × (result ≤ n + 7) }
 {
-    if info.flags / 0x40 % 2 == 1 {
-        return n;
+    if layout::flag(info.flags, layout::BTREE_KV_NONALIGNED) {
+        n
+    } else {
+        align8(n)
     }
-    align8(n)
 }
 
+#[tactic(auto, unfolding(crate::specs::Fit::data_space))]
 pub fn data_space(node_size: u64, root: bool) -> u64
     requires { 512 ≤ node_size }
     ensures { (result ≡ data_space node_size root) × (result ≤ node_size) }
 {
-    if root {
-        return node_size - layout::BTN_DATA as u64 - layout::BTREE_INFO_SIZE as u64;
-    }
-    node_size - layout::BTN_DATA as u64
+    let tail = if root { layout::BTREE_INFO_SIZE } else { 0 };
+    node_size - (layout::BTN_DATA + tail) as u64
 }
 
 // The fixed length of a value at a level.
+#[tactic(auto, unfolding(crate::specs::Fit::fixed_value))]
 fn fixed_value(info: BTreeInfo, level: u64) -> u64
     requires { Sized info }
     ensures { (result ≡ fixed_value info level) × (result < 2 ^ 32) }
 {
-    if level == 0 {
-        return info.val_size;
-    }
-    8
+    if level == 0 { info.val_size } else { 8 }
 }
 
+#[tactic(auto, unfolding(crate::specs::Fit::toc_slots, crate::specs::Fit::greater))]
 pub fn toc_slots(info: BTreeInfo, root: bool, level: u64, n: u64) -> u64
     requires { Sized info × (n < 2 ^ 32) }
     ensures { (result ≡ toc_slots info root level n) × (result < 2 ^ 33) }
 {
-    if info.key_size == 0 {
-        let slots = align8(n);
-        if slots < 16 {
-            return 16;
-        }
-        return slots;
+    if info.is_fixed() {
+        let space = data_space(info.node_size, root);
+        align8(space / (4 + info.key_size + fixed_value(info, level)))
+    } else {
+        align8(n).max(16)
     }
-    let space = data_space(info.node_size, root);
-    let value = fixed_value(info, level);
-    align8(space / (4 + info.key_size + value))
 }
 
+// A contents slot: offsets alone where lengths are fixed (`kvoff_t`), else offsets and lengths (`kvloc_t`).
+#[tactic(auto, unfolding(crate::specs::Fit::slot_width))]
+pub fn slot_width(info: BTreeInfo) -> u64
+    ensures { (result ≡ slot_width info) × (result ≤ 8) }
+{
+    if info.is_fixed() { 4 } else { 8 }
+}
+
+#[tactic(auto, unfolding(crate::specs::Fit::toc_length))]
 pub fn toc_length(info: BTreeInfo, root: bool, level: u64, n: u64) -> u64
     requires { Sized info × (n < 2 ^ 32) }
     ensures { (result ≡ toc_length info root level n) × (result < 2 ^ 36) }
 {
-    let slots = toc_slots(info, root, level, n);
-    if info.key_size == 0 {
-        return slots * 8;
-    }
-    slots * 4
+    toc_slots(info, root, level, n) * slot_width(info)
 }

@@ -1,28 +1,26 @@
 // A key searched in a node's block: a lookup that needs no slot.
 ghost use Rattle.std.specs.Prelude.{◌≡◌, ◌≤◌};
 ghost use Rattle.node.specs.Read.{entries_from};
-ghost use Rattle.node.specs.internal.ReadSteps.{Sound};
 ghost use Rattle.node.specs.Find.{not_above};
 
 use crate::order::Order;
 use crate::read;
-use crate::read::Node;
+use crate::read::ReadNode;
 
-// How many leading entries of a node that was read have a key that is not above a key.
-pub fn not_above(block: &[u8], node: Node, order: Order, key: &[u8]) -> u64
-    requires { Sound node block.now }
-    ensures { (result ≡ not_above order.code key.now
-        (entries_from node block.now 0 node.nkeys))
-        × (result ≤ node.nkeys) }
-{
-    let n = node.nkeys as usize;
-    let mut i = 0;
-    while i < n {
-        let s = read::span_at(block, node, i);
-        if order.less(key, read::key_in(block, s)) {
-            return i as u64;
+impl ReadNode<'_> {
+    // How many leading entries have a key that is not above a key.
+    pub fn not_above(self, order: Order, key: &[u8]) -> u64
+        ensures { (result ≡ not_above order.code key.now
+            (entries_from self.entry.node self.entry.block.now 0 self.entry.node.nkeys))
+            × (result ≤ self.entry.node.nkeys) }
+    {
+        let n = self.node.nkeys;
+        for i in 0..n {
+            let s = self.span_at(i as usize);
+            if order.less(key, read::key_in(self.block, s)) {
+                return i;
+            }
         }
-        i += 1;
+        n
     }
-    i as u64
 }

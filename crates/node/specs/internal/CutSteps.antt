@@ -7,19 +7,6 @@ use Rattle.node.specs.internal.SlotSteps.{lengths_of}
 use Rattle.node.specs.declared.info.BTreeInfo.{BTreeInfo}
 use Rattle.node.specs.declared.fit.Lengths.{Lengths}
 use Rattle.node.specs.declared.cut.Left.{Left}
-use Rattle.node.specs.declared.cut.Answer.{Answer}
-use Rattle.node.specs.declared.cut.Answer.TheVariants.{TooLarge, Nowhere, After}
-
--- the place of an answer, and the byte of the slot at which it says that the right part starts
-unfoldable pub answer_place : Answer → ℕ
-answer_place TooLarge = 0
-answer_place Nowhere = 0
-answer_place (After place at) = place
-
-unfoldable pub answer_start : Answer → ℕ
-answer_start TooLarge = 0
-answer_start Nowhere = 0
-answer_start (After place at) = at
 
 -- the left part of the cut of n records
 unfoldable pub left_of : BTreeInfo → ℕ → ℕ → List ℕ → Left

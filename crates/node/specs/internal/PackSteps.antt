@@ -5,8 +5,7 @@ use Rattle.seal.specs.Obj.{header_bytes, o_oid}
 use Rattle.node.specs.Obj.{node_header, info_size}
 use Rattle.node.specs.Entry.{Entry, value_length, value_bytes}
 use Rattle.node.specs.Records.{record_length, records_length, entries_of}
-use Rattle.node.specs.internal.SlotSteps.{record_at}
-use Rattle.node.specs.Slot.{marked, only}
+use Rattle.node.specs.internal.SlotSteps.{parts_at}
 use Rattle.node.specs.Fit.{padded, fixed, slot_width, data_space, toc_length, keys_length, values_length, Sized, fits}
 use Rattle.node.specs.Pack.{toc_entry, node_flags, head_bytes, info_bytes}
 use Rattle.node.specs.declared.info.BTreeInfo.{BTreeInfo}
@@ -15,7 +14,7 @@ use Rattle.node.specs.declared.pack.Spot.{Spot}
 
 -- the number that follows its mark among the words of slot s; 0 without the mark, or where there are no such words
 unfoldable pub marked_at : List ℕ → ℕ → ℕ → ℕ
-marked_at heads s mark = only (marked (get_or heads (s * 9 + mark) 0) (get_or heads (s * 9 + (mark + 1)) 0))
+marked_at heads s mark = cond (eqb (get_or heads (s * 9 + mark) 0) 1) (get_or heads (s * 9 + (mark + 1)) 0) 0
 
 -- kvloc_t
 unfoldable pub loc_bytes : ℕ → ℕ → ℕ → ℕ → List ℕ
@@ -50,9 +49,9 @@ unfoldable pub spot_after : BTreeInfo → List ℕ → Spot → Spot
 spot_after t slot s =
     record {
       toc = s.toc + slot_width t;
-      at = (record_at slot s.at).next;
-      key = s.key + padded t (record_at slot s.at).klen;
-      val = s.val + padded t (record_at slot s.at).vlen;
+      at = (parts_at slot s.at).next;
+      key = s.key + padded t (parts_at slot s.at).klen;
+      val = s.val + padded t (parts_at slot s.at).vlen;
     }
 
 -- there is a record, and room for it
@@ -60,7 +59,7 @@ pub record Room (t : BTreeInfo) (keys vals : ℕ) (s : Spot) (slot block : List 
   pub whole : s.at + record_length (drop s.at slot) ≤ length slot
   pub small : length slot ≤ 2 ^ 20
   pub contents : s.toc + slot_width t ≤ keys
-  pub between : keys + (s.key + padded t (record_at slot s.at).klen) + (s.val + padded t (record_at slot s.at).vlen) ≤ vals
+  pub between : keys + (s.key + padded t (parts_at slot s.at).klen) + (s.val + padded t (parts_at slot s.at).vlen) ≤ vals
   pub inside : vals ≤ length block
   pub short : length block ≤ 2 ^ 16
 

@@ -1,27 +1,23 @@
 -- What the functions over one slot compute: where a record lies, what records take, where a key is, a child in place, the words of a node just read,
 -- one pass over the records.
-use Rattle.std.specs.Prelude.{◌≡◌, List, Bool, true, cond, ◌&&◌, ℕ, ◌+◌, ◌-◌, ◌≤◌, length, drop, leb, ltb, eqb}
+use Rattle.std.specs.Prelude.{◌≡◌, List, Bool, true, cond, ◌&&◌, ℕ, ◌+◌, ◌-◌, ◌≤◌, length, drop, leb, eqb, Option, Some, None}
 use Rattle.seal.specs.Bytes.{u16_at, u64_at}
-use Rattle.node.specs.Entry.{Val, disk, mem, rise_after, rising, every}
-use Rattle.node.specs.Records.{mark_length, record_length, entry_of, entries_of, records_length}
+use Rattle.node.specs.Entry.{Val, disk, mem, rising, every}
+use Rattle.node.specs.Records.{mark_length, record_length, entries_of, records_length}
 use Rattle.node.specs.Fit.{padded, keys_length, values_length}
-use Rattle.node.specs.Order.{pair}
 use Rattle.node.specs.Find.{place_of, is_there, not_above}
 use Rattle.node.specs.Slot.{records_hold, value_length_holds, entry_holds}
 use Rattle.node.specs.declared.info.BTreeInfo.{BTreeInfo}
-use Rattle.node.specs.declared.record.Record.{Record}
+use Rattle.node.specs.declared.record.RecordParts.{RecordParts}
 use Rattle.node.specs.declared.fit.Lengths.{Lengths}
 use Rattle.node.specs.declared.slot.Found.{Found}
 use Rattle.node.specs.declared.slot.Last.{Last}
-use Rattle.node.specs.declared.slot.Run.{Run}
 use Rattle.node.specs.declared.head.Head.{Head}
 use Rattle.node.specs.declared.read.Node.{Node}
-use Rattle.node.specs.declared.stands.Checked.{Checked}
-use Rattle.node.specs.declared.stands.Checked.TheVariants.{Not, Held}
 
 -- where the parts of the record at an offset lie, and where the next starts
-unfoldable pub record_at : List ℕ → ℕ → Record
-record_at l at =
+unfoldable pub parts_at : List ℕ → ℕ → RecordParts
+parts_at l at =
     let klen : ℕ = u16_at (drop at l) 0 in
     let mark : ℕ = u16_at (drop at l) 2 in
     record { key = at + 4; klen = klen; mark = mark; value = at + 4 + klen; vlen = mark_length mark; next = at + record_length (drop at l) }
@@ -34,31 +30,14 @@ lengths_of t n l = record { at = records_length n l; keys = keys_length t (entri
 unfoldable pub longer_of : BTreeInfo → List ℕ → Lengths → Lengths
 longer_of t l s =
     record {
-      at = (record_at l s.at).next;
-      keys = s.keys + padded t (record_at l s.at).klen;
-      values = s.values + padded t (record_at l s.at).vlen;
+      at = (parts_at l s.at).next;
+      keys = s.keys + padded t (parts_at l s.at).klen;
+      values = s.values + padded t (parts_at l s.at).vlen;
     }
 
 -- the id of a pair key; of other keys 0, which no id is below
 unfoldable pub pair_id : List ℕ → ℕ
 pair_id k = cond (eqb (length k) 16) (u64_at k 0) 0
-
--- a pair key whose id is below an id
-unfoldable pub id_below : List ℕ → ℕ → Bool
-id_below k id = eqb (length k) 16 && ltb (u64_at k 0) id
-
--- the record at an offset has a mark, and a pair key whose id is below an id
-unfoldable pub runs_on : List ℕ → ℕ → ℕ → ℕ → Bool
-runs_on l at mark id = eqb (u16_at l (at + 2)) mark && id_below (entry_of (drop at l)).key id
-
--- so many leading records are passed by a search for any key of an id: where the next lies, and the last of them, else the first of all
-pub record RunOf (l : List ℕ) (n id : ℕ) (r : Run) : Type 0 where
-  pub upto : r.count ≤ n
-  pub start : r.at ≡ records_length r.count l
-  pub last : r.last ≡ records_length (r.count - 1) l
-  pub place : (k : List ℕ) → id ≡ pair_id k → r.count + place_of pair k (drop r.count (entries_of n l)) ≡ place_of pair k (entries_of n l)
-  pub there : (k : List ℕ) → id ≡ pair_id k → is_there pair k (drop r.count (entries_of n l)) ≡ is_there pair k (entries_of n l)
-  pub not_above : (k : List ℕ) → id ≡ pair_id k → r.count + not_above pair k (drop r.count (entries_of n l)) ≡ not_above pair k (entries_of n l)
 
 -- the place of a key among the n records of a slot, where it lies, and whether the key is there
 unfoldable pub found_in : ℕ → List ℕ → ℕ → List ℕ → Found
@@ -100,20 +79,13 @@ unfoldable pub records_stand : ℕ → BTreeInfo → Bool → ℕ → ℕ → Li
 records_stand o t isLeaf n used l =
     records_hold n used l && every (entry_holds o t isLeaf) (entries_of n l) && rising o (entries_of n l)
 
--- whether they do, and what they take
-unfoldable pub checked_of : ℕ → BTreeInfo → Bool → ℕ → ℕ → List ℕ → Checked
-checked_of o t isLeaf n used l = cond (records_stand o t isLeaf n used l) (Held (lengths_of t n l)) Not
+-- what they take, if they do
+unfoldable pub checked_of : ℕ → BTreeInfo → Bool → ℕ → ℕ → List ℕ → Option Lengths
+checked_of o t isLeaf n used l = cond (records_stand o t isLeaf n used l) (Some (lengths_of t n l)) None
 
--- whether the keys from entry i on rise, after the record that starts at `last`
-unfoldable pub rising_from : ℕ → ℕ → ℕ → ℕ → List ℕ → Bool
-rising_from o i last n l =
-    cond (eqb i 0) (rising o (drop i (entries_of n l))) (rise_after o (entry_of (drop last l)).key (drop i (entries_of n l)))
-
--- i of n records were passed: they take s, and the one before starts at `last`. What is left of entries and keys decides
-pub record Checking (o : ℕ) (t : BTreeInfo) (isLeaf : Bool) (n : ℕ) (l : List ℕ) (i last : ℕ) (s : Lengths) : Type 0 where
+-- i of n records were passed: they take s. What is left of the entries decides
+pub record Checking (o : ℕ) (t : BTreeInfo) (isLeaf : Bool) (n : ℕ) (l : List ℕ) (i : ℕ) (s : Lengths) : Type 0 where
   pub few : i ≤ n
   pub within : records_length i l ≤ length l
   pub sums : s ≡ lengths_of t i l
-  pub prior : last ≡ records_length (i - 1) l
   pub hold : every (entry_holds o t isLeaf) (drop i (entries_of n l)) ≡ every (entry_holds o t isLeaf) (entries_of n l)
-  pub rise : rising_from o i last n l ≡ rising o (entries_of n l)

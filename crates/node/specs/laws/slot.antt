@@ -5,6 +5,6 @@ pub mod Slot
 pub mod Find
 pub mod SameHead
 pub mod Id
-pub mod PassById
+pub mod Passed
 pub mod PassByLead
 pub mod Relink

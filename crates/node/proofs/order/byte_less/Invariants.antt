@@ -1,11 +1,11 @@
-use Prim.Native.Nat.{◌-◌, ◌≤◌}
-use mathlib.Core.Path.{◌≡◌}
-use lib.ListN.{drop}
+use Rattle.std.proofs.Common.{◌≡◌, ◌+◌, length}
 use Rattle.node.specs.Order.{byte_less}
 use Rattle.node.proofs.order.byte_less.Given as goal
 
-abbrev pub invariant-loop-i : goal.invariant-loop-i
-invariant-loop-i l = (l.i ≤ l.n) × (byte_less (drop l.i l.a) (drop l.i l.b) ≡ byte_less l.a l.b)
-
-abbrev pub decreases-loop-i : goal.decreases-loop-i
-decreases-loop-i l = l.n - l.i
+-- what is left of both decides, and as much was taken of the one as of the other
+abbrev pub invariant-loop-x : goal.invariant-loop-x
+invariant-loop-x l =
+    record {
+      left : byte_less l.x-iterator.a.rest.now l.x-iterator.b.rest.now ≡ byte_less l.a l.b;
+      even : length l.a + length l.x-iterator.b.rest.now ≡ length l.b + length l.x-iterator.a.rest.now;
+    }

@@ -1,9 +1,5 @@
-use Prim.Native.Nat.{◌-◌}
 use Rattle.node.specs.laws.pack.Steps.{Going}
 use Rattle.node.proofs.pack.put_entries.Given as goal
 
-abbrev pub invariant-loop-i : goal.invariant-loop-i
-invariant-loop-i l = Going l.t l.keys l.vals l.n l.heads l.by_id l.slot l.initial.block l.i l.s l.block
-
-abbrev pub decreases-loop-i : goal.decreases-loop-i
-decreases-loop-i l = l.n - l.i
+abbrev pub invariant-loop : goal.invariant-loop
+invariant-loop l = Going l.areas.info l.areas.keys l.areas.vals l.from.records.count l.from.heads.now l.from.by_id l.from.records.slot.now l.initial.block l.counter l.s l.block

@@ -22,8 +22,8 @@ overflow_sub-used c =
     let p = c.requires in
     omega (arith, at_used _ _ _ _ _ p.place.0 p.place.1 p.place.2)
 
-pub move_up-requires : goal.move_up-requires
-move_up-requires c =
+pub shift-requires : goal.shift-requires
+shift-requires c =
     let p = c.requires in
     omega (arith, at_used _ _ _ _ _ p.place.0 p.place.1 p.place.2)
 
@@ -45,7 +45,7 @@ overflow_add-result c =
 pub returns : goal.returns
 returns c =
     let p = c.requires in
-    let u = c.move_up.ensures in
+    let u = c.shift.ensures in
     let v = c.put.ensures in
     record {
       used = (

@@ -6,16 +6,16 @@ use Rattle.node.proofs.slot.remove.Goals as goal
 
 ruleset laws = (rules, at_lies)
 
-pub next-next-requires : goal.next-next-requires
-next-next-requires c = search laws
+pub invariant_of-next : goal.invariant_of-next
+invariant_of-next c = record { lies = search laws }
 
 pub overflow_sub-used : goal.overflow_sub-used
 overflow_sub-used c =
     let p = c.requires in
     omega (arith, next_used _ _ _ _ _ p.place.0 p.place.1 p.place.2, c.next-next.ensures)
 
-pub move_down-requires : goal.move_down-requires
-move_down-requires c =
+pub shift-requires : goal.shift-requires
+shift-requires c =
     let p = c.requires in
     omega (arith, next_used _ _ _ _ _ p.place.0 p.place.1 p.place.2, c.next-next.ensures)
 
@@ -33,7 +33,7 @@ pub returns : goal.returns
 returns c =
     let p = c.requires in
     let u = c.next-next.ensures in
-    let v = c.move_down.ensures in
+    let v = c.shift.ensures in
     record {
       used = (
         omega (arith, next_used _ _ _ _ _ p.place.0 p.place.1 p.place.2),

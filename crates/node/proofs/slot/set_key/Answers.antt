@@ -4,72 +4,72 @@ use Rattle.node.specs.laws.slot.Slot.{next_used, value_before, value_past, set_k
 use Rattle.node.specs.laws.slot.Records.{at_value}
 use Rattle.node.proofs.slot.set_key.Goals as goal
 
-pub record_at-r-requires : goal.record_at-r-requires
-record_at-r-requires c =
+pub invariant_of-parts : goal.invariant_of-parts
+invariant_of-parts c =
     let p = c.requires in
-    omega (arith, next_used _ _ _ _ _ p.place.0 p.place.1 p.place.2)
+    record { lies = omega (arith, next_used _ _ _ _ _ p.place.0 p.place.1 p.place.2) }
 
 pub overflow_add-to : goal.overflow_add-to
 overflow_add-to c =
     let p = c.requires in
-    let r = c.record_at-r.ensures in
+    let r = c.parts-r.ensures in
     omega (arith, next_used _ _ _ _ _ p.place.0 p.place.1 p.place.2, value_before _ _ _ r, value_past _ _ _ r)
 
 pub overflow_add-to-2 : goal.overflow_add-to-2
 overflow_add-to-2 c =
     let p = c.requires in
-    let r = c.record_at-r.ensures in
+    let r = c.parts-r.ensures in
     omega (arith, next_used _ _ _ _ _ p.place.0 p.place.1 p.place.2, value_before _ _ _ r, value_past _ _ _ r)
 
 pub overflow_sub-used : goal.overflow_sub-used
 overflow_sub-used c =
     let p = c.requires in
-    let r = c.record_at-r.ensures in
+    let r = c.parts-r.ensures in
     omega (arith, next_used _ _ _ _ _ p.place.0 p.place.1 p.place.2, value_before _ _ _ r, value_past _ _ _ r)
 
 pub shift-requires : goal.shift-requires
 shift-requires c =
     let p = c.requires in
-    let r = c.record_at-r.ensures in
+    let r = c.parts-r.ensures in
     omega (arith, next_used _ _ _ _ _ p.place.0 p.place.1 p.place.2, value_before _ _ _ r, value_past _ _ _ r)
 
 pub overflow_add-at : goal.overflow_add-at
 overflow_add-at c =
     let p = c.requires in
-    let r = c.record_at-r.ensures in
+    let r = c.parts-r.ensures in
     omega (arith, next_used _ _ _ _ _ p.place.0 p.place.1 p.place.2, value_before _ _ _ r, value_past _ _ _ r)
 
 pub copy_to-requires : goal.copy_to-requires
 copy_to-requires c =
     let p = c.requires in
-    let r = c.record_at-r.ensures in
+    let r = c.parts-r.ensures in
     omega (arith, next_used _ _ _ _ _ p.place.0 p.place.1 p.place.2, value_before _ _ _ r, value_past _ _ _ r)
 
-pub put_u16-requires : goal.put_u16-requires
-put_u16-requires c =
+pub put_field-requires-clause-room : goal.put_field-requires-clause-room
+put_field-requires-clause-room c =
     let p = c.requires in
-    let r = c.record_at-r.ensures in
+    let r = c.parts-r.ensures in
     omega (arith, next_used _ _ _ _ _ p.place.0 p.place.1 p.place.2, value_before _ _ _ r, value_past _ _ _ r)
 
 pub overflow_sub-result : goal.overflow_sub-result
 overflow_sub-result c =
     let p = c.requires in
-    let r = c.record_at-r.ensures in
+    let r = c.parts-r.ensures in
     omega (arith, next_used _ _ _ _ _ p.place.0 p.place.1 p.place.2, value_before _ _ _ r, value_past _ _ _ r)
 
 pub overflow_add-result : goal.overflow_add-result
 overflow_add-result c =
     let p = c.requires in
-    let r = c.record_at-r.ensures in
+    let r = c.parts-r.ensures in
     omega (arith, next_used _ _ _ _ _ p.place.0 p.place.1 p.place.2, value_before _ _ _ r, value_past _ _ _ r)
 
 pub returns : goal.returns
 returns c =
     let p = c.requires in
-    let r = c.record_at-r.ensures in
+    let r = c.parts-r.ensures in
     let u = c.shift.ensures in
     let v = c.copy_to.ensures in
-    let w = c.put_u16.ensures in
+    let w = c.put_field.ensures in
     record {
       used = (
         set_key_used _ _ _ _ _ _ _ _ _ _ _ _ p.place.0 p.place.1 p.place.2 p.room p.stored refl refl (at_value _ _ _ r) u v w,

@@ -1,44 +1,41 @@
-use Rattle.node.specs.laws.fit.Pass.{check_start, check_in, check_out, check_lies, check_lies_s, check_prior, check_keys, check_values, check_entry, check_fall, check_turn, check_used, check_held}
-use borrow.Author.Rules.{rules}
+use mathlib.Core.Path.{refl}
+use Rattle.node.specs.laws.fit.Pass.{check_start, check_sums, check_at, check_long, check_key, check_out, check_entry, check_fall, check_rise, check_risen, check_turn, check_used, check_held}
 use Rattle.node.proofs.stands.check.Goals as goal
 
-ruleset laws = (rules, check_start, check_in, check_out, check_lies, check_lies_s, check_prior, check_keys, check_values, check_entry, check_fall, check_turn, check_used, check_held)
+pub loop-init : goal.loop-init
+loop-init c = (check_start _ _ _ _ _, refl)
 
-pub loop-i-init : goal.loop-i-init
-loop-i-init c = search laws
-
-pub lies-requires : goal.lies-requires
-lies-requires c = search laws
-
-pub returns-then-not-lies : goal.returns-then-not-lies
-returns-then-not-lies c = search laws
-
-pub entry_holds-requires : goal.entry_holds-requires
-entry_holds-requires c = search laws
+pub returns-in_default : goal.returns-in_default
+returns-in_default c = check_out _ _ _ _ _ _ _ c.loop.invariant.0 _ c.at.ensures _ c.loop-test.true c.in_default.is
 
 pub returns-then-not-entry_holds : goal.returns-then-not-entry_holds
-returns-then-not-entry_holds c = search laws
-
-pub rises-requires : goal.rises-requires
-rises-requires c = (search laws, search laws)
+returns-then-not-entry_holds c =
+    check_entry _ _ _ _ _ _ _ c.loop.invariant.0 _ c.at.ensures _ c.in-Some.is c.loop-test.true _ c.entry_holds.ensures _ c.if-not-entry_holds.true
 
 pub returns-then-not-rises : goal.returns-then-not-rises
-returns-then-not-rises c = search laws
+returns-then-not-rises c =
+    check_fall _ _ _ _ _ _ _ c.loop.invariant.0 (λ k. k.now) c.loop.last c.loop.invariant.1 c.loop-test.true _
+    (check_key _ _ _ _ _ _ _ c.loop.invariant.0 _ c.at.ensures _ c.in-Some.is _ c.key-key.ensures) _ c.rises.ensures _ c.if-not-rises.true
 
 pub longer-s-requires : goal.longer-s-requires
-longer-s-requires c = search laws
+longer-s-requires c =
+    let z = check_sums _ _ _ _ _ _ _ c.loop.invariant.0 _ c.at.ensures _ c.in-Some.is c.requires in
+    record {
+      next = check_at _ _ _ _ _ _ _ c.loop.invariant.0 _ c.at.ensures _ c.in-Some.is;
+      small = (check_long _ _ _ _ _ _ _ c.loop.invariant.0 _ c.at.ensures _ c.in-Some.is c.requires, z.0, z.1);
+    }
 
-pub overflow_add-i : goal.overflow_add-i
-overflow_add-i c = search laws
-
-pub loop-i-smaller : goal.loop-i-smaller
-loop-i-smaller c = search laws
-
-pub loop-i-preserved : goal.loop-i-preserved
-loop-i-preserved c = search laws
+pub loop-preserved : goal.loop-preserved
+loop-preserved c = (
+  check_turn _ _ _ _ _ _ _ c.loop.invariant.0 _ c.at.ensures _ c.in-Some.is c.loop-test.true _ c.entry_holds.ensures _ c.if-not-entry_holds.false c.longer-s.ensures,
+  check_rise _ _ _ _ _ _ _ c.loop.invariant.0 (λ k. k.now) c.loop.last c.loop.invariant.1 c.loop-test.true _
+      (check_key _ _ _ _ _ _ _ c.loop.invariant.0 _ c.at.ensures _ c.in-Some.is _ c.key-key.ensures) _ c.rises.ensures c.if-not-rises.false,
+)
 
 pub returns-then-s-used : goal.returns-then-s-used
-returns-then-s-used c = search laws
+returns-then-s-used c =
+    check_held _ _ _ _ _ _ _ c.loop.invariant.0 _ c.loop-test.false (check_risen _ _ _ _ _ _ _ c.loop.invariant.0 (λ k. k.now) c.loop.last c.loop.invariant.1 c.loop-test.false) c.if-s-used.true
 
-pub returns : goal.returns
-returns c = search laws
+pub returns-else-s-used : goal.returns-else-s-used
+returns-else-s-used c =
+    check_used _ _ _ _ _ _ _ c.loop.invariant.0 _ c.loop-test.false (check_risen _ _ _ _ _ _ _ c.loop.invariant.0 (λ k. k.now) c.loop.last c.loop.invariant.1 c.loop-test.false) c.if-s-used.false

@@ -1,9 +1,11 @@
+use Rattle.node.specs.Entry.{rising}
+use Rattle.node.specs.Records.{entries_of}
 use Rattle.node.specs.internal.SlotSteps.{Checking}
-use Prim.Native.Nat.{◌-◌}
+use Rattle.node.specs.laws.fit.Pass.{Rises}
+use lib.ListN.{drop}
 use Rattle.node.proofs.stands.check.Given as goal
 
-abbrev pub invariant-loop-i : goal.invariant-loop-i
-invariant-loop-i l = Checking l.order.code l.info l.leaf l.n l.slot l.i l.last l.s
-
-abbrev pub decreases-loop-i : goal.decreases-loop-i
-decreases-loop-i l = l.n - l.i
+abbrev pub invariant-loop : goal.invariant-loop
+invariant-loop l =
+    Checking l.order.code l.info l.leaf l.n l.slot l.counter l.s
+    × Rises l.order.code (λ k. k.now) l.last (drop l.counter (entries_of l.n l.slot)) (rising l.order.code (entries_of l.n l.slot))

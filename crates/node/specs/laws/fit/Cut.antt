@@ -1,5 +1,5 @@
 -- Laws of the cut: both parts fit, none is found only where there is none, and the code's walk by running sums gives it. Assumes nothing.
-use Rattle.std.specs.Prelude.{◌≡◌, ◌↔◌, cond, ◌||◌, not, take, drop, leb}
+use Rattle.std.specs.Prelude.{Ok, Err, ◌≡◌, ◌↔◌, cond, ◌||◌, not, take, drop, leb}
 use Rattle.std.proofs.Math.Path.{refl, sym, ap, ap₂}
 use Rattle.std.proofs.Common.{◌∙◌, true≢false, zero-add, add_assoc, le_refl, le_trans, add-one, length-take, length-drop, take-append-drop, take-take}
 use mathlib.Core.List.{List, [], ◌∷◌, ◌++◌}
@@ -9,7 +9,7 @@ use Prim.Native.Nat.{ℕ, zero, suc, ◌+◌, ◌-◌, ◌*◌, ◌/◌, ◌^◌
 use native.Mathlib.Omega.{arith}
 use Rattle.std.proofs.Math.ListN.{length}
 use Rattle.std.proofs.Math.Dec.{ltb}
-use borrow.Author.Tests.{le-leb, lt-leb, leb-true, leb-false, lt-ltb, le-ltb, ltb-true, ltb-false, not-true, not-false}
+use borrow.Author.Tests.{leb-true, leb-false, lt-ltb, le-ltb, ltb-true, ltb-false, not-true, not-false}
 use Rattle.node.specs.laws.base.Tests.{and_split, and_left}
 use Rattle.node.specs.Result.{Result, ok, refused, ◌>>◌, check}
 use Rattle.node.specs.Refusals as refusal
@@ -18,14 +18,14 @@ use Rattle.node.specs.Entry.{Entry}
 use Rattle.node.specs.Records.{record_length, records_length, entries_of}
 use Rattle.node.specs.Fit.{greater, room_of, fits_sums, fits}
 use Rattle.node.specs.laws.slot.Records.{length_entries, records_less, record_in, entries_front, records_size}
-use Rattle.node.specs.laws.fit.Fit.{room_append, fits_is, fits_take, fits_drop, lengths_none, lengths_next, lengths_room, lengths_in, lengths_keys, lengths_values}
+use Rattle.node.specs.laws.fit.Fit.{room_append, fits_is, fits_take, fits_drop, count_most, lengths_none, lengths_next, lengths_room, lengths_in}
 use Rattle.node.specs.Cut.{entry_size, size, left_part, kept_within, shorten, lengthen, cut_place, cut, cut_means}
-use Rattle.node.specs.internal.CutSteps.{answer_place, answer_start, left_of, further_sums, parts_fit}
+use Rattle.node.specs.internal.CutSteps.{left_of, further_sums, parts_fit}
 use Rattle.node.specs.internal.SlotSteps.{lengths_of, longer_of}
 use Rattle.node.specs.declared.info.BTreeInfo.{BTreeInfo}
 use Rattle.node.specs.declared.fit.Lengths.{Lengths}
 use Rattle.node.specs.declared.cut.Left.{Left}
-use Rattle.node.specs.declared.cut.Answer.TheVariants.{TooLarge, Nowhere, After}
+use Rattle.node.specs.declared.refusal.Refusal.TheVariants as is
 
 -- ---- sizes of parts
 
@@ -464,24 +464,7 @@ module _ (t : BTreeInfo) (n : ℕ) (l : List ℕ) (h : records_length n l ≤ le
       let z : w.at + 4 * n ≡ size (entries_of n l) = size_whole w e in
       rw (left_sums level (c + 1) r k₁ g, right_sums level c s w k₂ f e, size_sums (c + 1) r k₁ g, z)
 
--- ---- for `search`: a law for each way out of the code, each premise a field of what a need is handed
-
-module _ (t : BTreeInfo) (level n : ℕ) (w : Lengths) (s : Left) (r : Lengths) where
-  pub further_full : (b : Bool) → b ≡ fits_sums t false level (s.place + 1) (r.keys + r.values) → not b ≡ true → false ≡ further_sums t level n w s r
-  unfolding further_sums
-  further_full b e f = rw (← e, not-true b f)
-
-  pub further_half : (b : Bool) → b ≡ fits_sums t false level (s.place + 1) (r.keys + r.values) → not b ≡ false
-      → r.at + 4 * (s.place + 1) ≤ (w.at + 4 * n) / 2 → true ≡ further_sums t level n w s r
-  unfolding further_sums
-  further_half b e f h = rw (← e, not-false b f, le-leb (r.at + 4 * (s.place + 1)) ((w.at + 4 * n) / 2) h)
-
-  pub further_rest : (b d : Bool) → b ≡ fits_sums t false level (s.place + 1) (r.keys + r.values) → not b ≡ false
-      → (w.at + 4 * n) / 2 < r.at + 4 * (s.place + 1) → d ≡ fits_sums t false level (n - s.place)
-      (w.keys + w.values - (s.lengths.keys + s.lengths.values))
-      → not d ≡ further_sums t level n w s r
-  unfolding further_sums
-  further_rest b d e f h g = rw (← e, not-false b f, lt-leb (r.at + 4 * (s.place + 1)) ((w.at + 4 * n) / 2) h, ← g)
+-- ---- the walk
 
 pub first_in : (n : ℕ) (l : List ℕ) → 1 < n → records_length n l ≤ length l → 0 + record_length (drop 0 l) ≤ length l
 unfolding records_length
@@ -503,12 +486,6 @@ module _ (t : BTreeInfo) (n : ℕ) (l : List ℕ) (i : ℕ) (s : Lengths) (e : s
   pub walk_in : s.at + record_length (drop s.at l) ≤ length l
   walk_in = lengths_in t i n l s e (omega arith) k
 
-  pub walk_keys : length l ≤ 2 ^ 20 → s.keys < 2 ^ 32
-  walk_keys m = lengths_keys t i n l s e (omega arith) k m
-
-  pub walk_values : length l ≤ 2 ^ 20 → s.values < 2 ^ 32
-  walk_values m = lengths_values t i n l s e (omega arith) k m
-
   pub walk_next : (r : Lengths) → r ≡ longer_of t l s → r ≡ lengths_of t (i + 1) l
   walk_next r g = lengths_next t i n l s r e g (omega arith) k
 
@@ -518,9 +495,6 @@ module _ (t : BTreeInfo) (n : ℕ) (l : List ℕ) (i : ℕ) (s : Lengths) (e : s
 
   pub walk_room : (r : Lengths) → r ≡ longer_of t l s → length l ≤ 2 ^ 20 → r.keys + r.values < 2 ^ 24
   walk_room r g m = lengths_room t (i + 1) n l r (walk_next r g) (omega arith) k m
-
-  pub walk_below_lem : (w : Lengths) → w ≡ lengths_of t n l → s.keys + s.values ≤ w.keys + w.values
-  walk_below_lem w f = sums_below t n l k i s w (omega arith) e f
 
   walk_on : (level : ℕ) (w r : Lengths) → w ≡ lengths_of t n l → r ≡ longer_of t l s
       → further_sums t level n w (record { place = i; lengths = s }) r ≡ goes_on (fits t false level) (entries_of n l) i
@@ -565,32 +539,13 @@ module _ (t : BTreeInfo) (n : ℕ) (l : List ℕ) where
   pub whole_room : (w : Lengths) → w ≡ lengths_of t n l → records_length n l ≤ length l → length l ≤ 2 ^ 20 → w.keys + w.values < 2 ^ 24
   whole_room w e h m = lengths_room t n n l w e (le_refl n) h m
 
-module _ (t : BTreeInfo) (level n : ℕ) (w : Lengths) (s : Left) (b : Bool)
-    (e : b ≡ fits_sums t false level s.place (s.lengths.keys + s.lengths.values)) where
-  pub parts_left : not b ≡ true → false ≡ parts_fit t level n w s
-  unfolding parts_fit
-  parts_left f = rw (← e, not-true b f)
-
-  pub parts_right : (d : Bool) → not b ≡ false → d ≡ fits_sums t false level (n - s.place)
-      (w.keys + w.values - (s.lengths.keys + s.lengths.values)) → d ≡ parts_fit t level n w s
-  unfolding parts_fit
-  parts_right d f g = rw (← e, not-false b f) g
-
-pub single_means : (t : BTreeInfo) (level n : ℕ) (l : List ℕ) → n ≤ 1 → cut_means TooLarge ≡ cut t level (entries_of n l)
+pub single_means : (t : BTreeInfo) (level n : ℕ) (l : List ℕ) → n ≤ 1 → cut_means (Err is.Single) ≡ cut t level (entries_of n l)
 unfolding cut_means
 single_means t level n l h = sym ((large_iff t level (entries_of n l)).1 (rw length_entries h))
 
-pub single_start : (l : List ℕ) → answer_start TooLarge ≡ records_length (answer_place TooLarge) l
-unfolding answer_start answer_place records_length
-single_start l = refl
-
-pub nowhere_start : (l : List ℕ) → answer_start Nowhere ≡ records_length (answer_place Nowhere) l
-unfolding answer_start answer_place records_length
-nowhere_start l = refl
-
 module _ (t : BTreeInfo) (level n : ℕ) (l : List ℕ) (s : Left) (e : s ≡ left_of t level n l) where
-  pub after_start : answer_start (After s.place s.lengths.at) ≡ records_length (answer_place (After s.place s.lengths.at)) l
-  unfolding answer_start answer_place left_of lengths_of
+  pub after_start : s.lengths.at ≡ records_length s.place l
+  unfolding left_of lengths_of
   after_start = rw e
 
   parts_are : (w : Lengths) → w ≡ lengths_of t n l → 1 < n → records_length n l ≤ length l
@@ -604,7 +559,7 @@ module _ (t : BTreeInfo) (level n : ℕ) (l : List ℕ) (s : Left) (e : s ≡ le
 
   pub nowhere_means : (w : Lengths) (b : Bool) → w ≡ lengths_of t n l → 1 < n → records_length n l ≤ length l → b ≡ parts_fit t level n w s
       → not b ≡ true
-      → cut_means Nowhere ≡ cut t level (entries_of n l)
+      → cut_means (Err is.NoCut) ≡ cut t level (entries_of n l)
   unfolding cut_means cut
   nowhere_means w b f h k g y =
       let q : ltb 1 (length (entries_of n l)) ≡ true = lt-ltb 1 (length (entries_of n l)) (rw length_entries h) in
@@ -612,8 +567,15 @@ module _ (t : BTreeInfo) (level n : ℕ) (l : List ℕ) (s : Left) (e : s ≡ le
 
   pub after_means : (w : Lengths) (b : Bool) → w ≡ lengths_of t n l → 1 < n → records_length n l ≤ length l → b ≡ parts_fit t level n w s
       → not b ≡ false
-      → cut_means (After s.place s.lengths.at) ≡ cut t level (entries_of n l)
+      → cut_means (Ok (record { place = s.place; at = s.lengths.at })) ≡ cut t level (entries_of n l)
   unfolding cut_means cut left_of
   after_means w b f h k g y =
       let q : ltb 1 (length (entries_of n l)) ≡ true = lt-ltb 1 (length (entries_of n l)) (rw length_entries h) in
       rw (q, ← parts_are w f h k, ← g, not-false b y) (ap (λ (x : Left). ok x.place) e)
+
+-- ---- what the walk, and the cut, take of these
+
+pub ruleset walk =
+    (count_most, first_in, first_lengths, place_first, walk_in, walk_next, walk_more, walk_stop, walk_last, last_below, whole_at, whole_room)
+
+pub ruleset cuts = (count_most, single_means, after_start, nowhere_means, after_means)

@@ -1,9 +1,9 @@
 -- Laws of fitting: what the code computes step by step, and that a node which fits as root fits as non-root, that a part of one which fits fits.
 -- Assumes nothing.
-use Rattle.std.specs.Prelude.{◌≡◌, refl, List, [], ◌∷◌, ◌++◌, Bool, true, false, cond, ℕ, zero, suc, ◌+◌, ◌-◌, ◌*◌, ◌/◌, ◌%◌, ◌^◌, ◌≤◌, ◌<◌, length, take, drop, leb, eqb}
-use Rattle.std.proofs.Common.{sym, ap, ◌∙◌, add-zero, zero-add, add_assoc, le_refl, le_trans, mul-le-mul_right, mul-le-mul_left, le-div_iff_mul-le, div-mul-le_self, div-le_self, arith, length-append, length-drop, take-append-drop, drop-drop, take-take, le-leb, leb-true, leb-false, eq-eqb, ne_eqb}
-use Rattle.std.proofs.lemmas.Bool.{false≢true, lt-leb, eqb-false}
-use Rattle.std.proofs.Math.Nat.{sub-zero, add-mul-div_right}
+use Rattle.std.specs.Prelude.{◌≡◌, refl, List, [], ◌∷◌, ◌++◌, Bool, true, false, cond, ℕ, zero, suc, ◌+◌, ◌-◌, ◌*◌, ◌/◌, ◌^◌, ◌≤◌, ◌<◌, length, take, drop, leb, eqb}
+use Rattle.std.proofs.Common.{sym, ap, ◌∙◌, add-zero, zero-add, add_assoc, le_refl, le_trans, mul-le-mul_right, mul-le-mul_left, le-div_iff_mul-le, div-mul-le_self, arith, length-append, length-drop, take-append-drop, drop-drop, take-take, le-leb, leb-true, leb-false}
+use Rattle.std.proofs.lemmas.Bool.{false≢true, eqb-false}
+use Rattle.std.proofs.Math.Nat.{add-mul-div_right}
 use Rattle.seal.specs.Bytes.{u16_at}
 use Rattle.node.specs.laws.base.Tests.{and_split}
 use Rattle.node.specs.Entry.{Entry, value_length}
@@ -19,102 +19,13 @@ use Rattle.node.specs.laws.slot.Records.{
   entry_key_length,
   entry_value_length,
 }
-use Rattle.node.specs.Fit.{
-  flag,
-  align8,
-  greater,
-  padded,
-  data_space,
-  fixed,
-  slot_width,
-  fixed_value,
-  toc_slots,
-  toc_length,
-  keys_length,
-  values_length,
-  room_of,
-  packed_length,
-  fits_sums,
-  fits,
-  Sized,
-}
-use Rattle.node.specs.internal.SlotSteps.{record_at, lengths_of, longer_of}
+use Rattle.node.specs.Fit.{flag, align8, greater, padded, data_space, fixed, slot_width, fixed_value, toc_slots, toc_length, keys_length, values_length, room_of, packed_length, fits_sums, fits}
+use Rattle.node.specs.internal.SlotSteps.{parts_at, lengths_of, longer_of}
 use Rattle.node.specs.declared.info.BTreeInfo.{BTreeInfo}
-use Rattle.node.specs.declared.record.Record.{Record}
+use Rattle.node.specs.declared.record.RecordParts.{RecordParts}
 use Rattle.node.specs.declared.fit.Lengths.{Lengths}
 
--- ---- the small functions, a law for each way out
-
-pub align8_is : (n : ℕ) → (n + 7) / 8 * 8 ≡ align8 n
-unfolding align8
-align8_is n = refl
-
-pub align8_most : (n : ℕ) → (n + 7) / 8 * 8 ≤ n + 7
-align8_most n = omega arith
-
-pub padded_same : (t : BTreeInfo) (n : ℕ) → t.flags / 0x40 % 2 ≡ 1 → n ≡ padded t n
-unfolding padded flag
-padded_same t n h = rw (eq-eqb (t.flags / 0x40 % 2) 1 h)
-
-pub padded_more : (t : BTreeInfo) (n r : ℕ) → (t.flags / 0x40 % 2 ≡ 1 → ⊥) → r ≡ align8 n → r ≡ padded t n
-unfolding padded flag
-padded_more t n r h e = rw (ne_eqb (t.flags / 0x40 % 2) 1 h) e
-
-pub space_root : (n : ℕ) (root : Bool) → root ≡ true → n - 56 - 40 ≡ data_space n root
-unfolding data_space
-space_root n root h = rw h
-
-pub space_inner : (n : ℕ) (root : Bool) → root ≡ false → n - 56 ≡ data_space n root
-unfolding data_space
-space_inner n root h = rw (h, sub-zero)
-
-pub value_leaf : (t : BTreeInfo) (level : ℕ) → level ≡ 0 → t.val_size ≡ fixed_value t level
-unfolding fixed_value
-value_leaf t level h = rw (eq-eqb level 0 h)
-
-pub value_index : (t : BTreeInfo) (level : ℕ) → (level ≡ 0 → ⊥) → 8 ≡ fixed_value t level
-unfolding fixed_value
-value_index t level h = rw (ne_eqb level 0 h)
-
-pub fixed_not : (t : BTreeInfo) → t.key_size ≡ 0 → fixed t ≡ false
-unfolding fixed
-fixed_not t h = rw (eq-eqb t.key_size 0 h)
-
-pub fixed_so : (t : BTreeInfo) → (t.key_size ≡ 0 → ⊥) → fixed t ≡ true
-unfolding fixed
-fixed_so t h = rw (ne_eqb t.key_size 0 h)
-
-pub slots_least : (t : BTreeInfo) (root : Bool) (level n s : ℕ) → t.key_size ≡ 0 → s ≡ align8 n → s < 16 → 16 ≡ toc_slots t root level n
-unfolding toc_slots greater
-slots_least t root level n s h e k = rw (fixed_not t h, ← e, lt-leb 16 s k)
-
-pub slots_rounded : (t : BTreeInfo) (root : Bool) (level n s : ℕ) → t.key_size ≡ 0 → s ≡ align8 n → 16 ≤ s → s ≡ toc_slots t root level n
-unfolding toc_slots greater
-slots_rounded t root level n s h e k = rw (fixed_not t h, ← e, le-leb 16 s k)
-
-pub slots_fixed : (t : BTreeInfo) (root : Bool) (level n space value r : ℕ) → (t.key_size ≡ 0 → ⊥)
-    → space ≡ data_space t.node_size root → value ≡ fixed_value t level → r ≡ align8 (space / (4 + t.key_size + value))
-    → r ≡ toc_slots t root level n
-unfolding toc_slots
-slots_fixed t root level n space value r h p q e = rw (fixed_so t h, ← p, ← q) e
-
-pub toc_wide : (t : BTreeInfo) (root : Bool) (level n s : ℕ) → t.key_size ≡ 0 → s ≡ toc_slots t root level n → s * 8 ≡ toc_length t root level n
-unfolding toc_length slot_width
-toc_wide t root level n s h e = rw (fixed_not t h, e)
-
-pub toc_narrow : (t : BTreeInfo) (root : Bool) (level n s : ℕ) → (t.key_size ≡ 0 → ⊥) → s ≡ toc_slots t root level n
-    → s * 4 ≡ toc_length t root level n
-unfolding toc_length slot_width
-toc_narrow t root level n s h e = rw (fixed_so t h, e)
-
-pub sums_crowded : (t : BTreeInfo) (root : Bool) (level n room s : ℕ) → s ≡ toc_slots t root level n → s < n → false ≡ fits_sums t root level n room
-unfolding fits_sums
-sums_crowded t root level n room s e h = rw (← e, lt-leb n s h)
-
-pub sums_tested : (t : BTreeInfo) (root : Bool) (level n room s toc space : ℕ) → s ≡ toc_slots t root level n → n ≤ s
-    → toc ≡ toc_length t root level n → space ≡ data_space t.node_size root → leb (toc + room) space ≡ fits_sums t root level n room
-unfolding fits_sums
-sums_tested t root level n room s toc space e h p q = rw (← e, le-leb n s h, ← p, ← q)
+-- ---- fixed lengths
 
 -- ---- sums of parts
 
@@ -200,14 +111,6 @@ pub lengths_room : (t : BTreeInfo) (i n : ℕ) (l : List ℕ) (s : Lengths) → 
     → length l ≤ 2 ^ 20 → s.keys + s.values < 2 ^ 24
 lengths_room t i n l s e h k m = let f : records_length i l ≤ length l = le_trans (records_less i n l h) k in omega (arith, lengths_most t i l s e f)
 
-pub lengths_keys : (t : BTreeInfo) (i n : ℕ) (l : List ℕ) (s : Lengths) → s ≡ lengths_of t i l → i ≤ n → records_length n l ≤ length l
-    → length l ≤ 2 ^ 20 → s.keys < 2 ^ 32
-lengths_keys t i n l s e h k m = omega (arith, lengths_room t i n l s e h k m)
-
-pub lengths_values : (t : BTreeInfo) (i n : ℕ) (l : List ℕ) (s : Lengths) → s ≡ lengths_of t i l → i ≤ n → records_length n l ≤ length l
-    → length l ≤ 2 ^ 20 → s.values < 2 ^ 32
-lengths_values t i n l s e h k m = omega (arith, lengths_room t i n l s e h k m)
-
 lengths_same : (a b : Lengths) → a.at ≡ b.at → a.keys ≡ b.keys → a.values ≡ b.values → a ≡ b
 lengths_same a b p q r = λ i. record { at = p i; keys = q i; values = r i }
 
@@ -233,7 +136,7 @@ values_next t i n l h k =
 
 longer_next : (t : BTreeInfo) (i n : ℕ) (l : List ℕ) → i < n → records_length n l ≤ length l
     → longer_of t l (lengths_of t i l) ≡ lengths_of t (i + 1) l
-unfolding longer_of lengths_of record_at
+unfolding longer_of lengths_of parts_at
 longer_next t i n l h k = lengths_same _ _ (sym (records_next i l)) (sym (keys_next t i n l h k)) (sym (values_next t i n l h k))
 
 pub lengths_next : (t : BTreeInfo) (i n : ℕ) (l : List ℕ) (s r : Lengths) → s ≡ lengths_of t i l → r ≡ longer_of t l s → i < n
@@ -244,17 +147,17 @@ pub lengths_done : (t : BTreeInfo) (i n : ℕ) (l : List ℕ) (s : Lengths) → 
 lengths_done t i n l s e h k = let f : i ≡ n = omega arith in e ∙ ap (λ (j : ℕ). lengths_of t j l) f
 
 -- the lengths in a record that was read
-pub read_key : (l : List ℕ) (at : ℕ) (r : Record) → r ≡ record_at l at → at + record_length (drop at l) ≤ length l → length l ≤ 2 ^ 20
+pub read_key : (l : List ℕ) (at : ℕ) (r : RecordParts) → r ≡ parts_at l at → at + record_length (drop at l) ≤ length l → length l ≤ 2 ^ 20
     → r.klen < 2 ^ 32
-unfolding record_at
+unfolding parts_at
 read_key l at r e h k = rw e (omega (arith, record_sum (drop at l)))
 
-pub read_value : (l : List ℕ) (at : ℕ) (r : Record) → r ≡ record_at l at → at + record_length (drop at l) ≤ length l → length l ≤ 2 ^ 20
+pub read_value : (l : List ℕ) (at : ℕ) (r : RecordParts) → r ≡ parts_at l at → at + record_length (drop at l) ≤ length l → length l ≤ 2 ^ 20
     → r.vlen < 2 ^ 32
-unfolding record_at
+unfolding parts_at
 read_value l at r e h k = rw e (omega (arith, record_sum (drop at l)))
 
-pub longer_is : (t : BTreeInfo) (l : List ℕ) (s : Lengths) (r : Record) (k v : ℕ) → r ≡ record_at l s.at → k ≡ padded t r.klen
+pub longer_is : (t : BTreeInfo) (l : List ℕ) (s : Lengths) (r : RecordParts) (k v : ℕ) → r ≡ parts_at l s.at → k ≡ padded t r.klen
     → v ≡ padded t r.vlen
     → ◌≡◌ {A = Lengths} (record { at = r.next; keys = s.keys + k; values = s.values + v }) (longer_of t l s)
 unfolding longer_of
@@ -267,22 +170,10 @@ fits_is t root level n l s r e g = rw length_entries (g ∙ rw e)
 
 -- ---- a root over two children, and what is packed
 
-pub two_small : (t : BTreeInfo) (a b x y z : ℕ) → a < 2 ^ 20 → b < 2 ^ 20 → x ≡ padded t a → y ≡ padded t b → z ≡ padded t 8
-    → x + y + (z + z) < 2 ^ 32
-two_small t a b x y z ha hb ex ey ez = omega (arith, padded_most t a, padded_most t b, padded_most t 8)
-
-pub two_is : (t : BTreeInfo) (level a b x y z : ℕ) (r : Bool) → x ≡ padded t a → y ≡ padded t b → z ≡ padded t 8
-    → r ≡ fits_sums t true level 2 (x + y + (z + z)) → r ≡ fits_sums t true level 2 (padded t a + padded t b + (padded t 8 + padded t 8))
-two_is t level a b x y z r ex ey ez e = e ∙ rw (ex, ey, ez)
-
 pub packed_is : (t : BTreeInfo) (root : Bool) (level n toc r : ℕ) (l : List ℕ) (s : Lengths) → s ≡ lengths_of t n l → toc ≡ toc_length t root level n
     → r ≡ toc + (s.keys + s.values) → r ≡ packed_length t root level (entries_of n l)
 unfolding packed_length room_of lengths_of
 packed_is t root level n toc r l s e f g = rw length_entries (g ∙ rw (e, f))
-
-pub space_some : (n r : ℕ) → 512 ≤ n → r ≡ data_space n true → 0 < r
-unfolding data_space
-space_some n r h e = omega arith
 
 -- ---- what fits
 
@@ -439,22 +330,7 @@ close_fits t root level n used l b u h e q =
     (le_refl n) m
     (sym e ∙ q)))
 
-pub close_small : (n used : ℕ) (l : List ℕ) → used ≡ records_length n l → records_length n l ≤ length l → length l ≤ 2 ^ 20 → used + 10 * n < 2 ^ 32
-close_small n used l u h k = omega (arith, records_least n l)
-
-pub close_ten : (n : ℕ) (l : List ℕ) → records_length n l ≤ length l → length l ≤ 2 ^ 20 → 10 * n < 2 ^ 64
-close_ten n l h k = omega (arith, records_least n l)
-
-pub close_sum : (n used : ℕ) (l : List ℕ) → used ≡ records_length n l → records_length n l ≤ length l → length l ≤ 2 ^ 20 → used + 10 * n < 2 ^ 64
-close_sum n used l u h k = omega (arith, records_least n l)
-
 -- ---- bounds that the code needs
-
-pub slots_room : (t : BTreeInfo) (space e : ℕ) → Sized t → space ≤ t.node_size → space / e < 2 ^ 32
-slots_room t space e z h = omega (arith, div-le_self space e, z.most)
-
-pub slots_most : (t : BTreeInfo) (space e r : ℕ) → Sized t → space ≤ t.node_size → r ≤ space / e + 7 → r < 2 ^ 33
-slots_most t space e r z h k = omega (arith, slots_room t space e z h)
 
 pub count_most : (n : ℕ) (l : List ℕ) → records_length n l ≤ length l → length l ≤ 2 ^ 20 → n < 2 ^ 20
 count_most n l h k = omega (arith, records_least n l)
@@ -478,3 +354,13 @@ pub fits_space : (t : BTreeInfo) (root : Bool) (level : ℕ) (es : List Entry) �
     → toc_length t root level (length es) + (keys_length t es + values_length t es) ≤ data_space t.node_size root
 unfolding packed_length room_of
 fits_space t root level es f = fits_packed t root level es f
+
+-- ---- what summing lengths, and fitting, take of these
+
+pub ruleset lengths = (lengths_none, lengths_in, lengths_next, lengths_room)
+
+pub ruleset fitting = (fits_is, close_fits, records_least)
+
+pub ruleset packing = (packed_is, records_least)
+
+pub ruleset counting = (read_key, read_value, longer_is)

@@ -2,60 +2,30 @@
 use Rattle.std.proofs.Math.Path.{◌≡◌, refl, sym, ap}
 use Rattle.std.proofs.Common.{◌∙◌, length-drop, drop_of_length-le}
 use mathlib.Core.List.{List, [], ◌∷◌}
-use Rattle.std.specs.Prelude.{Bool, not, ◌&&◌, ◌||◌, leb}
+use Rattle.std.specs.Prelude.{Bool, not, ◌&&◌, leb}
 use Rattle.std.proofs.Math.Bool.{true, false}
-use Prim.Native.Nat.{ℕ, ◌+◌, ◌-◌, ◌≤◌, ◌<◌, ◌^◌}
+use Prim.Native.Nat.{ℕ, ◌+◌, ◌≤◌, ◌<◌, ◌^◌}
 use native.Mathlib.Omega.{arith}
 use Rattle.std.proofs.Math.ListN.{length, drop}
 use Rattle.std.proofs.Math.Dec.{eqb}
-use borrow.Author.Tests.{le-leb, lt-leb, eq-eqb, ne_eqb, leb-true, eqb-true, eqb-false, not-true, not-false}
+use borrow.Author.Tests.{eq-eqb, ne_eqb, not-true, not-false}
 use Rattle.seal.specs.Bytes.{u16_at, window}
 use Rattle.seal.specs.laws.WindowLaws.{length_window}
-use Rattle.node.specs.Order.{keyed_length, less}
+use Rattle.node.specs.Order.{less}
 use Rattle.node.specs.Entry.{Entry, rise_after, rising, every}
 use Rattle.node.specs.Records.{mark_length, value_of, record_length, entry_of, records_length, entries_of}
 use Rattle.node.specs.Slot.{records_hold, suit, key_length_holds, value_length_holds, value_holds, entry_holds}
-use Rattle.node.specs.internal.SlotSteps.{mark_holds, records_stand, checked_of, rising_from, Checking, record_at, lengths_of, longer_of}
+use Rattle.node.specs.internal.SlotSteps.{mark_holds, records_stand, checked_of, Checking, parts_at, lengths_of, longer_of}
 use Rattle.node.specs.laws.base.Tests.{by_test}
-use Rattle.node.specs.laws.fit.Fit.{fixed_not, fixed_so, lengths_none, lengths_next, lengths_done, lengths_room}
+use Rattle.node.specs.laws.fit.Fit.{lengths_none, lengths_next, lengths_done, lengths_room}
 use Rattle.node.specs.laws.slot.Records.{at_klen, at_mark, length_entries, entries_head, entry_key_length}
 use Rattle.node.specs.laws.slot.Slot.{at_next}
-use Rattle.node.specs.laws.slot.Find.{hold_no, hold_end}
+use Rattle.node.specs.laws.slot.Find.{Looked, hold_out, hold_end, looked_lies, looked_slot, looked_at}
+use Rattle.node.specs.declared.record.Record.{Record}
 use Rattle.node.specs.declared.info.BTreeInfo.{BTreeInfo}
 use Rattle.node.specs.declared.fit.Lengths.{Lengths}
-use Rattle.node.specs.declared.record.Record.{Record}
-use Rattle.node.specs.declared.stands.Checked.TheVariants.{Not, Held}
-
--- ---- lengths
-
-module _ (o : ℕ) (t : BTreeInfo) (n : ℕ) (k : Bool) (e : k ≡ keyed_length o n) where
-  pub key_unkeyed : not k ≡ true → false ≡ key_length_holds o t n
-  unfolding key_length_holds
-  key_unkeyed h = rw (← e, not-true k h)
-
-  pub key_any : not k ≡ false → t.key_size ≡ 0 → true ≡ key_length_holds o t n
-  unfolding key_length_holds
-  key_any h f = rw (← e, not-false k h, fixed_not t f)
-
-  pub key_fixed : not k ≡ false → (t.key_size ≡ 0 → ⊥) → eqb n t.key_size ≡ key_length_holds o t n
-  unfolding key_length_holds
-  key_fixed h f = rw (← e, not-false k h, fixed_so t f)
-
-pub value_any : (t : BTreeInfo) (n : ℕ) → t.key_size ≡ 0 → true ≡ value_length_holds t n
-unfolding value_length_holds
-value_any t n f = rw (fixed_not t f)
-
-pub value_fixed : (t : BTreeInfo) (n : ℕ) → (t.key_size ≡ 0 → ⊥) → eqb n t.val_size ≡ value_length_holds t n
-unfolding value_length_holds
-value_fixed t n f = rw (fixed_so t f)
-
-pub mark_none : (t : BTreeInfo) (m : ℕ) → 0xFFFC < m → true ≡ mark_holds t m
-unfolding mark_holds
-mark_none t m h = rw (lt-leb m 0xFFFC h)
-
-pub mark_value_lem : (t : BTreeInfo) (m : ℕ) (r : Bool) → m ≤ 0xFFFC → r ≡ value_length_holds t m → r ≡ mark_holds t m
-unfolding mark_holds
-mark_value_lem t m r h e = rw (le-leb m 0xFFFC h) e
+use Rattle.node.specs.declared.record.RecordParts.{RecordParts}
+use Rattle.std.specs.Prelude.{Option, Some, None, MatchOption, IsTrue}
 
 -- ---- one entry
 
@@ -67,8 +37,8 @@ mark_cases t m w false true c e p q r = rw (p, q)
 mark_cases t m w false false true e p q r = rw (p, q, r)
 mark_cases t m w false false false e p q r = rw (p, q, r)
 
-module _ (o : ℕ) (t : BTreeInfo) (isLeaf : Bool) (l : List ℕ) (at : ℕ) (r : Record) (lies : at + record_length (drop at l) ≤ length l)
-    (e : r ≡ record_at l at) where
+module _ (o : ℕ) (t : BTreeInfo) (isLeaf : Bool) (l : List ℕ) (at : ℕ) (r : RecordParts) (lies : at + record_length (drop at l) ≤ length l)
+    (e : r ≡ parts_at l at) where
   whole : record_length (drop at l) ≤ length (drop at l)
   whole = rw length-drop (omega arith)
 
@@ -101,14 +71,6 @@ module _ (o : ℕ) (t : BTreeInfo) (isLeaf : Bool) (l : List ℕ) (at : ℕ) (r 
       unfolding entry_holds
       entry_suits u h f q = rw (← key_so, not-false k h, ← mark_is, ← ev, not-false v f) q
 
--- ---- keys that rise
-
-pub rises_first : (o : ℕ) (a b : List ℕ) (f : Bool) → f ≡ true → true ≡ (f || less o a b)
-rises_first o a b f h = rw h
-
-pub rises_next : (o : ℕ) (a b x y : List ℕ) (f r : Bool) → f ≡ false → x ≡ a → y ≡ b → r ≡ less o x y → r ≡ (f || less o a b)
-rises_next o a b x y f r h p q e = rw (h, ← p, ← q) e
-
 -- ---- the pass
 
 second_no : (a b c : Bool) → b ≡ false → false ≡ a && b && c
@@ -120,27 +82,41 @@ third_no true true c h = sym h
 third_no true false c h = refl
 third_no false b c h = refl
 
+-- keys that rise after the key before them, if there is one, decide w
+abbrev pub Rises : ℕ → {A : Type 0} → (A → List ℕ) → Option A → List Entry → Bool → Type 0
+Rises o now last es w = MatchOption last (rising o es ≡ w) (λ a. rise_after o (now a) es ≡ w)
+
+rise_step : (o : ℕ) {A : Type 0} (now : A → List ℕ) (last : Option A) (e : Entry) (es : List Entry) (w c : Bool) (k : List ℕ) → k ≡ e.key
+    → Rises o now last (e ∷ es) w → MatchOption last (IsTrue c) (λ a. c ≡ less o (now a) k) → w ≡ c && rise_after o k es
+unfolding rising rise_after
+rise_step o now None e es w c k ek p q = sym p ∙ rw (q, ek)
+rise_step o now (Some a) e es w c k ek p q = sym p ∙ rw (q, ek)
+
+rise_end : (o : ℕ) {A : Type 0} (now : A → List ℕ) (last : Option A) (w : Bool) → Rises o now last [] w → true ≡ w
+unfolding rising rise_after
+rise_end o now None w p = p
+rise_end o now (Some a) w p = p
+
 both : (a : Bool) → a && true && true ≡ a
 both true = refl
 both false = refl
 
-module _ (o : ℕ) (t : BTreeInfo) (isLeaf : Bool) (n used : ℕ) (l : List ℕ) where
+module _ (o : ℕ) (t : BTreeInfo) (isLeaf : Bool) (n : ℕ) (l : List ℕ) where
   abbrev es : List Entry
   es = entries_of n l
 
   abbrev T : Entry → Bool
   T = entry_holds o t isLeaf
 
-  refuses : false ≡ records_stand o t isLeaf n used l → Not ≡ checked_of o t isLeaf n used l
+  refuses : (used : ℕ) → false ≡ records_stand o t isLeaf n used l → None ≡ checked_of o t isLeaf n used l
   unfolding checked_of
-  refuses h = rw (← h)
+  refuses used h = rw (← h)
 
-  pub check_start : Checking o t isLeaf n l 0 0 (record { at = 0; keys = 0; values = 0 })
-  unfolding records_length rising_from
-  check_start =
-      record { few = omega arith; within = omega arith; sums = lengths_none t l; prior = refl; hold = refl; rise = refl }
+  pub check_start : Checking o t isLeaf n l 0 (record { at = 0; keys = 0; values = 0 })
+  unfolding records_length
+  check_start = record { few = omega arith; within = omega arith; sums = lengths_none t l; hold = refl }
 
-  module _ (i last : ℕ) (s : Lengths) (g : Checking o t isLeaf n l i last s) where
+  module _ (i : ℕ) (s : Lengths) (g : Checking o t isLeaf n l i s) where
     at_is : s.at ≡ records_length i l
     unfolding lengths_of
     at_is = ap (λ (x : Lengths). x.at) g.sums
@@ -152,121 +128,119 @@ module _ (o : ℕ) (t : BTreeInfo) (isLeaf : Bool) (n used : ℕ) (l : List ℕ)
     left : i < n → drop i es ≡ entry_of (drop s.at l) ∷ drop (i + 1) es
     left h = entries_head i n s.at l h at_is
 
-    module _ (at : ℕ) (ea : at ≡ s.at) (r : Bool) (er : r ≡ leb (at + record_length (drop at l)) (length l)) where
-      pub check_out : i < n → not r ≡ true → Not ≡ checked_of o t isLeaf n used l
+    module _ (v : Option Record) (k : Looked l s.at v) where
+      pub check_out : (used : ℕ) → i < n → v ≡ None → None ≡ checked_of o t isLeaf n used l
       unfolding records_stand
-      check_out h q =
-          let z : false ≡ records_hold n used l = hold_no l n used i at r h (ea ∙ at_is) er q in
-          refuses (rw (← z))
+      check_out used h q =
+          let z : false ≡ records_hold n used l = hold_out l n used i s.at v h at_is k q in
+          refuses used (rw (← z))
 
-      module _ (q : not r ≡ false) where
-        pub check_lies : at + record_length (drop at l) ≤ length l
-        check_lies = leb-true (at + record_length (drop at l)) (length l) (sym er ∙ not-false r q)
+      module _ (r : Record) (q : v ≡ Some r) where
+        check_lies : s.at + record_length (drop s.at l) ≤ length l
+        check_lies = looked_lies l s.at v k r q
 
-        pub check_lies_s : s.at + record_length (drop s.at l) ≤ length l
-        check_lies_s = rw ea at check_lies
+        check_slot : r.slot.now ≡ l
+        check_slot = looked_slot l s.at v k r q
 
-        next_is : records_length (i + 1) l ≡ at + record_length (drop at l)
-        next_is = sym (at_next l i at (at + record_length (drop at l)) (ea ∙ at_is) refl)
+        pub check_at : r.at ≡ s.at
+        check_at = looked_at l s.at v k r q
+
+        pub check_long : length l ≤ 2 ^ 20 → length r.slot.now ≤ 2 ^ 20
+        check_long m = rw check_slot m
+
+        check_entry_is : entry_of (drop r.at r.slot.now) ≡ entry_of (drop s.at l)
+        check_entry_is = rw (check_slot, check_at)
+
+        pub check_key : (x : List ℕ) → x ≡ (entry_of (drop r.at r.slot.now)).key → x ≡ (entry_of (drop s.at l)).key
+        check_key x e = e ∙ ap (λ (z : Entry). z.key) check_entry_is
 
         within_next : records_length (i + 1) l ≤ length l
-        within_next = omega (arith, next_is, check_lies)
+        within_next = omega (arith, check_lies, at_next l i s.at (s.at + record_length (drop s.at l)) at_is refl)
 
-        -- the record before lies too; before the first, this one
-        pub check_prior : last + record_length (drop last l) ≤ length l
-        check_prior =
-            by_test (eqb i 0)
-            (λ z. let y : i - 1 ≡ i = omega (arith, eqb-true i 0 z) in
-            let x : last ≡ at = g.prior ∙ ap (λ (j : ℕ). records_length j l) y ∙ sym (ea ∙ at_is) in rw x check_lies)
-            (λ z. let y : i ≡ i - 1 + 1 = omega (arith, eqb-false i 0 z) in
-            let x : records_length i l ≡ last + record_length (drop last l) = ap (λ (j : ℕ). records_length j l) y
-            ∙ sym (at_next l (i - 1) last (last + record_length (drop last l)) g.prior refl) in
-            omega (arith, g.within, x))
+        pub check_sums : length l ≤ 2 ^ 20 → (s.keys < 2 ^ 32) × (s.values < 2 ^ 32)
+        check_sums m = let f = lengths_room t i i l s g.sums (omega arith) g.within m in (omega arith, omega arith)
 
-        pub check_keys : length l ≤ 2 ^ 20 → s.keys < 2 ^ 32
-        check_keys m = omega (arith, lengths_room t i i l s g.sums (omega arith) g.within m)
+        module _ (h : i < n) (b : Bool) (eb : b ≡ T (entry_of (drop r.at r.slot.now))) where
+          holds_is : b ≡ T (entry_of (drop s.at l))
+          holds_is = eb ∙ ap T check_entry_is
 
-        pub check_values : length l ≤ 2 ^ 20 → s.values < 2 ^ 32
-        check_values m = omega (arith, lengths_room t i i l s g.sums (omega arith) g.within m)
-
-        module _ (h : i < n) (b : Bool) (eb : b ≡ T (entry_of (drop at l))) where
           every_is : every T es ≡ b && every T (drop (i + 1) es)
           unfolding every
-          every_is = sym g.hold ∙ ap (every T) (left h) ∙ ap (λ (x : Bool). x && every T (drop (i + 1) es))
-              (sym (eb ∙ ap (λ (j : ℕ). T (entry_of (drop j l))) ea))
+          every_is = sym g.hold ∙ ap (every T) (left h) ∙ ap (λ (x : Bool). x && every T (drop (i + 1) es)) (sym holds_is)
 
-          pub check_entry : not b ≡ true → Not ≡ checked_of o t isLeaf n used l
+          pub check_entry : (used : ℕ) → b ≡ false → None ≡ checked_of o t isLeaf n used l
           unfolding records_stand
-          check_entry f =
-              let z : every T es ≡ false = every_is ∙ rw (not-true b f) in
-              refuses (second_no (records_hold n used l) (every T es) (rising o es) z)
+          check_entry used f =
+              let z : every T es ≡ false = every_is ∙ rw f in
+              refuses used (second_no (records_hold n used l) (every T es) (rising o es) z)
 
-          module _ (f : not b ≡ false) (first c : Bool) (ef : first ≡ eqb i 0)
-              (ec : c ≡ (first || less o (entry_of (drop last l)).key (entry_of (drop at l)).key)) where
-            rise_is : rising o es ≡ c && rise_after o (entry_of (drop at l)).key (drop (i + 1) es)
-            unfolding rising_from rising rise_after
-            rise_is =
-                let p : drop i es ≡ entry_of (drop at l) ∷ drop (i + 1) es = left h
-                ∙ ap (λ (j : ℕ). entry_of (drop j l) ∷ drop (i + 1) es) (sym ea) in
-                by_test (eqb i 0)
-                (λ z. let k : c ≡ true = ec ∙ rw (ef, z) in
-                sym g.rise ∙ rw (z, p, k))
-                (λ z. let k : c ≡ less o (entry_of (drop last l)).key (entry_of (drop at l)).key = ec ∙ rw (ef, z) in
-                sym g.rise ∙ rw (z, p, k))
-
-            pub check_fall : not c ≡ true → Not ≡ checked_of o t isLeaf n used l
-            unfolding records_stand
-            check_fall d =
-                let z : rising o es ≡ false = rise_is ∙ rw (not-true c d) in
-                refuses (third_no (records_hold n used l) (every T es) (rising o es) z)
-
-            pub check_turn : (s' : Lengths) → not c ≡ false → s' ≡ longer_of t l s → Checking o t isLeaf n l (i + 1) at s'
-            unfolding rising_from
-            check_turn s' d u =
-                let z : eqb (i + 1) 0 ≡ false = ne_eqb (i + 1) 0 (λ w. omega arith) in
-                let y : i + 1 - 1 ≡ i = omega arith in
-                record {
-                  few = omega arith;
-                  within = within_next;
-                  sums = lengths_next t i (i + 1) l s s' g.sums u (omega arith) within_next;
-                  prior = ea ∙ at_is ∙ ap (λ (j : ℕ). records_length j l) (sym y);
-                  hold = sym (every_is ∙ rw (not-false b f));
-                  rise = rw z (sym (rise_is ∙ rw (not-false c d)));
-                }
+          pub check_turn : (s' : Lengths) → b ≡ true → s' ≡ longer_of t r.slot.now s → Checking o t isLeaf n l (i + 1) s'
+          check_turn s' f u =
+              record {
+                few = omega arith;
+                within = within_next;
+                sums = lengths_next t i (i + 1) l s s' g.sums (u ∙ ap (λ (x : List ℕ). longer_of t x s) check_slot) (omega arith) within_next;
+                hold = sym (every_is ∙ rw f);
+              }
 
     none : n ≤ i → drop i es ≡ []
     none h = let b : length es ≤ i = omega (arith, length_entries n l) in drop_of_length-le es b
 
-    stand_is : n ≤ i → eqb s.at used ≡ records_stand o t isLeaf n used l
-    unfolding records_stand rising_from every rising rise_after
-    stand_is h =
+    stand_is : (used : ℕ) → n ≤ i → true ≡ rising o es → eqb s.at used ≡ records_stand o t isLeaf n used l
+    unfolding records_stand every
+    stand_is used h c =
         let a : eqb s.at used ≡ records_hold n used l = hold_end l n used i s.at g.few h at_is check_in in
         let b : every T es ≡ true = sym g.hold ∙ ap (every T) (none h) in
-        let c : rising o es ≡ true = sym g.rise ∙ by_test (eqb i 0) (λ z. rw (z, none h)) (λ z. rw (z, none h)) in
-        a ∙ sym (rw (b, c) (both (records_hold n used l)))
+        a ∙ sym (rw (b, ← c) (both (records_hold n used l)))
 
-    pub check_used : n ≤ i → (s.at ≡ used → ⊥) → Not ≡ checked_of o t isLeaf n used l
-    check_used h f = refuses (sym (ne_eqb s.at used f) ∙ stand_is h)
+    pub check_used : (used : ℕ) → n ≤ i → true ≡ rising o es → (s.at ≡ used → ⊥) → None ≡ checked_of o t isLeaf n used l
+    check_used used h c f = refuses used (sym (ne_eqb s.at used f) ∙ stand_is used h c)
 
-    pub check_held : n ≤ i → s.at ≡ used → Held s ≡ checked_of o t isLeaf n used l
+    pub check_held : (used : ℕ) → n ≤ i → true ≡ rising o es → s.at ≡ used → Some s ≡ checked_of o t isLeaf n used l
     unfolding checked_of
-    check_held h e =
-        let z : records_stand o t isLeaf n used l ≡ true = sym (stand_is h) ∙ eq-eqb s.at used e in
-        rw z (ap Held (lengths_done t i n l s g.sums g.few h))
+    check_held used h c e =
+        let z : records_stand o t isLeaf n used l ≡ true = sym (stand_is used h c) ∙ eq-eqb s.at used e in
+        rw z (ap Some (lengths_done t i n l s g.sums g.few h))
 
-  -- ---- what a caller learns
+    -- the key of the record there is above the one before it, `last`, or not
+    module _ {A : Type 0} (now : A → List ℕ) (last : Option A) (rise : Rises o now last (drop i es) (rising o es)) where
+      module _ (h : i < n) (k : List ℕ) (ek : k ≡ (entry_of (drop s.at l)).key) (c : Bool)
+          (ec : MatchOption last (IsTrue c) (λ a. c ≡ less o (now a) k)) where
+        rise_is : rising o es ≡ c && rise_after o k (drop (i + 1) es)
+        rise_is = rise_step o now last (entry_of (drop s.at l)) (drop (i + 1) es) (rising o es) c k ek (rw (← left h) rise) ec
 
-  pub checked_stands : (s : Lengths) → Held s ≡ checked_of o t isLeaf n used l → records_stand o t isLeaf n used l ≡ true
+        pub check_fall : (used : ℕ) → c ≡ false → None ≡ checked_of o t isLeaf n used l
+        unfolding records_stand
+        check_fall used d =
+            let z : rising o es ≡ false = rise_is ∙ rw d in
+            refuses used (third_no (records_hold n used l) (every T es) (rising o es) z)
+
+        pub check_rise : c ≡ true → rise_after o k (drop (i + 1) es) ≡ rising o es
+        check_rise d = sym (rise_is ∙ rw d)
+
+      pub check_risen : n ≤ i → true ≡ rising o es
+      check_risen h = rise_end o now last (rising o es) (rw (none h) at rise)
+
+-- ---- what a caller learns
+
+module _ (o : ℕ) (t : BTreeInfo) (isLeaf : Bool) (n used : ℕ) (l : List ℕ) where
+  pub checked_stands : (s : Lengths) → Some s ≡ checked_of o t isLeaf n used l → records_stand o t isLeaf n used l ≡ true
   unfolding checked_of
   checked_stands s e = by_test (records_stand o t isLeaf n used l) (λ z. z)
-      (λ z. let q : Held s ≡ Not = rw z at e in let x : ◌≡◌ {A = ℕ} 0 1 = cc in absurd (omega arith))
+      (λ z. let q : Some s ≡ None = rw z at e in let x : ◌≡◌ {A = ℕ} 0 1 = cc in absurd (omega arith))
 
-  pub checked_lengths : (s : Lengths) → Held s ≡ checked_of o t isLeaf n used l → s ≡ lengths_of t n l
+  pub checked_lengths : (s : Lengths) → Some s ≡ checked_of o t isLeaf n used l → s ≡ lengths_of t n l
   unfolding checked_of
-  checked_lengths s e = by_test (records_stand o t isLeaf n used l) (λ z. let q : Held s ≡ Held (lengths_of t n l) = rw z at e in cc)
-      (λ z. let q : Held s ≡ Not = rw z at e in let x : ◌≡◌ {A = ℕ} 0 1 = cc in absurd (omega arith))
+  checked_lengths s e = by_test (records_stand o t isLeaf n used l) (λ z. let q : Some s ≡ Some (lengths_of t n l) = rw z at e in cc)
+      (λ z. let q : Some s ≡ None = rw z at e in let x : ◌≡◌ {A = ℕ} 0 1 = cc in absurd (omega arith))
 
-  pub checked_not : Not ≡ checked_of o t isLeaf n used l → records_stand o t isLeaf n used l ≡ false
+  pub checked_not : None ≡ checked_of o t isLeaf n used l → records_stand o t isLeaf n used l ≡ false
   unfolding checked_of
   checked_not e = by_test (records_stand o t isLeaf n used l)
-      (λ z. let q : Not ≡ Held (lengths_of t n l) = rw z at e in let x : ◌≡◌ {A = ℕ} 0 1 = cc in absurd (omega arith)) (λ z. z)
+      (λ z. let q : None ≡ Some (lengths_of t n l) = rw z at e in let x : ◌≡◌ {A = ℕ} 0 1 = cc in absurd (omega arith)) (λ z. z)
+
+-- ---- what the pass takes of these
+
+pub ruleset pass = (check_start, check_in)
+
+pub ruleset entry = (entry_key_no, entry_value_no, entry_suits)

@@ -248,3 +248,9 @@ part_packs b n slot dst z h w m f =
 
 pub part_law : (dst d x : List ℕ) (k : ℕ) → k ≤ length dst → length d ≡ length (take k dst) → d ≡ x → d ++ drop k dst ≡ splice dst 0 x
 part_law dst d x k h e q = part_whole dst 0 k d (e ∙ length-take-le k dst h) ∙ ap (splice dst 0) q
+
+-- ---- what the code takes of these
+
+pub ruleset fill_laws = (few, space_fit)
+
+pub ruleset part_laws = (part_size, part_packs, part_law, block_law)

@@ -29,8 +29,9 @@ use Rattle.node.specs.declared.build.NodeBuild.{NodeBuild}
 use Rattle.node.specs.declared.read.Node.{Node}
 use Rattle.node.specs.declared.read.Span.{Span}
 use Rattle.node.specs.declared.read.Place.{Place}
-use Rattle.node.specs.declared.read.Read.{Read}
-use Rattle.node.specs.declared.read.Read.TheVariants.{Refused, Loaded}
+use Rattle.std.specs.Prelude.{Ok, Err}
+use Rattle.std.specs.Prelude as std
+use Rattle.node.specs.declared.refusal.Refusal.{Refusal}
 
 -- ---- the flags
 
@@ -64,12 +65,12 @@ unfolding line keys_hold
 passes o p lower upper b v e h3 h4 h5 h6 h7 h8 h9 = sym (node_line o p lower upper b v (sym e)) ∙ rw (h3, h4, h5, h6, h7, h8, h9)
 
 -- an answer that means this node
-answered : (b : List ℕ) (r : Read) (v : Node) (es : List Entry) → read_of b r ≡ ok (record { node = v; entries = es }) → r ≡ Loaded v
+answered : (b : List ℕ) (r : std.Result Node Refusal) (v : Node) (es : List Entry) → read_of b r ≡ ok (record { node = v; entries = es }) → r ≡ Ok v
 unfolding read_of on_disk
-answered b (Refused n) v es h = cc
-answered b (Loaded u) v es h =
+answered b (Err n) v es h = cc
+answered b (Ok u) v es h =
     let d : on_disk u b ≡ record { node = v; entries = es } = cc in
-    ap (λ (x : OnDisk). Loaded x.node) d
+    ap (λ (x : OnDisk). Ok x.node) d
 
 -- 6, of any node
 layout_passes : (p : Place) (v : Node) → v.keys ≤ v.vals → v.level ≤ 32 → flag v.flags 2 ≡ eqb v.level 0 → flag v.flags 1 ≡ p.root
@@ -207,7 +208,8 @@ module _ (o : ℕ) (p : Place) (lower upper : List ℕ) (b : NodeBuild) (es : Li
       ∙ ap (λ (xs : List Entry). ok (record { node = packed_node b es; entries = xs })) back.same
 
   -- so a reader that answers as `read_node` says has loaded that node
-  pub loaded_back : (r : Read) → read_of (pack_node b es) r ≡ read_node o p lower upper (pack_node b es) → r ≡ Loaded (packed_node b es)
+  pub loaded_back : (r : std.Result Node Refusal) → read_of (pack_node b es) r ≡ read_node o p lower upper (pack_node b es)
+      → r ≡ Ok (packed_node b es)
   loaded_back r e = answered (pack_node b es) r (packed_node b es) es (e ∙ loads_back)
 
   -- the tree info of a packed root is the one it was packed from

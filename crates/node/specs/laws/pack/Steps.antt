@@ -1,12 +1,12 @@
 -- Laws of the steps of packing: one for each way out. Assumes nothing.
-use Rattle.std.specs.Prelude.{◌≡◌, refl, Bool, true, false, cond, not, take, get_or, leb, eqb}
+use Rattle.std.specs.Prelude.{◌≡◌, refl, Bool, true, false, cond, take, leb, eqb}
 use Rattle.std.proofs.Math.Path.{sym, ap, ap₂}
 use Rattle.std.proofs.Common.{◌∙◌, zero-add, add-zero, suc-mul, add-one, length-append, length-take, length-drop, take_all, drop-drop}
 use mathlib.Core.List.{List, ◌∷◌, ◌++◌, map}
-use Prim.Native.Nat.{ℕ, suc, ◌+◌, ◌-◌, ◌*◌, ◌/◌, ◌≤◌, ◌<◌}
+use Prim.Native.Nat.{ℕ, suc, ◌+◌, ◌-◌, ◌*◌, ◌≤◌, ◌<◌}
 use Rattle.std.proofs.Math.Nat.{add_assoc, sub-zero}
 use native.Mathlib.Omega.{arith}
-use Rattle.std.proofs.Math.ListN.{length, drop, get_or-eq_default}
+use Rattle.std.proofs.Math.ListN.{length, drop}
 use borrow.Author.Tests.{le-leb, lt-leb, eq-eqb, ne_eqb, leb-true}
 use Rattle.seal.specs.Bytes.{splice, window, le, bytes_of, field_at, u16_at, u64_at}
 use Rattle.seal.specs.laws.WindowLaws.{splice_none, splice_run}
@@ -14,88 +14,34 @@ use Rattle.seal.specs.laws.FieldLaws.{length_bytes_of}
 use Rattle.seal.specs.Obj.{header_bytes}
 use Rattle.node.specs.Entry.{Entry, ghost, leaf, disk, mem, value_length, value_bytes}
 use Rattle.node.specs.Records.{mark_length, value_of, record_length, records_length, entry_of, entries_of}
-use Rattle.node.specs.internal.SlotSteps.{record_at}
-use Rattle.node.specs.Slot.{head_at, node_of, marked, only, number_of}
+use Rattle.node.specs.internal.SlotSteps.{parts_at}
+use Rattle.node.specs.Slot.{head_at, node_of, number_of, marked, only}
+use Rattle.node.specs.laws.base.Tests.{by_test}
 use Rattle.node.specs.Fit.{padded, fixed, slot_width, keys_length, values_length}
 use Rattle.node.specs.Pack.{child_number, numbered_value, numbered, value_offset, toc_entry, node_flags, info_bytes}
 use Rattle.node.specs.internal.PackSteps.{marked_at, loc_bytes, off_bytes, slot_bytes, mark_offset, put_entry, put_entries, spot_after, Room, Rooms, node_bytes, no_lists, head_of}
-use Rattle.node.specs.laws.base.Tests.{by_test}
 use Rattle.node.specs.laws.pack.Numbered.{length_numbered}
-use Rattle.node.specs.laws.slot.Records.{mark_child, at_key, at_klen, at_mark, at_value, at_length, at_after, value_length_lem, entry_key_length, entry_value_length}
+use Rattle.node.specs.laws.slot.Records.{mark_child, at_key, at_klen, at_mark, at_value, at_length, at_after, value_length_lem, record_sum, entry_key_length, entry_value_length}
 use Rattle.node.specs.laws.slot.Slot.{part_length, key_part}
-use Rattle.node.specs.laws.fit.Fit.{fixed_not, fixed_so, padded_least}
+use Rattle.node.specs.laws.fit.Fit.{padded_least}
 use Rattle.node.specs.declared.info.BTreeInfo.{BTreeInfo}
 use Rattle.node.specs.declared.build.NodeBuild.{NodeBuild}
-use Rattle.node.specs.declared.record.Record.{Record}
+use Rattle.node.specs.declared.record.RecordParts.{RecordParts}
 use Rattle.node.specs.declared.pack.Spot.{Spot}
 
 -- ---- the number of a child in a slot
 
-only_zero : (m : ℕ) → 0 ≡ only (marked m 0)
+only_marked : (m x : ℕ) → only (marked m x) ≡ cond (eqb m 1) x 0
 unfolding marked only
-only_zero m = by_test (eqb m 1) (λ e. rw e) (λ e. rw e)
-
-pub number_past : (heads : List ℕ) (s mark : ℕ) → length heads / 9 < s → 0 ≡ marked_at heads s mark
-unfolding marked_at
-number_past heads s mark h =
-    let z : get_or heads (s * 9 + (mark + 1)) 0 ≡ 0 = get_or-eq_default heads 0 (omega arith) in
-    rw z (only_zero (get_or heads (s * 9 + mark) 0))
-
-pub number_short : (heads : List ℕ) (s mark : ℕ) → length heads - s * 9 ≤ mark + 1 → 0 ≡ marked_at heads s mark
-unfolding marked_at
-number_short heads s mark h =
-    let z : get_or heads (s * 9 + (mark + 1)) 0 ≡ 0 = get_or-eq_default heads 0 (omega arith) in
-    rw z (only_zero (get_or heads (s * 9 + mark) 0))
-
-pub number_unmarked : (heads : List ℕ) (s mark : ℕ) → (get_or heads (s * 9 + mark) 0 ≡ 1 → ⊥) → 0 ≡ marked_at heads s mark
-unfolding marked_at marked only
-number_unmarked heads s mark h = rw (ne_eqb (get_or heads (s * 9 + mark) 0) 1 h)
-
-pub number_marked : (heads : List ℕ) (s mark : ℕ) → get_or heads (s * 9 + mark) 0 ≡ 1 → get_or heads (s * 9 + (mark + 1)) 0 ≡ marked_at heads s mark
-unfolding marked_at marked only
-number_marked heads s mark h = rw (eq-eqb (get_or heads (s * 9 + mark) 0) 1 h)
+only_marked m x = by_test (eqb m 1) (λ e. rw e) (λ e. rw e)
 
 pub child_id : (heads : List ℕ) (by : Bool) (s r : ℕ) → by ≡ true → r ≡ marked_at heads s 5 → r ≡ child_number heads by s
 unfolding child_number number_of node_of head_at marked_at
-child_id heads by s r e h = rw e h
+child_id heads by s r e h = rw (e, only_marked) h
 
 pub child_block : (heads : List ℕ) (by : Bool) (s r : ℕ) → by ≡ false → r ≡ marked_at heads s 3 → r ≡ child_number heads by s
 unfolding child_number number_of node_of head_at marked_at
-child_block heads by s r e h = rw e h
-
--- ---- a contents slot
-
-pub offset_ghost : (m o : ℕ) → m ≡ 0xFFFF → 0xFFFF ≡ mark_offset m o
-unfolding mark_offset
-offset_ghost m o e = rw (eq-eqb m 0xFFFF e)
-
-pub offset_value : (m o : ℕ) → (m ≡ 0xFFFF → ⊥) → o ≡ mark_offset m o
-unfolding mark_offset
-offset_value m o e = rw (ne_eqb m 0xFFFF e)
-
-pub width_8 : (t : BTreeInfo) → t.key_size ≡ 0 → 8 ≡ slot_width t
-unfolding slot_width
-width_8 t e = rw (fixed_not t e)
-
-pub width_4 : (t : BTreeInfo) → (t.key_size ≡ 0 → ⊥) → 4 ≡ slot_width t
-unfolding slot_width
-width_4 t e = rw (fixed_so t e)
-
-pub room_8 : (t : BTreeInfo) (p n : ℕ) → t.key_size ≡ 0 → p + slot_width t ≤ n → p + 8 ≤ n
-room_8 t p n e h = let w = width_8 t e in omega arith
-
-pub room_4 : (t : BTreeInfo) (p n : ℕ) → (t.key_size ≡ 0 → ⊥) → p + slot_width t ≤ n → p + 4 ≤ n
-room_4 t p n e h = let w = width_4 t e in omega arith
-
-pub slot_loc : (t : BTreeInfo) (l l₁ : List ℕ) (p a b c d : ℕ) → t.key_size ≡ 0 → l₁ ≡ splice l p (loc_bytes a b c d)
-    → l₁ ≡ splice l p (slot_bytes t a b c d)
-unfolding slot_bytes
-slot_loc t l l₁ p a b c d e q = rw (fixed_not t e) q
-
-pub slot_off : (t : BTreeInfo) (l l₁ : List ℕ) (p a b c d : ℕ) → (t.key_size ≡ 0 → ⊥) → l₁ ≡ splice l p (off_bytes a c)
-    → l₁ ≡ splice l p (slot_bytes t a b c d)
-unfolding slot_bytes
-slot_off t l l₁ p a b c d e q = rw (fixed_so t e) q
+child_block heads by s r e h = rw (e, only_marked) h
 
 -- ---- fields one after another
 
@@ -117,19 +63,24 @@ run_next {l} {l₁} {i} {j} {a} r l₂ k w x e h q =
       long = rw length-append (omega (arith, r.long));
     }
 
-pub off_law : (l l₁ l₂ : List ℕ) (p a b : ℕ) → p + 4 ≤ length l → l₁ ≡ splice l p (bytes_of 2 a) → l₂ ≡ splice l₁ (p + 2) (bytes_of 2 b)
-    → l₂ ≡ splice l p (off_bytes a b)
-unfolding off_bytes
-off_law l l₁ l₂ p a b h q₁ q₂ = (run_next (run_first l l₁ p (p + 2) 2 a refl q₁) l₂ (p + 4) 2 b (omega arith) h q₂).is
+-- a contents slot, of fixed lengths or not
+pub slot_off : (t : BTreeInfo) (l l₁ l₂ : List ℕ) (p a b c d : ℕ) → p + slot_width t ≤ length l → fixed t ≡ true → l₁ ≡ splice l p (bytes_of 2 a)
+    → l₂ ≡ splice l₁ (p + 2) (bytes_of 2 c) → l₂ ≡ splice l p (slot_bytes t a b c d)
+unfolding slot_width slot_bytes off_bytes
+slot_off t l l₁ l₂ p a b c d h e q₁ q₂ =
+    let w : p + 4 ≤ length l = rw e at h in
+    rw e (run_next (run_first l l₁ p (p + 2) 2 a refl q₁) l₂ (p + 4) 2 c (omega arith) w q₂).is
 
-pub loc_law : (l l₁ l₂ l₃ l₄ : List ℕ) (p a b c d : ℕ) → p + 8 ≤ length l → l₁ ≡ splice l p (bytes_of 2 a) → l₂ ≡ splice l₁ (p + 2) (bytes_of 2 b)
-    → l₃ ≡ splice l₂ (p + 4) (bytes_of 2 c) → l₄ ≡ splice l₃ (p + 6) (bytes_of 2 d) → l₄ ≡ splice l p (loc_bytes a b c d)
-unfolding loc_bytes
-loc_law l l₁ l₂ l₃ l₄ p a b c d h q₁ q₂ q₃ q₄ =
+pub slot_loc : (t : BTreeInfo) (l l₁ l₂ l₃ l₄ : List ℕ) (p a b c d : ℕ) → p + slot_width t ≤ length l → fixed t ≡ false
+    → l₁ ≡ splice l p (bytes_of 2 a) → l₂ ≡ splice l₁ (p + 2) (bytes_of 2 b) → l₃ ≡ splice l₂ (p + 4) (bytes_of 2 c)
+    → l₄ ≡ splice l₃ (p + 6) (bytes_of 2 d) → l₄ ≡ splice l p (slot_bytes t a b c d)
+unfolding slot_width slot_bytes loc_bytes
+slot_loc t l l₁ l₂ l₃ l₄ p a b c d h e q₁ q₂ q₃ q₄ =
+    let w : p + 8 ≤ length l = rw e at h in
     let r₁ = run_first l l₁ p (p + 2) 2 a refl q₁ in
     let r₂ = run_next r₁ l₂ (p + 4) 2 b (omega arith) (omega arith) q₂ in
     let r₃ = run_next r₂ l₃ (p + 6) 2 c (omega arith) (omega arith) q₃ in
-    (run_next r₃ l₄ (p + 8) 2 d (omega arith) h q₄).is
+    rw e (run_next r₃ l₄ (p + 8) 2 d (omega arith) w q₄).is
 
 pub node_law : (l l₁ l₂ l₃ l₄ l₅ l₆ l₇ : List ℕ) (f v n c k e : ℕ) → 56 ≤ length l → l₁ ≡ splice l 32 (bytes_of 2 f)
     → l₂ ≡ splice l₁ 34 (bytes_of 2 v)
@@ -209,17 +160,6 @@ module _ (heads : List ℕ) (by : Bool) (l l₁ : List ℕ) (p m : ℕ) (v : Lis
       let w : le v ≡ x = le_whole v (child_length m (length v) n h g) ∙ sym r in
       rw (lt-leb m 0xFFFC h, ne_eqb m 0xFFFF g, ne_eqb m 0xFFFE e, w, ← s) q
 
--- ---- the header
-
-pub flags_law : (b : NodeBuild) (x y z : ℕ) → x ≡ cond b.root 1 0 → y ≡ cond (eqb b.level 0) 2 0
-    → z ≡ cond (not (eqb b.info.key_size 0)) 4 0 → x + y + z ≡ node_flags b
-unfolding node_flags fixed
-flags_law b x y z p q r = rw (p, q) (ap (λ (n : ℕ). cond b.root 1 0 + cond (eqb b.level 0) 2 0 + n) (r ∙ turned (eqb b.info.key_size 0)))
-  where
-    turned : (e : Bool) → ◌≡◌ {A = ℕ} (cond (not e) 4 0) (cond (cond e false true) 4 0)
-    turned true = refl
-    turned false = refl
-
 -- ---- the entry of a record
 
 offset_cases : (heads : List ℕ) (by : Bool) (v : List ℕ) (o : ℕ) (a b c : Bool) → (a ≡ true → b ≡ false)
@@ -241,7 +181,7 @@ pub length_of : (heads : List ℕ) (by : Bool) (m : ℕ) (v : List ℕ) → leng
 length_of heads by m v h = length_numbered (child_number heads by) (value_of m v) ∙ value_length_lem m v h
 
 -- where the parts of a record lie, and what is known of their lengths
-pub record Parts (t : BTreeInfo) (keys vals : ℕ) (s : Spot) (slot : List ℕ) (r : Record) : Type 0 where
+pub record Parts (t : BTreeInfo) (keys vals : ℕ) (s : Spot) (slot : List ℕ) (r : RecordParts) : Type 0 where
   pub key : r.key ≡ s.at + 4
   pub value : r.value ≡ r.key + r.klen
   pub next : r.next ≡ r.value + r.vlen
@@ -253,8 +193,8 @@ pub record Parts (t : BTreeInfo) (keys vals : ℕ) (s : Spot) (slot : List ℕ) 
   pub key_part : length (take (r.value - r.key) (drop r.key slot)) ≡ r.klen
   pub value_part : length (take (r.next - r.value) (drop r.value slot)) ≡ r.vlen
 
-module _ (t : BTreeInfo) (keys vals : ℕ) (s : Spot) (slot block : List ℕ) (r : Record) (room : Room t keys vals s slot block)
-    (is : r ≡ record_at slot s.at) where
+module _ (t : BTreeInfo) (keys vals : ℕ) (s : Spot) (slot block : List ℕ) (r : RecordParts) (room : Room t keys vals s slot block)
+    (is : r ≡ parts_at slot s.at) where
   is_klen : r.klen ≡ u16_at (drop s.at slot) 0
   is_klen = at_klen slot s.at r is
 
@@ -388,19 +328,19 @@ module _ (t : BTreeInfo) (keys vals n : ℕ) (heads : List ℕ) (by : Bool) (slo
       first : record_length l ≤ length l
       first = rw length-drop (omega (arith, long, going.whole))
 
-      key_of : length (entry_of l).key ≡ (record_at slot s.at).klen
-      unfolding record_at
+      key_of : length (entry_of l).key ≡ (parts_at slot s.at).klen
+      unfolding parts_at
       key_of = entry_key_length l first
 
-      value_of_lem : value_length (entry_of l).value ≡ (record_at slot s.at).vlen
-      unfolding record_at
+      value_of_lem : value_length (entry_of l).value ≡ (parts_at slot s.at).vlen
+      unfolding parts_at
       value_of_lem = entry_value_length l first
 
-      keys_of : keys_length t (entries_of (n - i) l) ≡ padded t (record_at slot s.at).klen + keys_length t es
+      keys_of : keys_length t (entries_of (n - i) l) ≡ padded t (parts_at slot s.at).klen + keys_length t es
       unfolding keys_length
       keys_of = ap (keys_length t) these ∙ ap (λ (k : ℕ). padded t k + keys_length t es) key_of
 
-      values_of : values_length t (entries_of (n - i) l) ≡ padded t (record_at slot s.at).vlen + values_length t es
+      values_of : values_length t (entries_of (n - i) l) ≡ padded t (parts_at slot s.at).vlen + values_length t es
       unfolding values_length
       values_of = ap (values_length t) these ∙ ap (λ (k : ℕ). padded t k + values_length t es) value_of_lem
 
@@ -418,15 +358,15 @@ module _ (t : BTreeInfo) (keys vals n : ℕ) (heads : List ℕ) (by : Bool) (slo
             short = omega (arith, rooms.short, going.same);
           }
 
-      rest_of : put_entries t keys vals (s.toc + slot_width t) (s.key + padded t (record_at slot s.at).klen)
-          (s.val + padded t (record_at slot s.at).vlen)
+      rest_of : put_entries t keys vals (s.toc + slot_width t) (s.key + padded t (parts_at slot s.at).klen)
+          (s.val + padded t (parts_at slot s.at).vlen)
           (map (numbered (child_number heads by)) es)
-          (put_entry t keys vals s.toc s.key (s.val + padded t (record_at slot s.at).vlen) (numbered (child_number heads by) (entry_of l)) b)
+          (put_entry t keys vals s.toc s.key (s.val + padded t (parts_at slot s.at).vlen) (numbered (child_number heads by) (entry_of l)) b)
           ≡ put_entries t keys vals 56 0 0 (map (numbered (child_number heads by)) (entries_of n slot)) b₀
       unfolding put_entries numbered
       rest_of =
-          let k : length (numbered (child_number heads by) (entry_of l)).key ≡ (record_at slot s.at).klen = key_of in
-          let v : value_length (numbered (child_number heads by) (entry_of l)).value ≡ (record_at slot s.at).vlen = length_numbered
+          let k : length (numbered (child_number heads by) (entry_of l)).key ≡ (parts_at slot s.at).klen = key_of in
+          let v : value_length (numbered (child_number heads by) (entry_of l)).value ≡ (parts_at slot s.at).vlen = length_numbered
           (child_number heads by) (entry_of l).value ∙ value_of_lem in
           ap₂
           (λ (x y : ℕ). put_entries t keys vals (s.toc + slot_width t) (s.key + padded t x) (s.val + padded t y)
@@ -437,22 +377,22 @@ module _ (t : BTreeInfo) (keys vals n : ℕ) (heads : List ℕ) (by : Bool) (slo
           ∙ going.rest
 
       pub going_next : (b' : List ℕ) → length b' ≡ length b
-          → b' ≡ put_entry t keys vals s.toc s.key (s.val + padded t (record_at slot s.at).vlen)
+          → b' ≡ put_entry t keys vals s.toc s.key (s.val + padded t (parts_at slot s.at).vlen)
           (numbered (child_number heads by) (entry_of l)) b
           → Going t keys vals n heads by slot b₀ (i + 1) (spot_after t slot s) b'
-      unfolding spot_after record_at
+      unfolding spot_after parts_at
       going_next b' k q =
           record {
             count = omega arith;
             same = k ∙ going.same;
             whole = omega (arith, long, going.whole);
             contents = omega (arith, slots_of_lem, going.contents);
-            key = add_assoc s.key (padded t (record_at slot s.at).klen) (keys_length t es) ∙ ap (λ (x : ℕ). s.key + x) (sym keys_of)
+            key = add_assoc s.key (padded t (parts_at slot s.at).klen) (keys_length t es) ∙ ap (λ (x : ℕ). s.key + x) (sym keys_of)
                 ∙ going.key;
-            val = add_assoc s.val (padded t (record_at slot s.at).vlen) (values_length t es) ∙ ap (λ (x : ℕ). s.val + x) (sym values_of)
+            val = add_assoc s.val (padded t (parts_at slot s.at).vlen) (values_length t es) ∙ ap (λ (x : ℕ). s.val + x) (sym values_of)
                 ∙ going.val;
-            rest = ap (put_entries t keys vals (s.toc + slot_width t) (s.key + padded t (record_at slot s.at).klen)
-                (s.val + padded t (record_at slot s.at).vlen) (map (numbered (child_number heads by)) es)) q ∙ rest_of;
+            rest = ap (put_entries t keys vals (s.toc + slot_width t) (s.key + padded t (parts_at slot s.at).klen)
+                (s.val + padded t (parts_at slot s.at).vlen) (map (numbered (child_number heads by)) es)) q ∙ rest_of;
           }
 
       pub going_turn : (s' : Spot) (b' : List ℕ) → s' ≡ spot_after t slot s → length b' ≡ length b
@@ -460,7 +400,7 @@ module _ (t : BTreeInfo) (keys vals n : ℕ) (heads : List ℕ) (by : Bool) (slo
           → Going t keys vals n heads by slot b₀ (i + 1) s' b'
       unfolding spot_after
       going_turn s' b' e k q =
-          let v : s'.val ≡ s.val + padded t (record_at slot s.at).vlen = ap (λ (x : Spot). x.val) e in
+          let v : s'.val ≡ s.val + padded t (parts_at slot s.at).vlen = ap (λ (x : Spot). x.val) e in
           rw e (going_next b' k (q ∙ ap (λ (x : ℕ). put_entry t keys vals s.toc s.key x (numbered (child_number heads by) (entry_of l)) b) v))
 
     none : n ≤ i → n - i ≡ 0
@@ -491,3 +431,13 @@ head_law b l l₁ l₂ l₃ f n c k e h q₁ qf q₂ q₃ =
     let q₂' : l₂ ≡ splice l₁ 32 y = q₂ ∙ ap (λ (g : ℕ). splice l₁ 32 (node_bytes g b.level n c k e)) qf in
     let r : l₂ ≡ splice l 8 (x ++ y) = splice_run l l₁ l₂ 8 x 32 y refl (omega arith) q₁ q₂' in
     splice_run l l₂ l₃ 8 (x ++ y) 48 no_lists refl h r q₃
+
+-- ---- what the code takes of these
+
+pub ruleset slot_laws = (slot_off, slot_loc)
+
+pub ruleset value_laws = (value_leaf, value_ghost, value_disk, value_mem, child_read, child_room)
+
+pub ruleset sums = (padded_least, record_sum)
+
+pub ruleset going_laws = (going_start, going_done, going_key, going_val)

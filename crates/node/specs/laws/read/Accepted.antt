@@ -7,7 +7,7 @@ use Rattle.std.proofs.lemmas.Bool.{eqb-false}
 use Rattle.seal.specs.Bytes.{window, splice, u64_at}
 use Rattle.seal.specs.Checksum.{verified}
 use Rattle.node.specs.laws.base.Tests.{by_test, and_left, and_right}
-use Rattle.node.specs.laws.base.Bytes.{Bytes, field_below}
+use Rattle.node.specs.laws.base.Bytes.{Bytes, bytes_known, field_below}
 use Rattle.node.specs.Result.{ok}
 use Rattle.node.specs.Fit.{data_space}
 use Rattle.node.specs.Entry.{Entry, disk}
@@ -19,12 +19,13 @@ use Rattle.node.specs.Read.{keys_hold, parsed, is_ghost, span_at, span_holds, sp
 use Rattle.node.specs.internal.ReadSteps.{Sound}
 use Rattle.node.specs.laws.read.Read.{few, held_no_ghost, key_counts, leaf_counts, value_counts}
 use Rattle.node.specs.laws.read.Keys.{sound_span, disk_of}
+use Rattle.node.specs.laws.read.Adopt.{adopt_none, adopt_none_long, adopt_start, adopt_room, at_next, long_next, adopt_turn, adopt_done, adopt_done_long}
 use Rattle.node.specs.laws.read.LoadLine.{layout_laid, layout_level, entries_space, entries_filled, entries_sound, is_kind, is_level}
 use Rattle.node.specs.laws.read.Loaded.{read_passed, entries_length, entries_every}
 use Rattle.node.specs.declared.read.Node.{Node}
 use Rattle.node.specs.declared.read.Span.{Span}
 use Rattle.node.specs.declared.read.Place.{Place}
-use Rattle.node.specs.declared.read.Read.TheVariants.{Loaded}
+use Rattle.std.specs.Prelude.{Ok}
 
 -- a node that was read: what the checks 3 to 9 leave
 pub record Accepted (o : ℕ) (p : Place) (lower upper b : List ℕ) (v : Node) : Type 0 where
@@ -74,7 +75,7 @@ module _ (o : ℕ) (p : Place) (lower upper b : List ℕ) (small : length b ≤ 
       }
 
   -- the same of the reader's answer
-  pub loaded_accepts : (v : Node) → read_of b (Loaded v) ≡ read_node o p lower upper b → Accepted o p lower upper b v
+  pub loaded_accepts : (v : Node) → read_of b (Ok v) ≡ read_node o p lower upper b → Accepted o p lower upper b v
   unfolding read_of on_disk
   loaded_accepts v e =
       let s : v ≡ parsed p b = sym (ap (λ (x : OnDisk). x.node) (read_is (on_disk v b) (sym e))) in
@@ -180,6 +181,10 @@ module _ (o : ℕ) (p : Place) (lower upper b : List ℕ) (v : Node) (bb : Bytes
 
 -- ---- what `adopt` leaves in a slot: the node's entries
 
+-- they take at most twice the block
+pub adopted_most : (v : Node) (b : List ℕ) → Sound v b → 4 * v.nkeys + spans_length v b 0 v.nkeys ≤ 2 * length b
+adopted_most v b h = omega (arith, h.sum, few v (length b) h.laid, h.laid.small)
+
 module _ (v : Node) (b l s : List ℕ) (bb : Bytes b) (h : Sound v b) (e : s ≡ splice l 0 (records_of (entries_from v b 0 v.nkeys))) where
   abbrev es : List Entry
   es = entries_from v b 0 v.nkeys
@@ -201,8 +206,19 @@ module _ (v : Node) (b l s : List ℕ) (bb : Bytes b) (h : Sound v b) (e : s ≡
       ap (records_length v.nkeys) e ∙ ap (λ (n : ℕ). records_length n (records_of es ++ t)) (sym (entries_length v b 0 v.nkeys))
       ∙ records_back es t sound_storable ∙ sym q
 
-  pub adopted_most : (r i : ℕ) → r ≡ 4 * i + spans_length v b 0 i → i ≤ v.nkeys → v.nkeys ≤ i → r ≤ 2 * length b
-  adopted_most r i q a c =
-      let n : i ≡ v.nkeys = omega arith in
-      let z : spans_length v b 0 i ≡ spans_length v b 0 v.nkeys = ap (spans_length v b 0) n in
-      omega (arith, h.sum, few v (length b) h.laid, h.laid.small)
+-- what copying takes of these, and of the steps
+
+pub ruleset copied = (
+  few,
+  adopt_none,
+  adopt_none_long,
+  adopt_start,
+  adopt_room,
+  at_next,
+  long_next,
+  adopt_turn,
+  adopt_done,
+  adopt_done_long,
+  bytes_known,
+  adopted_entries,
+)

@@ -1,124 +1,85 @@
 -- Laws of copying a node's entries into a slot's records. Assumes nothing.
-use Rattle.std.specs.Prelude.{◌≡◌, List, ◌++◌, false, cond, ℕ, zero, suc, ◌+◌, ◌-◌, ◌*◌, ◌≤◌, ◌<◌, take, drop}
+use Rattle.std.specs.Prelude.{◌≡◌, List, [], ◌++◌, false, cond, ℕ, zero, suc, ◌+◌, ◌-◌, ◌*◌, ◌≤◌, ◌<◌, take, drop}
 use Rattle.std.proofs.Math.Path.{refl, sym, ap}
 use Rattle.std.proofs.Common.{ap₂, ◌∙◌, append_assoc, append-nil, add-zero, zero-add, add_assoc, suc-add, add-one, length-append}
 use Rattle.std.proofs.Math.Bool.{true}
 use native.Mathlib.Omega.{arith}
 use Rattle.std.proofs.Math.ListN.{length}
-use borrow.Author.Tests.{eq-eqb, ne_eqb, eqb-true, eqb-false}
-use Rattle.seal.specs.Bytes.{window, splice, bytes_of, u64_at}
-use Rattle.seal.specs.laws.WindowLaws.{length_window, splice_none, splice_run}
+use borrow.Author.Tests.{eq-eqb, ne_eqb, eqb-false}
+use Rattle.seal.specs.Bytes.{window, splice}
+use Rattle.seal.specs.laws.WindowLaws.{splice_none, splice_run}
 use Rattle.seal.specs.laws.FieldLaws.{length_bytes_of}
-use Rattle.node.specs.Entry.{Val, ghost, leaf, disk, value_bytes}
-use Rattle.node.specs.Records.{mark_of, record_of, records_of}
-use Rattle.node.specs.laws.slot.Records.{length_value_bytes, length_head_key}
+use Rattle.node.specs.Entry.{value_bytes}
+use Rattle.node.specs.Records.{mark_of, record_bytes, record_of, records_of}
+use Rattle.node.specs.laws.base.Tests.{by_test}
+use Rattle.node.specs.laws.base.Bytes.{Bytes, bytes_known}
+use Rattle.node.specs.laws.base.Splice.{field_bytes}
+use Rattle.node.specs.laws.slot.Records.{length_value_bytes}
 use Rattle.node.specs.Read.{span_at, is_ghost, span_holds, span_length, spans_length, value_at, entry_at, entries_from}
 use Rattle.node.specs.internal.ReadSteps.{Sound}
-use Rattle.node.specs.laws.read.Read.{held_start, held_end, held_eight, ghost_length, value_length_lem, key_counts, leaf_counts, value_counts, few, part_window}
-use Rattle.node.specs.laws.read.Keys.{sound_span, key_of, value_of_lem}
+use Rattle.node.specs.laws.read.Read.{held_start, held_end, held_no_ghost, held_eight, key_counts, leaf_counts, value_counts, few, part_window}
+use Rattle.node.specs.laws.read.Keys.{sound_span, sound_key}
 use Rattle.node.specs.declared.read.Node.{Node}
 use Rattle.node.specs.declared.read.Span.{Span}
 
--- a part by its start and its end
-pub part_long : (l : List ℕ) (a n : ℕ) → a + n ≤ length l → length (take (a + n - a) (drop a l)) ≡ n
-part_long l a n h = ap length (part_window l a n) ∙ length_window a n l h
+-- ---- one record, of an entry that lies in its block
 
--- ---- one record
+module _ (v : Node) (b : List ℕ) (s : Span) (h : span_holds v (length b) s ≡ true) where
+  pub leaf_mark : v.level ≡ 0 → cond (is_ghost s) 0xFFFF s.vlen ≡ mark_of (value_at v b s)
+  unfolding value_at mark_of
+  leaf_mark z = by_test (is_ghost s) (λ g. rw g) (λ g. rw (g, eq-eqb v.level 0 z) (sym (leaf_counts v b s h g)))
 
-module _ (v : Node) (b : List ℕ) (i : ℕ) (s : Span) (e : s ≡ span_at v b i) (h : Sound v b) (lt : i < v.nkeys) where
-  span_held : span_holds v (length b) s ≡ true
-  span_held = sound_span v b i s h lt e
-
-  length_of : span_length s ≡ span_length (span_at v b i)
-  length_of = ap span_length e
-
-  -- the record's parts: with a key k that is the entry's
-  module _ (k : List ℕ) (ek : k ≡ window s.key s.klen b) where
-    key_is : k ≡ (entry_at v b i).key
-    key_is = ek ∙ key_of v b i s e
-
-    pub key_long : length k ≡ s.klen
-    key_long = ap length ek ∙ key_counts v b s span_held
-
-    record_is : (x : Val) → x ≡ (entry_at v b i).value → bytes_of 2 (length k) ++ bytes_of 2 (mark_of x) ++ k
-        ++ value_bytes x ≡ record_of (entry_at v b i)
-    unfolding record_of
-    record_is x ex = rw (key_is, ex)
-
-    pub ghost_record : (l l₁ : List ℕ) (at : ℕ) → is_ghost s ≡ true → l₁ ≡ splice l at (bytes_of 2 (length k) ++ bytes_of 2 0xFFFF ++ k)
-        → l₁ ≡ splice l at (record_of (entry_at v b i))
-    unfolding value_at mark_of value_bytes
-    ghost_record l l₁ at g p =
-        let x : ghost ≡ (entry_at v b i).value = sym (sym (value_of_lem v b i s e) ∙ rw g) in
-        p ∙ ap (splice l at) (sym (append-nil _) ∙ record_is ghost x)
-
-    pub leaf_record : (l l₁ l₂ w : List ℕ) (at : ℕ) → is_ghost s ≡ false → v.level ≡ 0 → at + (4 + span_length (span_at v b i)) ≤ length l
-        → l₁ ≡ splice l at (bytes_of 2 (length k) ++ bytes_of 2 s.vlen ++ k) → w ≡ window (v.vals - s.voff) s.vlen b
-        → l₂ ≡ splice l₁ (at + 4 + s.klen) w
-        → l₂ ≡ splice l at (record_of (entry_at v b i))
-    unfolding value_at mark_of value_bytes is_ghost
-    leaf_record l l₁ l₂ w at g z room p ew q =
-        let ng : s.voff ≡ 65535 → ⊥ = eqb-false s.voff 65535 g in
-        let lw : length w ≡ s.vlen = ap length ew ∙ leaf_counts v b s span_held g in
-        let x : leaf w ≡ (entry_at v b i).value = ap leaf ew ∙ sym (sym (value_of_lem v b i s e) ∙ rw (g, eq-eqb v.level 0 z)) in
-        let hl : length (bytes_of 2 (length k) ++ bytes_of 2 s.vlen ++ k) ≡ 4 + length k = length_head_key k s.vlen in
-        let sl : s.klen + s.vlen ≡ span_length (span_at v b i) = value_length_lem s ng ∙ length_of in
-        let kl = key_long in
-        let p' : l₁ ≡ splice l at (bytes_of 2 (length k) ++ bytes_of 2 (length w) ++ k) = p
-        ∙ ap (λ (n : ℕ). splice l at (bytes_of 2 (length k) ++ bytes_of 2 n ++ k)) (sym lw) in
-        let hl' : length (bytes_of 2 (length k) ++ bytes_of 2 (length w) ++ k) ≡ 4 + length k = length_head_key k (length w) in
-        splice_run l l₁ l₂ at (bytes_of 2 (length k) ++ bytes_of 2 (length w) ++ k) (at + 4 + s.klen) w (omega arith) (omega arith) p' q
-        ∙ ap (splice l at) (record_is (leaf w) x)
-
-    pub child_record : (l l₁ l₂ : List ℕ) (at r : ℕ) → is_ghost s ≡ false → (v.level ≡ 0 → ⊥) → at + (4 + span_length (span_at v b i)) ≤ length l
-        → l₁ ≡ splice l at (bytes_of 2 (length k) ++ bytes_of 2 0xFFFE ++ k) → r ≡ u64_at b (v.vals - s.voff) → l₂ ≡ splice l₁ (at + 4 + s.klen)
-        (bytes_of 8 r)
-        → l₂ ≡ splice l at (record_of (entry_at v b i))
-    unfolding value_at mark_of value_bytes is_ghost
-    child_record l l₁ l₂ at r g z room p er q =
-        let ng : s.voff ≡ 65535 → ⊥ = eqb-false s.voff 65535 g in
-        let lw : length (bytes_of 8 r) ≡ 8 = length_bytes_of 8 r in
-        let x : disk r ≡ (entry_at v b i).value = ap disk er ∙ sym (sym (value_of_lem v b i s e) ∙ rw (g, ne_eqb v.level 0 z)) in
-        let hl : length (bytes_of 2 (length k) ++ bytes_of 2 0xFFFE ++ k) ≡ 4 + length k = length_head_key k 0xFFFE in
-        let sl : s.klen + s.vlen ≡ span_length (span_at v b i) = value_length_lem s ng ∙ length_of in
-        let e8 : s.vlen ≡ 8 = held_eight v (length b) s span_held z in
-        let kl = key_long in
-        splice_run l l₁ l₂ at (bytes_of 2 (length k) ++ bytes_of 2 0xFFFE ++ k) (at + 4 + s.klen) (bytes_of 8 r) (omega arith) (omega arith) p q
-        ∙ ap (splice l at) (record_is (disk r) x)
-
-  -- where the next record starts
-  pub ghost_next : (at : ℕ) → is_ghost s ≡ true → at + 4 + s.klen ≡ at + (4 + span_length (span_at v b i))
+  child_is : (v.level ≡ 0 → ⊥) → is_ghost s ≡ false
   unfolding is_ghost
-  ghost_next at g = let sl : s.klen ≡ span_length (span_at v b i) = ghost_length s (eqb-true s.voff 65535 g) ∙ length_of in omega arith
+  child_is n = ne_eqb s.voff 65535 (held_no_ghost v (length b) s h n)
 
-  pub leaf_next : (at : ℕ) → is_ghost s ≡ false → at + 4 + s.klen + s.vlen ≡ at + (4 + span_length (span_at v b i))
+  pub child_mark : (v.level ≡ 0 → ⊥) → 0xFFFE ≡ mark_of (value_at v b s)
+  unfolding value_at mark_of
+  child_mark n = rw (child_is n, ne_eqb v.level 0 n)
+
+  -- a child's number lies in the block
+  pub child_held : (v.level ≡ 0 → ⊥) → (s.voff ≤ v.vals) × (v.vals - s.voff + 8 ≤ length b)
+  child_held n =
+      let g : s.voff ≡ 65535 → ⊥ = held_no_ghost v (length b) s h n in
+      (held_start v (length b) s h g, omega (arith, held_end v (length b) s h g, held_eight v (length b) s h n))
+
+  -- parts are as slices have them, by their start and their end
+  pub child_part : Bytes b → (v.level ≡ 0 → ⊥)
+      → take (v.vals - s.voff + 8 - (v.vals - s.voff)) (drop (v.vals - s.voff) b) ≡ value_bytes (value_at v b s)
+  unfolding value_at value_bytes
+  child_part bb n =
+      part_window b (v.vals - s.voff) 8
+      ∙ rw (child_is n, ne_eqb v.level 0 n) (sym (field_bytes 8 (v.vals - s.voff) b (child_held n).1 bb))
+
+  -- the bytes of a value as a record stores it
+  pub value_long : length (value_bytes (value_at v b s)) ≡ cond (is_ghost s) 0 s.vlen
+  value_long = length_value_bytes (value_at v b s) ∙ value_counts v b s h
+
+  pub leaf_held : is_ghost s ≡ false → (s.voff ≤ v.vals) × (v.vals - s.voff + s.vlen ≤ length b)
   unfolding is_ghost
-  leaf_next at g = let sl : s.klen + s.vlen ≡ span_length (span_at v b i) = value_length_lem s (eqb-false s.voff 65535 g) ∙ length_of in omega arith
+  leaf_held g = let n = eqb-false s.voff 65535 g in (held_start v (length b) s h n, held_end v (length b) s h n)
 
-  pub child_next : (at : ℕ) → is_ghost s ≡ false → (v.level ≡ 0 → ⊥) → at + 4 + s.klen + 8 ≡ at + (4 + span_length (span_at v b i))
-  unfolding is_ghost
-  child_next at g z =
-      let sl : s.klen + s.vlen ≡ span_length (span_at v b i) = value_length_lem s (eqb-false s.voff 65535 g) ∙ length_of in
-      let e8 : s.vlen ≡ 8 = held_eight v (length b) s span_held z in
-      omega arith
+  pub leaf_part : v.level ≡ 0 → is_ghost s ≡ false
+      → take (v.vals - s.voff + s.vlen - (v.vals - s.voff)) (drop (v.vals - s.voff) b) ≡ value_bytes (value_at v b s)
+  unfolding value_at value_bytes
+  leaf_part z g = part_window b (v.vals - s.voff) s.vlen ∙ rw (g, eq-eqb v.level 0 z)
 
-  -- bounds
-  pub next_room : (at n : ℕ) → at + (4 + span_length (span_at v b i)) ≤ n → at + 4 + s.klen ≤ n
-  unfolding span_length
-  next_room at n r = let x = length_of in omega arith
+pub ghost_part : (v : Node) (b : List ℕ) (s : Span) → is_ghost s ≡ true → [] ≡ value_bytes (value_at v b s)
+unfolding value_at value_bytes
+ghost_part v b s g = rw g
 
-  pub leaf_start : is_ghost s ≡ false → s.voff ≤ v.vals
-  unfolding is_ghost
-  leaf_start g = held_start v (length b) s span_held (eqb-false s.voff 65535 g)
+pub record_is : (v : Node) (b : List ℕ) (i : ℕ) (s : Span) (k w : List ℕ) (m : ℕ) → s ≡ span_at v b i → k ≡ window s.key s.klen b
+    → m ≡ mark_of (value_at v b s) → w ≡ value_bytes (value_at v b s) → record_bytes k m w ≡ record_of (entry_at v b i)
+unfolding record_bytes record_of entry_at
+record_is v b i s k w m e ek em ew = rw (ek, em, ew, e)
 
-  pub leaf_end : is_ghost s ≡ false → v.vals - s.voff + s.vlen ≤ length b
-  unfolding is_ghost
-  leaf_end g = held_end v (length b) s span_held (eqb-false s.voff 65535 g)
-
-  -- room for the value after the key
-  pub leaf_room : (at m n : ℕ) → is_ghost s ≡ false → at + (4 + span_length (span_at v b i)) ≤ m → n ≡ m
-      → at + 4 + s.klen + length (take (v.vals - s.voff + s.vlen - (v.vals - s.voff)) (drop (v.vals - s.voff) b)) ≤ n
-  leaf_room at m n g r e = omega (arith, part_long b (v.vals - s.voff) s.vlen (leaf_end g), leaf_next at g)
+-- what its key and its value take
+pub parts_long : (v : Node) (b : List ℕ) (i : ℕ) (s : Span) (k w : List ℕ) → Sound v b → i < v.nkeys → s ≡ span_at v b i
+    → k ≡ window s.key s.klen b → w ≡ value_bytes (value_at v b s) → length k + length w ≡ span_length (span_at v b i)
+unfolding span_length
+parts_long v b i s k w h lt e ek ew =
+    let held : span_holds v (length b) s ≡ true = sound_span v b i s h lt e in
+    ap₂ (λ (x y : ℕ). x + y) (ap length ek ∙ key_counts v b s held) (ap length ew ∙ value_long v b s held) ∙ ap span_length e
 
 -- ---- several records
 
@@ -152,11 +113,6 @@ records_snoc v b j (suc i) =
     ap (λ (q : List ℕ). record_of (entry_at v b j) ++ q)
     (records_snoc v b (suc j) i ∙ ap (λ (q : ℕ). records_of (entries_from v b (suc j) i) ++ record_of (entry_at v b q)) e)
     ∙ sym (append_assoc (record_of (entry_at v b j)) (records_of (entries_from v b (suc j) i)) (record_of (entry_at v b (j + suc i))))
-
--- the bytes of a value as a record stores it
-value_long : (v : Node) (b : List ℕ) (s : Span) → span_holds v (length b) s ≡ true
-    → length (value_bytes (value_at v b s)) ≡ cond (is_ghost s) 0 s.vlen
-value_long v b s h = length_value_bytes (value_at v b s) ∙ value_counts v b s h
 
 module _ (v : Node) (b : List ℕ) (h : Sound v b) (i : ℕ) (lt : i < v.nkeys) where
   pub record_long : length (record_of (entry_at v b i)) ≡ 4 + span_length (span_at v b i)
@@ -214,3 +170,11 @@ adopt_done v b l s i n h k e = let q : i ≡ n = omega arith in e ∙ ap (λ (x 
 pub adopt_done_long : (v : Node) (b : List ℕ) (i n at : ℕ) → i ≤ n → n ≤ i → length (records_of (entries_from v b 0 i)) ≡ at
     → at ≡ length (records_of (entries_from v b 0 n))
 adopt_done_long v b i n at h k e = let q : i ≡ n = omega arith in sym e ∙ ap (λ (x : ℕ). length (records_of (entries_from v b 0 x))) q
+
+-- ---- what the code takes of these
+
+pub ruleset leaf_bytes = (leaf_held, leaf_part, ghost_part)
+
+pub ruleset child_bytes = (child_held, child_part, bytes_known)
+
+pub ruleset one_record = (sound_span, sound_key, record_is, leaf_mark, child_mark, parts_long)

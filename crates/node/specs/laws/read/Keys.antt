@@ -5,11 +5,10 @@ use Rattle.std.proofs.Common.{◌∙◌, add-zero, zero-add, not-suc-le-zero, le
 use mathlib.Core.List.{List, [], ◌∷◌}
 use Rattle.std.proofs.Math.Bool.{true, false}
 use Prim.Native.Nat.{ℕ, zero, suc, ◌+◌, ◌-◌, ◌≤◌, ◌<◌}
-use Rattle.std.proofs.Math.Nat.{sub-zero}
 use Rattle.std.proofs.Math.Numerals.{add-one}
 use native.Mathlib.Omega.{arith}
 use Rattle.std.proofs.Math.ListN.{length}
-use borrow.Author.Tests.{not-true, not-false, eq-eqb, ne_eqb}
+use borrow.Author.Tests.{not-true, not-false, eq-eqb, ne_eqb, eqb-false}
 use Rattle.seal.specs.Bytes.{window, u64_at}
 use Rattle.node.specs.laws.base.Tests.{and_left, and_right, and-true, and-false}
 use Rattle.node.specs.laws.base.Bytes.{Bytes, bytes_window}
@@ -146,20 +145,6 @@ rise_done w o v b n i e h =
 
 -- ---- 9: keys within the bounds
 
-pub bounds_above : (o : ℕ) (p : Place) (lower upper k : List ℕ) (r : Bool) → r ≡ (p.root || not (less o k lower)) → not r ≡ true
-    → false ≡ in_bounds o p lower upper k
-unfolding in_bounds
-bounds_above o p lower upper k r e n =
-    let f : (p.root || not (less o k lower)) ≡ false = sym e ∙ not-true r n in
-    rw f
-
-pub bounds_below : (o : ℕ) (p : Place) (lower upper k : List ℕ) (r q : Bool) → r ≡ (p.root || not (less o k lower)) → not r ≡ false
-    → q ≡ (not p.bounded || less o k upper) → q ≡ in_bounds o p lower upper k
-unfolding in_bounds
-bounds_below o p lower upper k r q e n eq =
-    let f : (p.root || not (less o k lower)) ≡ true = sym e ∙ not-false r n in
-    eq ∙ sym (rw f)
-
 module _ (o : ℕ) (p : Place) (lower upper : List ℕ) (v : Node) (b : List ℕ) where
   abbrev all : ℕ → ℕ → Bool
   all i m = keys_within o p lower upper (entries_from v b i m)
@@ -193,9 +178,6 @@ module _ (o : ℕ) (p : Place) (lower upper : List ℕ) (v : Node) (b : List ℕ
   pub within_none : v.nkeys ≡ 0 → true ≡ all 0 v.nkeys
   unfolding keys_within entries_from every
   within_none e = rw e
-
-  pub within_whole : (r : Bool) → r ≡ all 0 (v.nkeys - 0) → r ≡ all 0 v.nkeys
-  within_whole r e = e ∙ rw sub-zero
 
   pub within_first : (r : Bool) → (v.nkeys ≡ 0 → ⊥) → r ≡ all 0 (1 - 0) → not r ≡ true → false ≡ all 0 v.nkeys
   unfolding keys_within entries_from every
@@ -273,13 +255,13 @@ module _ (o : ℕ) (p : Place) (lower upper : List ℕ) (v : Node) (b : List ℕ
         (above_all u ∙ a) (omega arith) in
         ap (λ (q : Bool). q && is_below (entry_at v b n).key) (z ∙ sym a) ∙ sym (ends_all u t)
 
-  pub within_ends : (u t r q : Bool) → (v.nkeys ≡ 0 → ⊥) → keys_rise o (entries_from v b 0 v.nkeys) ≡ true
-      → u ≡ (p.root || keyed o lower) → not u ≡ false → t ≡ (not p.bounded || keyed o upper) → not t ≡ false
+  pub within_ends : (u r q : Bool) → (v.nkeys ≡ 0 → ⊥) → keys_rise o (entries_from v b 0 v.nkeys) ≡ true
+      → u ≡ ((p.root || keyed o lower) && (not p.bounded || keyed o upper)) → u ≡ true
       → r ≡ keys_within o p lower upper (entries_from v b 0 (1 - 0)) → not r ≡ false
       → q ≡ keys_within o p lower upper (entries_from v b (v.nkeys - 1) (v.nkeys - (v.nkeys - 1))) → q ≡ keys_within o p lower upper
       (entries_from v b 0 v.nkeys)
   unfolding keys_within entries_from every
-  within_ends u t r q some h eu nu et nt er nr eq =
+  within_ends u r q some h eu nu er nr eq =
       let n : ℕ = v.nkeys - 1 in
       let m : v.nkeys ≡ suc n = omega arith in
       let k : v.nkeys - (v.nkeys - 1) ≡ 1 = omega arith in
@@ -287,7 +269,8 @@ module _ (o : ℕ) (p : Place) (lower upper : List ℕ) (v : Node) (b : List ℕ
       ∙ not-false r nr in
       let h' : keys_rise o (entries_from v b 0 (suc n)) ≡ true = ap (λ (x : ℕ). keys_rise o (entries_from v b 0 x)) (sym m) ∙ h in
       eq ∙ ap (λ (x : ℕ). keys_within o p lower upper (entries_from v b n x)) k ∙ and-true (in_bounds o p lower upper (entry_at v b n).key)
-      ∙ ends n h' (sym eu ∙ not-false u nu) (sym et ∙ not-false t nt) first
+      ∙ ends n h' (and_left (p.root || keyed o lower) (not p.bounded || keyed o upper) (sym eu ∙ nu))
+      (and_right (p.root || keyed o lower) (not p.bounded || keyed o upper) (sym eu ∙ nu)) first
       ∙ ap (λ (x : ℕ). keys_within o p lower upper (entries_from v b 0 x)) (sym m)
 
 -- ---- a value in place
@@ -297,26 +280,27 @@ module _ (v : Node) (b : List ℕ) (i : ℕ) (s : Span) (e : s ≡ span_at v b i
   unfolding entry_at
   value_of_lem = ap (value_at v b) e
 
-  pub place_ghost : s.voff ≡ 65535 → value_means b Ghost ≡ (entry_at v b i).value
-  unfolding value_means child_means value_at is_ghost
-  place_ghost h = sym (sym value_of_lem ∙ rw (eq-eqb s.voff 65535 h))
+  pub place_ghost : is_ghost s ≡ true → value_means b Ghost ≡ (entry_at v b i).value
+  unfolding value_means child_means value_at
+  place_ghost g = sym (sym value_of_lem ∙ rw g)
 
-  pub place_leaf : (s.voff ≡ 65535 → ⊥) → v.level ≡ 0 → value_means b (Leaf (v.vals - s.voff) s.vlen) ≡ (entry_at v b i).value
-  unfolding value_means child_means value_at is_ghost
-  place_leaf n h = sym (sym value_of_lem ∙ rw (ne_eqb s.voff 65535 n, eq-eqb v.level 0 h))
+  pub place_leaf : is_ghost s ≡ false → v.level ≡ 0 → value_means b (Leaf (v.vals - s.voff) s.vlen) ≡ (entry_at v b i).value
+  unfolding value_means child_means value_at
+  place_leaf g h = sym (sym value_of_lem ∙ rw (g, eq-eqb v.level 0 h))
 
   pub disk_of : (r : ℕ) → (s.voff ≡ 65535 → ⊥) → (v.level ≡ 0 → ⊥) → r ≡ u64_at b (v.vals - s.voff) → (entry_at v b i).value ≡ disk r
   unfolding value_at is_ghost
   disk_of r n h er = sym value_of_lem ∙ rw (ne_eqb s.voff 65535 n, ne_eqb v.level 0 h, er)
 
-  pub place_child : (r : ℕ) → (s.voff ≡ 65535 → ⊥) → (v.level ≡ 0 → ⊥) → r ≡ u64_at b (v.vals - s.voff)
+  pub place_child : (r : ℕ) → is_ghost s ≡ false → (v.level ≡ 0 → ⊥) → r ≡ u64_at b (v.vals - s.voff)
       → value_means b (Child (Disk r)) ≡ (entry_at v b i).value
-  unfolding value_means child_means
-  place_child r n h er = sym (disk_of r n h er)
+  unfolding value_means child_means value_at
+  place_child r g h er = sym (sym value_of_lem ∙ rw (g, ne_eqb v.level 0 h, er))
 
   module _ (h : Sound v b) (lt : i < v.nkeys) where
-    pub value_start : (s.voff ≡ 65535 → ⊥) → s.voff ≤ v.vals
-    value_start n = held_start v (length b) s (sound_span v b i s h lt e) n
+    pub value_start : is_ghost s ≡ false → s.voff ≤ v.vals
+    unfolding is_ghost
+    value_start g = held_start v (length b) s (sound_span v b i s h lt e) (eqb-false s.voff 65535 g)
 
     pub child_room : (v.level ≡ 0 → ⊥) → v.vals - s.voff + 8 ≤ length b
     child_room n =
@@ -324,7 +308,21 @@ module _ (v : Node) (b : List ℕ) (i : ℕ) (s : Span) (e : s ≡ span_at v b i
         omega (arith, held_end v (length b) s k (held_no_ghost v (length b) s k n), held_eight v (length b) s k n)
 
     pub child_start : (v.level ≡ 0 → ⊥) → s.voff ≤ v.vals
-    child_start n = value_start (held_no_ghost v (length b) s (sound_span v b i s h lt e) n)
+    child_start n =
+        let k : span_holds v (length b) s ≡ true = sound_span v b i s h lt e in
+        held_start v (length b) s k (held_no_ghost v (length b) s k n)
 
     pub child_there : (v.level ≡ 0 → ⊥) → s.voff ≡ 65535 → ⊥
     child_there n = held_no_ghost v (length b) s (sound_span v b i s h lt e) n
+
+-- ---- what the code takes of these
+
+pub ruleset rise = (sound_key, keys_none, rise_none, rise_start, rise_unkeyed, rise_falls, rise_turn, rise_done)
+
+pub ruleset bound = (sound_key, within_fails, within_turn, within_done)
+
+pub ruleset bounds = (within_none, within_first, within_ends)
+
+pub ruleset value = (place_ghost, place_leaf, place_child, value_start, child_room)
+
+pub ruleset child = (disk_of, child_room, child_start, child_there)

@@ -3,20 +3,19 @@ use Rattle.std.specs.Prelude.{◌≡◌, List, Bool, ◌&&◌, ◌||◌, length,
 use Rattle.std.proofs.Math.Path.{sym, ap}
 use Rattle.std.proofs.Common.{◌∙◌, add-zero, zero-add}
 use Rattle.std.proofs.Math.Bool.{true, false, cond, not}
-use Prim.Native.Nat.{ℕ, suc, ◌+◌, ◌-◌, ◌*◌, ◌/◌, ◌%◌, ◌≤◌, ◌<◌, ◌^◌}
+use Prim.Native.Nat.{ℕ, suc, ◌+◌, ◌-◌, ◌*◌, ◌≤◌, ◌<◌}
 use Rattle.std.proofs.Math.Nat.{sub-zero}
 use Rattle.std.proofs.Math.Numerals.{add-one}
 use native.Mathlib.Omega.{arith}
 use Rattle.std.proofs.Math.Dec.{leb, eqb}
-use borrow.Author.Tests.{le-leb, lt-leb, eq-eqb, ne_eqb, leb-true, eqb-true, eqb-false, not-true, not-false}
-use Rattle.seal.specs.Bytes.{window, u16_at, u32_at, u64_at}
+use borrow.Author.Tests.{le-leb, lt-leb, ne_eqb, leb-true, eqb-true, eqb-false, not-true, not-false}
+use Rattle.seal.specs.Bytes.{window}
 use Rattle.seal.specs.laws.WindowLaws.{length_window}
-use Rattle.node.specs.laws.base.Tests.{by_test, and_left, and_right, and-true, and-false, or-false, or_right}
+use Rattle.node.specs.laws.base.Tests.{by_test, and_left, and_right, and-true, and-false, or_right}
 use Rattle.node.specs.Entry.{value_length}
-use Rattle.node.specs.Fit.{flag, data_space}
-use Rattle.node.specs.Read.{info_at, parsed, same_bool, is_fixed, flags_hold, layout_holds, span_at, is_ghost, span_holds, span_length, spans_hold, spans_length, entries_hold, value_at}
+use Rattle.node.specs.Fit.{data_space}
+use Rattle.node.specs.Read.{is_fixed, span_at, is_ghost, span_holds, span_length, spans_hold, spans_length, entries_hold, value_at}
 use Rattle.node.specs.internal.ReadSteps.{Laid}
-use Rattle.node.specs.declared.info.BTreeInfo.{BTreeInfo}
 use Rattle.node.specs.declared.read.Node.{Node}
 use Rattle.node.specs.declared.read.Span.{Span}
 use Rattle.node.specs.declared.read.Place.{Place}
@@ -27,127 +26,7 @@ pub is_fixed_true : (v : Node) → (v.ksize ≡ 0 → ⊥) → is_fixed v ≡ tr
 unfolding is_fixed
 is_fixed_true v h = rw (ne_eqb v.ksize 0 h)
 
-pub is_fixed_false : (v : Node) → v.ksize ≡ 0 → is_fixed v ≡ false
-unfolding is_fixed
-is_fixed_false v h = rw (eq-eqb v.ksize 0 h)
-
--- ---- header
-
-pub info_parts : (b : List ℕ) (f n k v lk lv kc nc : ℕ)
-    → f ≡ u32_at b (length b - 40) → n ≡ u32_at b (length b - 40 + 4) → k ≡ u32_at b (length b - 40 + 8) → v ≡ u32_at b (length b - 40 + 12)
-    → lk ≡ u32_at b (length b - 40 + 16) → lv ≡ u32_at b (length b - 40 + 20) → kc ≡ u64_at b (length b - 40 + 24)
-    → nc ≡ u64_at b (length b - 40 + 32)
-    → ◌≡◌ {A = BTreeInfo} (record {
-      flags = f;
-      node_size = n;
-      key_size = k;
-      val_size = v;
-      longest_key = lk;
-      longest_val = lv;
-      key_count = kc;
-      node_count = nc;
-    }) (info_at b)
-unfolding info_at
-info_parts b f n k v lk lv kc nc e1 e2 e3 e4 e5 e6 e7 e8 = rw (e1, e2, e3, e4, e5, e6, e7, e8)
-
-pub tail_room : (f : Bool) (t size : ℕ) → t ≡ cond f 40 0 → 512 ≤ size → t ≤ size
-tail_room true t size e h = omega arith
-tail_room false t size e h = omega arith
-
-pub tail_room_56 : (f : Bool) (t size : ℕ) → t ≡ cond f 40 0 → 512 ≤ size → t ≤ size - 56
-tail_room_56 true t size e h = omega arith
-tail_room_56 false t size e h = omega arith
-
-pub node_parts : (p : Place) (b : List ℕ) (i : BTreeInfo) (oid xid otype subtype flags level nkeys off len tail ksize vsize : ℕ)
-    → i ≡ info_at b → oid ≡ u64_at b 8 → xid ≡ u64_at b 16 → otype ≡ u32_at b 24 → subtype ≡ u32_at b 28
-    → flags ≡ u16_at b 32 → level ≡ u16_at b 34 → nkeys ≡ u32_at b 36 → off ≡ u16_at b 40 → len ≡ u16_at b 42 → tail ≡ cond p.root 40 0
-    → ksize ≡ cond p.root i.key_size p.ksize → vsize ≡ cond p.root i.val_size p.vsize
-    → ◌≡◌ {A = Node} (record {
-      oid = oid;
-      xid = xid;
-      otype = otype;
-      subtype = subtype;
-      flags = flags;
-      level = level;
-      nkeys = nkeys;
-      toc = 56 + off;
-      keys = 56 + off + len;
-      vals = length b - tail;
-      ksize = ksize;
-      vsize = vsize;
-    }) (parsed p b)
-unfolding parsed
-node_parts p b i oid xid otype subtype flags level nkeys off len tail ksize vsize ei e1 e2 e3 e4 e5 e6 e7 e8 e9 et ek ev =
-    rw (ek, ev, ei, e1, e2, e3, e4, e5, e6, e7, e8, e9, et)
-
--- ---- 6
-
-module _ (p : Place) (v : Node) where
-  pub flags_leaf : (r : Bool) → r ≡ same_bool (eqb (v.flags / 2 % 2) 1) (eqb v.level 0) → not r ≡ true → false ≡ flags_hold p v
-  unfolding flags_hold flag
-  flags_leaf r e n =
-      let f : same_bool (eqb (v.flags / 2 % 2) 1) (eqb v.level 0) ≡ false = sym e ∙ not-true r n in
-      rw f
-
-  pub flags_root : (r : Bool) → r ≡ same_bool (eqb (v.flags / 1 % 2) 1) p.root → not r ≡ true → false ≡ flags_hold p v
-  unfolding flags_hold flag
-  flags_root r e n =
-      let f : same_bool (eqb (v.flags / 1 % 2) 1) p.root ≡ false = sym e ∙ not-true r n in
-      rw (f, and-false)
-
-  pub flags_fixed : (a b r : Bool) → a ≡ same_bool (eqb (v.flags / 2 % 2) 1) (eqb v.level 0) → not a ≡ false
-      → b ≡ same_bool (eqb (v.flags / 1 % 2) 1) p.root → not b ≡ false
-      → r ≡ same_bool (eqb (v.flags / 4 % 2) 1) (not (eqb v.ksize 0)) → r ≡ flags_hold p v
-  unfolding flags_hold flag is_fixed
-  flags_fixed a b r ea na eb nb er =
-      let f : same_bool (eqb (v.flags / 2 % 2) 1) (eqb v.level 0) ≡ true = sym ea ∙ not-false a na in
-      let g : same_bool (eqb (v.flags / 1 % 2) 1) p.root ≡ true = sym eb ∙ not-false b nb in
-      er ∙ sym (rw (f, g))
-
-  pub lay_area : v.vals < v.keys → false ≡ layout_holds p v
-  unfolding layout_holds
-  lay_area h = rw (lt-leb v.keys v.vals h)
-
-  pub lay_level : 32 < v.level → false ≡ layout_holds p v
-  unfolding layout_holds
-  lay_level h = rw (lt-leb v.level 32 h, and-false)
-
-  pub lay_flags : (r : Bool) → r ≡ flags_hold p v → not r ≡ true → false ≡ layout_holds p v
-  unfolding layout_holds
-  lay_flags r e n = let f : flags_hold p v ≡ false = sym e ∙ not-true r n in rw (f, and-false)
-
-  pub lay_slots : (f : Bool) (w : ℕ) → f ≡ is_fixed v → w ≡ cond f 4 8 → v.keys - v.toc < v.nkeys * w → false ≡ layout_holds p v
-  unfolding layout_holds
-  lay_slots f w ef ew h =
-      let e : w ≡ cond (is_fixed v) 4 8 = ew ∙ ap (λ (q : Bool). cond q 4 8) ef in
-      let g : leb (v.nkeys * cond (is_fixed v) 4 8) (v.keys - v.toc) ≡ false = lt-leb _ _ (rw e at h) in
-      rw (g, and-false)
-
-  pub lay_done : (r f : Bool) (w : ℕ) → v.keys ≤ v.vals → v.level ≤ 32 → r ≡ flags_hold p v → not r ≡ false
-      → f ≡ is_fixed v → w ≡ cond f 4 8 → v.nkeys * w ≤ v.keys - v.toc → eqb v.oid p.oid ≡ layout_holds p v
-  unfolding layout_holds
-  lay_done r f w h1 h2 er nr ef ew h =
-      let e : w ≡ cond (is_fixed v) 4 8 = ew ∙ ap (λ (q : Bool). cond q 4 8) ef in
-      let g : leb (v.nkeys * cond (is_fixed v) 4 8) (v.keys - v.toc) ≡ true = le-leb _ _ (rw e at h) in
-      let k : flags_hold p v ≡ true = sym er ∙ not-false r nr in
-      rw (le-leb v.keys v.vals h1, le-leb v.level 32 h2, k, g)
-
-pub slots_fit : (n w : ℕ) (f : Bool) → w ≡ cond f 4 8 → n < 2 ^ 32 → n * w < 2 ^ 64
-slots_fit n w true e h = rw e (omega arith)
-slots_fit n w false e h = rw e (omega arith)
-
 -- ---- one entry
-
--- where the contents' entry i lies
-pub fixed_room : (v : Node) (size i : ℕ) → Laid v size → i < v.nkeys → (v.ksize ≡ 0 → ⊥) → v.toc + i * 4 + 4 ≤ size
-fixed_room v size i l h f =
-    let e : v.toc + v.nkeys * 4 ≤ v.keys = rw (is_fixed_true v f) at l.contents in
-    omega (arith, l.keys_end, l.vals_end)
-
-pub loose_room : (v : Node) (size i : ℕ) → Laid v size → i < v.nkeys → v.ksize ≡ 0 → v.toc + i * 8 + 8 ≤ size
-loose_room v size i l h f =
-    let e : v.toc + v.nkeys * 8 ≤ v.keys = rw (is_fixed_false v f) at l.contents in
-    omega (arith, l.keys_end, l.vals_end)
 
 -- a block has room for few entries
 few_slots : (f : Bool) (t n k : ℕ) → t + n * cond f 4 8 ≤ k → n * 4 ≤ k
@@ -157,70 +36,7 @@ few_slots false t n k h = omega arith
 pub few : (v : Node) (size : ℕ) → Laid v size → v.nkeys * 4 ≤ size
 few v size l = omega (arith, few_slots (is_fixed v) v.toc v.nkeys v.keys l.contents, l.keys_end, l.vals_end)
 
-pub fixed_span : (v : Node) (b : List ℕ) (i k x w : ℕ) → (v.ksize ≡ 0 → ⊥) → k ≡ u16_at b (v.toc + i * 4) → x ≡ u16_at b (v.toc + i * 4 + 2)
-    → w ≡ cond (eqb v.level 0) v.vsize 8 → ◌≡◌ {A = Span} (record { key = v.keys + k; klen = v.ksize; voff = x; vlen = w }) (span_at v b i)
-unfolding span_at
-fixed_span v b i k x w h e1 e2 e3 = rw (is_fixed_true v h, e1, e2, e3)
-
-pub loose_span : (v : Node) (b : List ℕ) (i k kl x w : ℕ) → v.ksize ≡ 0 → k ≡ u16_at b (v.toc + i * 8) → kl ≡ u16_at b (v.toc + i * 8 + 2)
-    → x ≡ u16_at b (v.toc + i * 8 + 4) → w ≡ u16_at b (v.toc + i * 8 + 6)
-    → ◌≡◌ {A = Span} (record { key = v.keys + k; klen = kl; voff = x; vlen = w }) (span_at v b i)
-unfolding span_at
-loose_span v b i k kl x w h e1 e2 e3 e4 = rw (is_fixed_false v h, e1, e2, e3, e4)
-
 module _ (v : Node) (size : ℕ) (s : Span) where
-  pub outside_key : size < s.klen → false ≡ span_holds v size s
-  unfolding span_holds
-  outside_key h = rw (lt-leb (s.key + s.klen) size (omega arith))
-
-  pub outside_key_2 : s.klen ≤ size → size - s.klen < s.key → false ≡ span_holds v size s
-  unfolding span_holds
-  outside_key_2 g h = rw (lt-leb (s.key + s.klen) size (omega arith))
-
-  pub ghost_holds : s.klen ≤ size → s.key ≤ size - s.klen → s.voff ≡ 65535 → eqb v.level 0 ≡ span_holds v size s
-  unfolding span_holds is_ghost
-  ghost_holds g h e = rw (le-leb (s.key + s.klen) size (omega arith), eq-eqb s.voff 65535 e, or-false)
-
-  pub outside_value : (s.voff ≡ 65535 → ⊥) → v.vals < s.voff → false ≡ span_holds v size s
-  unfolding span_holds is_ghost
-  outside_value n h = rw (ne_eqb s.voff 65535 n, lt-leb s.voff v.vals h, and-false)
-
-  value_out : (s.voff ≡ 65535 → ⊥) → s.voff ≤ v.vals → size < v.vals - s.voff + s.vlen → false ≡ span_holds v size s
-  unfolding span_holds is_ghost
-  value_out n g h = rw (ne_eqb s.voff 65535 n, le-leb s.voff v.vals g, lt-leb (v.vals - s.voff + s.vlen) size h, and-false)
-
-  pub outside_value_2 : (s.voff ≡ 65535 → ⊥) → s.voff ≤ v.vals → size < s.vlen → false ≡ span_holds v size s
-  outside_value_2 n g h = value_out n g (omega arith)
-
-  pub outside_value_3 : (s.voff ≡ 65535 → ⊥) → s.voff ≤ v.vals → s.vlen ≤ size → size - s.vlen < v.vals - s.voff → false ≡ span_holds v size s
-  outside_value_3 n g k h = value_out n g (omega arith)
-
-  pub leaf_holds : s.klen ≤ size → s.key ≤ size - s.klen → (s.voff ≡ 65535 → ⊥) → s.voff ≤ v.vals → s.vlen ≤ size
-      → v.vals - s.voff ≤ size - s.vlen
-      → v.level ≡ 0 → eqb v.level 0 ≡ span_holds v size s
-  unfolding span_holds is_ghost
-  leaf_holds a b n g k h e =
-      rw (
-        le-leb (s.key + s.klen) size (omega arith),
-        ne_eqb s.voff 65535 n,
-        le-leb s.voff v.vals g,
-        le-leb (v.vals - s.voff + s.vlen) size (omega arith),
-        eq-eqb v.level 0 e,
-      )
-
-  pub index_holds : s.klen ≤ size → s.key ≤ size - s.klen → (s.voff ≡ 65535 → ⊥) → s.voff ≤ v.vals → s.vlen ≤ size
-      → v.vals - s.voff ≤ size - s.vlen
-      → (v.level ≡ 0 → ⊥) → eqb s.vlen 8 ≡ span_holds v size s
-  unfolding span_holds is_ghost
-  index_holds a b n g k h e =
-      rw (
-        le-leb (s.key + s.klen) size (omega arith),
-        ne_eqb s.voff 65535 n,
-        le-leb s.voff v.vals g,
-        le-leb (v.vals - s.voff + s.vlen) size (omega arith),
-        ne_eqb v.level 0 e,
-      )
-
   -- what an entry that holds keeps
   pub held_key : span_holds v size s ≡ true → s.key + s.klen ≤ size
   unfolding span_holds
@@ -252,14 +68,6 @@ module _ (v : Node) (size : ℕ) (s : Span) where
 
   pub held_eight : span_holds v size s ≡ true → (v.level ≡ 0 → ⊥) → s.vlen ≡ 8
   held_eight h n = eqb-true s.vlen 8 (and_right (not (is_ghost s)) (eqb s.vlen 8) (held_child_lem h n))
-
-pub ghost_length : (s : Span) → s.voff ≡ 65535 → s.klen ≡ span_length s
-unfolding span_length is_ghost
-ghost_length s e = rw (eq-eqb s.voff 65535 e, add-zero)
-
-pub value_length_lem : (s : Span) → (s.voff ≡ 65535 → ⊥) → s.klen + s.vlen ≡ span_length s
-unfolding span_length is_ghost
-value_length_lem s n = rw (ne_eqb s.voff 65535 n)
 
 -- the bytes of an entry's key, and of a leaf's value
 pub key_counts : (v : Node) (b : List ℕ) (s : Span) → span_holds v (length b) s ≡ true → length (window s.key s.klen b) ≡ s.klen
@@ -304,10 +112,10 @@ entries_none_root p v b e r = ap (λ (q : Bool). q && eqb v.level 0) (sym r) ∙
 pub entries_none_other : (p : Place) (v : Node) (b : List ℕ) → v.nkeys ≡ 0 → p.root ≡ false → p.root ≡ entries_hold p v b
 entries_none_other p v b e r = r ∙ ap (λ (q : Bool). q && eqb v.level 0) (sym r) ∙ entries_none p v b e
 
-pub entries_whole : (p : Place) (v : Node) (b : List ℕ) (tail : ℕ) → (v.nkeys ≡ 0 → ⊥) → tail ≡ cond p.root 40 0
-    → rest_holds v b 0 v.nkeys 0 (length b - 56 - tail) ≡ entries_hold p v b
-unfolding entries_hold rest_holds data_space
-entries_whole p v b tail n e = rw (ne_eqb v.nkeys 0 n, and-true, e, zero-add)
+pub entries_whole : (p : Place) (v : Node) (b : List ℕ) (space : ℕ) → (v.nkeys ≡ 0 → ⊥) → space ≡ data_space (length b) p.root
+    → rest_holds v b 0 v.nkeys 0 space ≡ entries_hold p v b
+unfolding entries_hold rest_holds
+entries_whole p v b space n e = rw (ne_eqb v.nkeys 0 n, and-true, e, zero-add)
 
 pub rest_start : (v : Node) (b : List ℕ) (n space : ℕ) → rest_holds v b 0 n 0 space ≡ rest_holds v b 0 (n - 0) 0 space
 rest_start v b n space = rw sub-zero
@@ -345,3 +153,5 @@ unfolding rest_holds spans_hold spans_length
 rest_done w v b n i sum space e h g =
     let m : n - i ≡ 0 = omega arith in
     sym (e ∙ rw (m, add-zero, le-leb sum space g))
+
+pub ruleset entries = (entries_none_root, entries_none_other, entries_whole, rest_start, rest_outside, rest_long, rest_turn, rest_done)

@@ -1,7 +1,7 @@
 -- Laws of a key searched in a block: one for each turn and each way out, and the entry that is found. Assumes nothing.
 use Rattle.std.specs.Prelude.{◌≡◌, refl, List, [], ◌∷◌, Bool, true, false, take, drop}
 use Rattle.std.proofs.Math.Path.{ap}
-use Rattle.std.proofs.Common.{◌∙◌, zero-add, add-zero, add-one}
+use Rattle.std.proofs.Common.{◌∙◌, add-zero, add-one}
 use Prim.Native.Nat.{ℕ, zero, suc, ◌+◌, ◌-◌, ◌≤◌, ◌<◌}
 use Rattle.std.proofs.Math.Nat.{sub-zero}
 use native.Mathlib.Omega.{arith}
@@ -20,9 +20,6 @@ module _ (v : Node) (b : List ℕ) (o : ℕ) (k : List ℕ) where
 
   abbrev rest : ℕ → ℕ
   rest i = not_above o k (entries_from v b i (v.nkeys - i))
-
-  pub search_start : 0 + rest 0 ≡ all
-  search_start = zero-add (rest 0) ∙ ap (λ (m : ℕ). not_above o k (entries_from v b 0 m)) (sub-zero v.nkeys)
 
   module _ (i : ℕ) (s : Span) (key : List ℕ) (t : Bool) (h : i < v.nkeys) (inv : i + rest i ≡ all)
       (es : s ≡ span_at v b i) (ek : key ≡ window s.key s.klen b) (et : t ≡ less o k key) where

@@ -1,44 +1,66 @@
 -- Laws of a walk over a slot's records: one for each turn and each way out. Assumes nothing.
 use Rattle.std.specs.Prelude.{◌≡◌, refl, Bool, length, drop, leb, eqb}
 use Rattle.std.proofs.Math.Path.{sym, ap}
-use Rattle.std.proofs.Common.{◌∙◌, zero-add, drop_of_length-le}
-use mathlib.Core.List.{List, []}
+use Rattle.std.proofs.Common.{◌∙◌}
+use mathlib.Core.List.{List}
 use Rattle.std.proofs.Math.Bool.{true, false, not}
-use Prim.Native.Nat.{ℕ, suc, ◌+◌, ◌-◌, ◌≤◌, ◌<◌, ◌^◌}
+use Prim.Native.Nat.{ℕ, ◌+◌, ◌≤◌, ◌<◌, ◌^◌}
 use native.Mathlib.Omega.{arith}
-use borrow.Author.Tests.{le-leb, lt-leb, eq-eqb, ne_eqb, leb-true, leb-false, eqb-true, eqb-false, not-true, not-false}
+use borrow.Author.Tests.{le-leb, lt-leb, eq-eqb, ne_eqb, leb-true, leb-false, eqb-true, eqb-false}
 use Rattle.seal.specs.Bytes.{u16_at, window}
 use Rattle.node.specs.laws.base.Tests.{and_left, and_right}
-use Rattle.node.specs.Order.{less}
 use Rattle.node.specs.Entry.{Entry}
-use Rattle.node.specs.Records.{mark_length, value_of, record_length, entry_of, records_length, entries_of}
-use Rattle.node.specs.laws.slot.Records.{length_entries, record_mark, records_less, entries_head}
+use Rattle.node.specs.Records.{mark_length, value_of, record_length, entry_of, records_length}
+use Rattle.node.specs.laws.slot.Records.{record_mark, records_less}
 use Rattle.node.specs.Slot.{records_hold, is_child, suit}
 use Rattle.node.specs.laws.slot.Slot.{at_next}
-use Rattle.node.specs.Find.{place_of, is_there, not_above}
-use Rattle.node.specs.internal.SlotSteps.{found_in, last_in}
-use Rattle.node.specs.declared.slot.Found.{Found}
-use Rattle.node.specs.declared.slot.Last.{Last}
+use Rattle.std.specs.Prelude.{Option, Some, None, MatchOption}
+use Rattle.node.specs.declared.record.Record.{Record}
 
 -- ---- records that hold
 
-pub hold_no : (l : List ℕ) (n used i at : ℕ) (t : Bool) → i < n → at ≡ records_length i l → t ≡ leb (at + record_length (drop at l)) (length l)
-    → not t ≡ true → false ≡ records_hold n used l
+-- a record that does not lie within the list
+pub hold_no : (l : List ℕ) (n used i at : ℕ) → i < n → at ≡ records_length i l → leb (at + record_length (drop at l)) (length l) ≡ false
+    → false ≡ records_hold n used l
 unfolding records_hold
-hold_no l n used i at t h p e f =
-    let a : length l < at + record_length (drop at l) = leb-false (at + record_length (drop at l)) (length l) (sym e ∙ not-true t f) in
+hold_no l n used i at h p e =
+    let a : length l < at + record_length (drop at l) = leb-false (at + record_length (drop at l)) (length l) e in
     let b : at + record_length (drop at l) ≡ records_length (i + 1) l = at_next l i at (at + record_length (drop at l)) p refl in
     let c = records_less (i + 1) n l (omega arith) in
     let d : length l < records_length n l = omega arith in
     rw (lt-leb (records_length n l) (length l) d)
 
-pub hold_fits : (l : List ℕ) (at : ℕ) (t : Bool) → t ≡ leb (at + record_length (drop at l)) (length l) → not t ≡ false
-    → at + record_length (drop at l) ≤ length l
-hold_fits l at t e f = leb-true (at + record_length (drop at l)) (length l) (sym e ∙ not-false t f)
+-- what is known of the record that was looked for at an offset
+abbrev pub Looked : List ℕ → ℕ → Option Record → Type 0
+Looked l at v = MatchOption v (leb (at + record_length (drop at l)) (length l) ≡ false) (λ r. (r.slot.now ≡ l) × (r.at ≡ at))
 
-pub hold_within : (l : List ℕ) (at r : ℕ) (t : Bool) → t ≡ leb (at + record_length (drop at l)) (length l) → not t ≡ false
-    → r ≡ at + record_length (drop at l) → r ≤ length l
-hold_within l at r t e f p = let a = hold_fits l at t e f in omega arith
+pub hold_out : (l : List ℕ) (n used i at : ℕ) (v : Option Record) → i < n → at ≡ records_length i l → Looked l at v → v ≡ None
+    → false ≡ records_hold n used l
+hold_out l n used i at v h p k e = hold_no l n used i at h p (rw e at k)
+
+module _ (l : List ℕ) (at : ℕ) (v : Option Record) (k : Looked l at v) (r : Record) (e : v ≡ Some r) where
+  looked : (r.slot.now ≡ l) × (r.at ≡ at)
+  looked = rw e at k
+
+  pub looked_slot : r.slot.now ≡ l
+  looked_slot = looked.0
+
+  pub looked_at : r.at ≡ at
+  looked_at = looked.1
+
+  pub looked_lies : at + record_length (drop at l) ≤ length l
+  looked_lies = rw (looked.0, looked.1) at r.lies
+
+  -- and of where the next starts
+  module _ (next : ℕ) (q : next ≡ r.at + record_length (drop r.at r.slot.now)) where
+    looked_next : next ≡ at + record_length (drop at l)
+    looked_next = rw (looked.0, looked.1) at q
+
+    pub hold_next : (i : ℕ) → at ≡ records_length i l → next ≡ records_length (i + 1) l
+    hold_next i p = at_next l i at next p looked_next
+
+    pub hold_within : next ≤ length l
+    hold_within = omega (arith, looked_next, looked_lies)
 
 pub hold_end : (l : List ℕ) (n used i at : ℕ) → i ≤ n → n ≤ i → at ≡ records_length i l → at ≤ length l → eqb at used ≡ records_hold n used l
 unfolding records_hold
@@ -90,104 +112,7 @@ pub suit_index : (isLeaf t : Bool) (e : Entry) → t ≡ is_child e.value → is
 unfolding suit
 suit_index isLeaf t e p q = rw (q, ← p)
 
--- ---- walks over the entries from entry i on
+-- what `Record::holds_child` and `Record::suits` take of these
+pub ruleset child = (child_disk, child_other)
 
-module _ (l : List ℕ) (n : ℕ) where
-  abbrev es : List Entry
-  es = entries_of n l
-
-  none_left : (i : ℕ) → n ≤ i → drop i es ≡ []
-  none_left i h = let a = length_entries n l in let b : length es ≤ i = omega arith in drop_of_length-le es b
-
-  module _ (o : ℕ) (k : List ℕ) where
-    pub place_start : 0 + place_of o k (drop 0 es) ≡ place_of o k es
-    place_start = zero-add (place_of o k es)
-
-    -- past an entry whose key is below k
-    pub place_past : (i at : ℕ) → i < n → at ≡ records_length i l → less o (entry_of (drop at l)).key k ≡ true
-        → i + place_of o k (drop i es) ≡ place_of o k es → i + 1 + place_of o k (drop (i + 1) es) ≡ place_of o k es
-    unfolding place_of
-    place_past i at h p x v =
-        let y : place_of o k (drop i es) ≡ suc (place_of o k (drop (i + 1) es)) = ap (place_of o k) (entries_head i n at l h p) ∙ rw x in
-        omega arith
-
-    pub there_past : (i at : ℕ) → i < n → at ≡ records_length i l → less o (entry_of (drop at l)).key k ≡ true
-        → is_there o k (drop i es) ≡ is_there o k es → is_there o k (drop (i + 1) es) ≡ is_there o k es
-    unfolding is_there
-    there_past i at h p x v =
-        let y : is_there o k (drop i es) ≡ is_there o k (drop (i + 1) es) = ap (is_there o k) (entries_head i n at l h p) ∙ rw x in
-        sym y ∙ v
-
-    -- that it is below k, as the comparison tells
-    pub key_lower : (at : ℕ) (kb : List ℕ) (t : Bool) → kb ≡ (entry_of (drop at l)).key → t ≡ less o kb k → not t ≡ false
-        → less o (entry_of (drop at l)).key k ≡ true
-    key_lower at kb t e q r = ap (λ (y : List ℕ). less o y k) (sym e) ∙ sym q ∙ not-false t r
-
-    found_at : (i at : ℕ) (f : Bool) → at ≡ records_length i l → i ≡ place_of o k es → f ≡ is_there o k es
-        → ◌≡◌ {A = Found} (record { index = i; at = at; found = f }) (found_in o k n l)
-    unfolding found_in
-    found_at i at f p q r = rw (p, q, r)
-
-    pub found_here : (i at : ℕ) (kb : List ℕ) (t u : Bool) → i < n → at ≡ records_length i l → kb ≡ (entry_of (drop at l)).key → t ≡ less o kb k
-        → not t ≡ true → u ≡ less o k kb
-        → i + place_of o k (drop i es) ≡ place_of o k es → is_there o k (drop i es) ≡ is_there o k es
-        → ◌≡◌ {A = Found} (record { index = i; at = at; found = not u }) (found_in o k n l)
-    unfolding place_of is_there
-    found_here i at kb t u h p e q r s v w =
-        let x : less o (entry_of (drop at l)).key k ≡ false = ap (λ (y : List ℕ). less o y k) (sym e) ∙ sym q ∙ not-true t r in
-        let y : place_of o k (drop i es) ≡ 0 = ap (place_of o k) (entries_head i n at l h p) ∙ rw x in
-        let z : is_there o k (drop i es) ≡ not u = ap (is_there o k) (entries_head i n at l h p) ∙ rw x (ap not (ap (less o k) (sym e) ∙ sym s)) in
-        let a : i ≡ place_of o k es = omega arith in
-        found_at i at (not u) p a (sym z ∙ w)
-
-    pub found_none : (i at : ℕ) → n ≤ i → at ≡ records_length i l → i + place_of o k (drop i es) ≡ place_of o k es
-        → is_there o k (drop i es) ≡ is_there o k es → ◌≡◌ {A = Found} (record { index = i; at = at; found = false }) (found_in o k n l)
-    unfolding place_of is_there
-    found_none i at h p v w =
-        let y : place_of o k (drop i es) ≡ 0 = ap (place_of o k) (none_left i h) in
-        let z : is_there o k (drop i es) ≡ false = ap (is_there o k) (none_left i h) in
-        let a : i ≡ place_of o k es = omega arith in
-        found_at i at false p a (sym z ∙ w)
-
-    pub last_start : 0 + not_above o k (drop 0 es) ≡ not_above o k es
-    last_start = zero-add (not_above o k es)
-
-    -- past an entry whose key is not above k
-    pub last_past : (i at : ℕ) → i < n → at ≡ records_length i l → less o k (entry_of (drop at l)).key ≡ false
-        → i + not_above o k (drop i es) ≡ not_above o k es → i + 1 + not_above o k (drop (i + 1) es) ≡ not_above o k es
-    unfolding not_above
-    last_past i at h p x v =
-        let y : not_above o k (drop i es) ≡ suc (not_above o k (drop (i + 1) es)) = ap (not_above o k) (entries_head i n at l h p) ∙ rw x in
-        omega arith
-
-    -- that it is not above k, as the comparison tells
-    pub key_not_above : (at : ℕ) (kb : List ℕ) (t : Bool) → kb ≡ (entry_of (drop at l)).key → t ≡ less o k kb → t ≡ false
-        → less o k (entry_of (drop at l)).key ≡ false
-    key_not_above at kb t e q r = ap (less o k) (sym e) ∙ sym q ∙ r
-
-    last_at_lem : (i at : ℕ) → at ≡ records_length (i - 1) l → i ≡ not_above o k es → ◌≡◌ {A = Last} (record { count = i; at = at }) (last_in o k n l)
-    unfolding last_in
-    last_at_lem i at p q = rw (p, q)
-
-    pub last_here : (i at last : ℕ) (kb : List ℕ) (t : Bool) → i < n → at ≡ records_length i l → last ≡ records_length (i - 1) l
-        → kb ≡ (entry_of (drop at l)).key → t ≡ less o k kb → t ≡ true
-        → i + not_above o k (drop i es) ≡ not_above o k es → ◌≡◌ {A = Last} (record { count = i; at = last }) (last_in o k n l)
-    unfolding not_above
-    last_here i at last kb t h p m e q r v =
-        let x : less o k (entry_of (drop at l)).key ≡ true = ap (less o k) (sym e) ∙ sym q ∙ r in
-        let y : not_above o k (drop i es) ≡ 0 = ap (not_above o k) (entries_head i n at l h p) ∙ rw x in
-        last_at_lem i last m (omega arith)
-
-    pub last_none : (i last : ℕ) → n ≤ i → last ≡ records_length (i - 1) l → i + not_above o k (drop i es) ≡ not_above o k es
-        → ◌≡◌ {A = Last} (record { count = i; at = last }) (last_in o k n l)
-    unfolding not_above
-    last_none i last h m v =
-        let y : not_above o k (drop i es) ≡ 0 = ap (not_above o k) (none_left i h) in
-        last_at_lem i last m (omega arith)
-
-pub last_kept : (l : List ℕ) (i at : ℕ) → at ≡ records_length i l → at ≡ records_length (i + 1 - 1) l
-last_kept l i at p = let e : i ≡ i + 1 - 1 = omega arith in p ∙ ap (λ (x : ℕ). records_length x l) e
-
-pub last_first : (l : List ℕ) → 0 ≡ records_length (0 - 1) l
-unfolding records_length
-last_first l = refl
+pub ruleset suits = (suit_leaf, suit_index)

@@ -80,12 +80,6 @@ head_other ws s t h r q = by_test (ltb s t) (λ p. head_after ws s t h r (ltb-tr
 
 -- ---- the words of a node just read
 
-pub head_read : (v : Node) (used block m x : ℕ) (by_id : Bool) → m ≡ cond by_id 1 0 → x ≡ cond by_id v.oid 0
-    → ◌≡◌ {A = Head} (record { level = v.level; count = v.nkeys; used = used; placed = 1; block = block; named = m; id = x; dirty = 0; dead = 0 })
-    (read_head v used block by_id)
-unfolding read_head
-head_read v used block m x by_id e f = rw (e, f)
-
 -- a clean node with its block and, if it is named, its id
 pub head_read_node : (v : Node) (used block : ℕ) (by_id : Bool) (l : List ℕ)
     → node_of (read_head v used block by_id) l

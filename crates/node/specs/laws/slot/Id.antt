@@ -1,17 +1,18 @@
 -- The id of a pair key, and that it decides where it is below another's. Assumes nothing.
-use Rattle.std.specs.Prelude.{◌≡◌, refl, Bool, true, false, not, length, drop, ltb, eqb}
+use Rattle.std.specs.Prelude.{◌≡◌, refl, true, false, length, drop, ltb, eqb}
 use Rattle.std.proofs.Math.Path.{sym}
 use Rattle.std.proofs.Common.{◌∙◌, length-drop}
 use mathlib.Core.List.{List}
 use Prim.Native.Nat.{ℕ, ◌+◌, ◌-◌, ◌≤◌, ◌<◌}
 use native.Mathlib.Omega.{arith}
-use borrow.Author.Tests.{lt-ltb, le-ltb, ltb-true, eq-eqb, ne_eqb, eqb-true, eqb-false, not-false}
+use borrow.Author.Tests.{lt-ltb, le-ltb, eq-eqb, ne_eqb, eqb-true, eqb-false}
 use Rattle.seal.specs.Bytes.{u16_at, u64_at}
 use Rattle.seal.specs.laws.FieldLaws.{field_window, field_drop}
 use Rattle.node.specs.Order.{pair, less}
 use Rattle.node.specs.Records.{record_length, entry_of}
-use Rattle.node.specs.internal.SlotSteps.{pair_id, id_below}
-use Rattle.node.specs.laws.base.Tests.{by_test, and_left, and_right}
+use Rattle.node.specs.internal.SlotSteps.{pair_id}
+use Rattle.node.specs.internal.Sought.{Below}
+use Rattle.node.specs.laws.base.Tests.{by_test}
 use Rattle.node.specs.laws.order.OrderSteps.{less_pair, pair_id_lem}
 use Rattle.node.specs.laws.slot.Records.{record_klen, entry_key_length}
 
@@ -23,56 +24,17 @@ pub id_pair : (k : List ℕ) (x : ℕ) → length k ≡ 16 → x ≡ u64_at k 0 
 unfolding pair_id
 id_pair k x h e = rw (eq-eqb (length k) 16 h) e
 
--- ---- the id of the key of the record at an offset
-
-module _ (l : List ℕ) (at klen : ℕ) (h : at + record_length (drop at l) ≤ length l) (p : klen ≡ u16_at l at) where
-  key_long : length (entry_of (drop at l)).key ≡ klen
-  key_long =
-      let d : length (drop at l) ≡ length l - at = length-drop at l in
-      let r : record_length (drop at l) ≤ length (drop at l) = omega arith in
-      entry_key_length (drop at l) r ∙ record_klen l at ∙ sym p
-
-  -- a pair key has 16 bytes
-  pub id_long : (id : ℕ) → id_below (entry_of (drop at l)).key id ≡ true → 16 ≡ klen
-  unfolding id_below
-  id_long id b =
-      let k : List ℕ = (entry_of (drop at l)).key in
-      sym (eqb-true (length k) 16 (and_left (eqb (length k) 16) (ltb (u64_at k 0) id) b)) ∙ key_long
-
-  pub id_other : (id : ℕ) → (klen ≡ 16 → ⊥) → false ≡ id_below (entry_of (drop at l)).key id
-  unfolding id_below
-  id_other id n = rw (key_long, ne_eqb klen 16 n)
-
-  pub id_lies : klen ≡ 16 → at + 4 + 8 ≤ length l
-  unfolding record_length
-  id_lies e = let k = record_klen l at in omega arith
-
-  pub id_test : (x id : ℕ) → klen ≡ 16 → x ≡ u64_at l (at + 4) → ltb x id ≡ id_below (entry_of (drop at l)).key id
-  unfolding id_below entry_of
-  id_test x id e q =
-      let n : 0 + 8 ≤ u16_at (drop at l) 0 = let k = record_klen l at in omega arith in
-      let f : u64_at (entry_of (drop at l)).key 0 ≡ x = field_window 8 4 (u16_at (drop at l) 0) (drop at l) 0 n ∙ field_drop 8 at l 4 ∙ sym q in
-      rw (key_long, eq-eqb klen 16 e, f)
-
 -- ---- a key whose id is below that of another is below it, and not above it
 
-module _ (k key : List ℕ) (id : ℕ) (t : Bool) (p : id ≡ pair_id key) (q : t ≡ id_below k id) (h : not t ≡ false) where
-  long : length k ≡ 16
-  unfolding id_below
-  long = eqb-true (length k) 16 (and_left (eqb (length k) 16) (ltb (u64_at k 0) id) (sym q ∙ not-false t h))
-
-  smaller : u64_at k 0 < id
-  unfolding id_below
-  smaller = ltb-true (u64_at k 0) id (and_right (eqb (length k) 16) (ltb (u64_at k 0) id) (sym q ∙ not-false t h))
-
+module _ (k key : List ℕ) (id : ℕ) (p : id ≡ pair_id key) (long : length k ≡ 16) (smaller : u64_at k 0 < id) where
   other_long : length key ≡ 16
   other_long =
       by_test (eqb (length key) 16)
-      (λ e. eqb-true (length key) 16 e)
-      (λ e. let z = id_none key (eqb-false (length key) 16 e) in let s = smaller in absurd (omega arith))
+      (λ t. eqb-true (length key) 16 t)
+      (λ t. let z = id_none key (eqb-false (length key) 16 t) in absurd (omega arith))
 
   differ : u64_at k 0 < u64_at key 0
-  differ = let z = id_pair key (u64_at key 0) other_long refl in let s = smaller in omega arith
+  differ = let z = id_pair key (u64_at key 0) other_long refl in omega arith
 
   pub id_lower : less pair k key ≡ true
   id_lower =
@@ -85,3 +47,30 @@ module _ (k key : List ℕ) (id : ℕ) (t : Bool) (p : id ≡ pair_id key) (q : 
       let d = differ in
       let e : ltb (u64_at key 0) (u64_at k 0) ≡ false = le-ltb (u64_at key 0) (u64_at k 0) (omega arith) in
       sym (less_pair pair key k false refl other_long long (sym e ∙ pair_id_lem key k (u64_at key 0) (u64_at k 0) refl refl (λ z. omega arith)))
+
+-- ---- the id of the key of the record at an offset
+
+module _ (l : List ℕ) (at klen : ℕ) (h : at + record_length (drop at l) ≤ length l) (p : klen ≡ u16_at l at) where
+  key_long : length (entry_of (drop at l)).key ≡ klen
+  key_long =
+      let d : length (drop at l) ≡ length l - at = length-drop at l in
+      let r : record_length (drop at l) ≤ length (drop at l) = omega arith in
+      entry_key_length (drop at l) r ∙ record_klen l at ∙ sym p
+
+  pub id_lies : klen ≡ 16 → at + 4 + 8 ≤ length l
+  unfolding record_length
+  id_lies e = let k = record_klen l at in omega arith
+
+  id_is : (x : ℕ) → klen ≡ 16 → x ≡ u64_at l (at + 4) → u64_at (entry_of (drop at l)).key 0 ≡ x
+  unfolding entry_of
+  id_is x e q =
+      let n : 0 + 8 ≤ u16_at (drop at l) 0 = let k = record_klen l at in omega arith in
+      field_window 8 4 (u16_at (drop at l) 0) (drop at l) 0 n ∙ field_drop 8 at l 4 ∙ sym q
+
+  -- a record with a pair key whose id is below that of another key
+  pub below_by_id : (x id : ℕ) (k : List ℕ) → klen ≡ 16 → x ≡ u64_at l (at + 4) → id ≡ pair_id k → x < id → Below pair (entry_of (drop at l)).key k
+  below_by_id x id k e q i s =
+      let a : List ℕ = (entry_of (drop at l)).key in
+      let m : length a ≡ 16 = key_long ∙ e in
+      let d : u64_at a 0 < id = let w = id_is x e q in omega arith in
+      record { below = id_lower a k id i m d; not_above = id_not_above a k id i m d }

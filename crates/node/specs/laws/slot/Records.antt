@@ -9,7 +9,6 @@ use native.Mathlib.Omega.{arith}
 use Rattle.std.proofs.Math.ListN.{length, take, drop}
 use Rattle.std.proofs.Math.Seq.{take_at, drop_at, take-append_seam, take-length}
 use borrow.Author.Tests.{le-leb, lt-leb, eq-eqb, ne_eqb, leb-true, leb-false, eqb-true, eqb-false}
-use Rattle.node.specs.laws.base.Tests.{leb_same}
 use Rattle.seal.specs.Bytes.{u16_at, field_at, le, window, splice, bytes_of}
 use Rattle.seal.specs.laws.WindowLaws.{length_window, splice_run}
 use Rattle.seal.specs.laws.FieldLaws.{field_drop, le_bytes_of, length_bytes_of}
@@ -18,8 +17,8 @@ use Rattle.node.specs.laws.base.Bytes.{Bytes, bytes_drop, bytes_window, bytes_of
 use Rattle.node.specs.Cut.{entry_size, size}
 use Rattle.node.specs.Entry.{Entry, Val, ghost, leaf, disk, mem, value_bytes, value_length}
 use Rattle.node.specs.Records.{mark_of, mark_length, value_of, record_length, entry_of, records_length, entries_of, record_bytes, record_of, records_of}
-use Rattle.node.specs.internal.SlotSteps.{record_at}
-use Rattle.node.specs.declared.record.Record.{Record}
+use Rattle.node.specs.internal.SlotSteps.{parts_at}
+use Rattle.node.specs.declared.record.RecordParts.{RecordParts}
 
 -- ---- the length of a value, by its bytes and by its mark
 
@@ -62,57 +61,63 @@ pub record_mark : (l : List ℕ) (at : ℕ) → u16_at (drop at l) 2 ≡ u16_at 
 record_mark l at = field_drop 2 at l 2
 
 pub record_parts : (l : List ℕ) (at klen mark vlen : ℕ) → klen ≡ u16_at l at → mark ≡ u16_at l (at + 2) → vlen ≡ mark_length mark
-    → ◌≡◌ {A = Record} (record { key = at + 4; klen = klen; mark = mark; value = at + 4 + klen; vlen = vlen; next = at + 4 + klen + vlen })
-    (record_at l at)
-unfolding record_at record_length
+    → ◌≡◌ {A = RecordParts} (record { key = at + 4; klen = klen; mark = mark; value = at + 4 + klen; vlen = vlen; next = at + 4 + klen + vlen })
+    (parts_at l at)
+unfolding parts_at record_length
 record_parts l at klen mark vlen p q r =
     let k : u16_at (drop at l) 0 ≡ klen = record_klen l at ∙ sym p in
     let m : u16_at (drop at l) 2 ≡ mark = record_mark l at ∙ sym q in
     let n : at + 4 + klen + vlen ≡ at + (4 + klen + vlen) = omega arith in
     rw (k, m, ← r, n)
 
-module _ (l : List ℕ) (at : ℕ) (r : Record) (e : r ≡ record_at l at) where
+module _ (l : List ℕ) (at : ℕ) (r : RecordParts) (e : r ≡ parts_at l at) where
   pub at_key : r.key ≡ at + 4
-  unfolding record_at
-  at_key = ap (λ (x : Record). x.key) e
+  unfolding parts_at
+  at_key = ap (λ (x : RecordParts). x.key) e
 
   pub at_klen : r.klen ≡ u16_at (drop at l) 0
-  unfolding record_at
-  at_klen = ap (λ (x : Record). x.klen) e
+  unfolding parts_at
+  at_klen = ap (λ (x : RecordParts). x.klen) e
 
   pub at_mark : r.mark ≡ u16_at (drop at l) 2
-  unfolding record_at
-  at_mark = ap (λ (x : Record). x.mark) e
+  unfolding parts_at
+  at_mark = ap (λ (x : RecordParts). x.mark) e
 
   pub at_value : r.value ≡ at + 4 + u16_at (drop at l) 0
-  unfolding record_at
-  at_value = ap (λ (x : Record). x.value) e
+  unfolding parts_at
+  at_value = ap (λ (x : RecordParts). x.value) e
 
   pub at_vlen : r.vlen ≡ mark_length (u16_at (drop at l) 2)
-  unfolding record_at
-  at_vlen = ap (λ (x : Record). x.vlen) e
+  unfolding parts_at
+  at_vlen = ap (λ (x : RecordParts). x.vlen) e
 
   pub at_length : r.vlen ≡ mark_length r.mark
   at_length = at_vlen ∙ ap mark_length (sym at_mark)
 
   pub at_after : r.next ≡ at + record_length (drop at l)
-  unfolding record_at
-  at_after = ap (λ (x : Record). x.next) e
+  unfolding parts_at
+  at_after = ap (λ (x : RecordParts). x.next) e
 
 -- ---- whether a record lies within the list
 
-pub lies_no : (l : List ℕ) (at : ℕ) → at ≤ length l → length l - at < 4 → false ≡ leb (at + record_length (drop at l)) (length l)
+pub lies_no : (l : List ℕ) (at : ℕ) → at ≤ length l → length l - at < 4 → leb (at + record_length (drop at l)) (length l) ≡ false
 unfolding record_length
-lies_no l at h s = sym (lt-leb (at + record_length (drop at l)) (length l) (omega arith))
+lies_no l at h s = lt-leb (at + record_length (drop at l)) (length l) (omega arith)
 
-pub lies_test : (l : List ℕ) (at klen mark vlen : ℕ) → at ≤ length l → 4 ≤ length l - at → klen ≡ u16_at l at → mark ≡ u16_at l (at + 2)
-    → vlen ≡ mark_length mark
-    → leb (klen + vlen) (length l - at - 4) ≡ leb (at + record_length (drop at l)) (length l)
-unfolding record_length
-lies_test l at klen mark vlen h s p q r =
-    let k : u16_at (drop at l) 0 ≡ klen = record_klen l at ∙ sym p in
-    let m : mark_length (u16_at (drop at l) 2) ≡ vlen = ap mark_length (record_mark l at ∙ sym q) ∙ sym r in
-    leb_same (klen + vlen) (length l - at - 4) (at + record_length (drop at l)) (length l) (λ t. omega arith) (λ t. omega arith)
+module _ (l : List ℕ) (at klen mark vlen : ℕ) (h : at ≤ length l) (s : 4 ≤ length l - at) (p : klen ≡ u16_at l at) (q : mark ≡ u16_at l (at + 2))
+    (r : vlen ≡ mark_length mark) where
+  lies_length : record_length (drop at l) ≡ 4 + klen + vlen
+  unfolding record_length
+  lies_length =
+      let k : u16_at (drop at l) 0 ≡ klen = record_klen l at ∙ sym p in
+      let m : mark_length (u16_at (drop at l) 2) ≡ vlen = ap mark_length (record_mark l at ∙ sym q) ∙ sym r in
+      rw (k, m)
+
+  pub lies_long : length l - at - 4 < klen + vlen → leb (at + record_length (drop at l)) (length l) ≡ false
+  lies_long t = let e = lies_length in lt-leb (at + record_length (drop at l)) (length l) (omega arith)
+
+  pub lies_there : klen + vlen ≤ length l - at - 4 → at + record_length (drop at l) ≤ length l
+  lies_there t = let e = lies_length in omega arith
 
 -- ---- a record stored
 
@@ -537,3 +542,6 @@ records_size (suc n) l h =
     let a = entry_size_lem l (omega arith) in
     let b = records_size n (drop r l) rest in
     omega arith
+
+-- what `Record::at` takes of these
+pub ruleset lies = (lies_no, lies_long, lies_there)

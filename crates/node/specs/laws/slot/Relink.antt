@@ -12,8 +12,8 @@ use Rattle.node.specs.Slot.{with_value, is_child}
 use Rattle.node.specs.laws.base.Splice.{splice_widen, take_splice}
 use Rattle.node.specs.laws.slot.Records.{at_value, mark_child, records_local, records_less, entry_value_length}
 use Rattle.node.specs.laws.slot.Slot.{at_lies, part_length, next_used, value_past, revalued_length, revalued_entries}
-use Rattle.node.specs.internal.SlotSteps.{child_of, record_at}
-use Rattle.node.specs.declared.record.Record.{Record}
+use Rattle.node.specs.internal.SlotSteps.{child_of, parts_at}
+use Rattle.node.specs.declared.record.RecordParts.{RecordParts}
 
 -- a child takes 8 bytes
 child_long : (v : Val) → is_child v ≡ true → value_length v ≡ 8
@@ -47,9 +47,9 @@ same_bytes l i n h = sym (splice_none l (i + n)) ∙ splice_widen l i n [] h ∙
 take_before : (l : List ℕ) (m p : ℕ) (vs : List ℕ) → m ≤ p → p ≤ length l → take m (splice l p vs) ≡ take m l
 take_before l m p vs h k = sym (take-take m p (splice l p vs) h) ∙ ap (take m) (take_splice l p vs k) ∙ take-take m p l h
 
-module _ (l l₁ l₂ : List ℕ) (n i at mark x : ℕ) (r : Record) (pa : at ≡ records_length i l) (h : i < n) (within : records_length n l ≤ length l)
+module _ (l l₁ l₂ : List ℕ) (n i at mark x : ℕ) (r : RecordParts) (pa : at ≡ records_length i l) (h : i < n) (within : records_length n l ≤ length l)
     (is_child_lem : is_child (entry_of (drop at l)).value ≡ true) (low : 0xFFFC < mark) (high : mark < 0xFFFF) (number : x < 2 ^ 64)
-    (e : r ≡ record_at l at) where
+    (e : r ≡ parts_at l at) where
   lies : at + record_length (drop at l) ≤ length l
   lies = at_lies l n i at within h pa
 

@@ -3,11 +3,7 @@ use Rattle.std.specs.Prelude.{◌≡◌, refl, List, ℕ, ◌+◌, ◌≤◌, �
 use Rattle.std.proofs.Common.{sym, ap, ◌∙◌, arith}
 use Rattle.seal.specs.Bytes.{u16_at}
 use Rattle.node.specs.Records.{mark_length, record_length, records_length}
-use Rattle.node.specs.Order.{pair}
-use Rattle.node.specs.internal.SlotSteps.{found_in, last_in}
-use Rattle.node.specs.declared.slot.Found.{Found}
-use Rattle.node.specs.declared.slot.Last.{Last}
-use Rattle.node.specs.laws.slot.Records.{record_klen, record_mark}
+use Rattle.node.specs.laws.slot.Records.{record_klen, record_mark, record_parts}
 use Rattle.node.specs.laws.slot.Slot.{at_next}
 
 head_length : (l : List ℕ) (at klen mark : ℕ) → klen ≡ u16_at l at → mark ≡ u16_at l (at + 2)
@@ -54,10 +50,7 @@ pub like_start : 0 ≡ mark_length 0
 unfolding mark_length
 like_start = refl
 
--- ---- pair order
+-- what `like_at` and `Record::parts` take of these
+pub ruleset like = (like_length, like_room, like_fits, like_mark, like_same, same_room)
 
-pub found_pair : (o : ℕ) (k : List ℕ) (n : ℕ) (l : List ℕ) (r : Found) → o ≡ pair → r ≡ found_in pair k n l → r ≡ found_in o k n l
-found_pair o k n l r e q = q ∙ ap (λ (x : ℕ). found_in x k n l) (sym e)
-
-pub last_pair : (o : ℕ) (k : List ℕ) (n : ℕ) (l : List ℕ) (r : Last) → o ≡ pair → r ≡ last_in pair k n l → r ≡ last_in o k n l
-last_pair o k n l r e q = q ∙ ap (λ (x : ℕ). last_in x k n l) (sym e)
+pub ruleset parts = (record_parts, like_room)

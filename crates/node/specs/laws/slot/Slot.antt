@@ -15,10 +15,10 @@ use Rattle.seal.specs.laws.FieldLaws.{field_drop, le_bytes_of, length_bytes_of}
 use Rattle.node.specs.laws.base.Splice.{window_drop, take_splice, drop_splice, splice_widen}
 use Rattle.node.specs.Entry.{Entry, Val, leaf, disk, mem, value_length}
 use Rattle.node.specs.Records.{mark_length, value_of, record_bytes, record_length, entry_of, records_length, entries_of}
-use Rattle.node.specs.internal.SlotSteps.{record_at}
+use Rattle.node.specs.internal.SlotSteps.{parts_at}
 use Rattle.node.specs.laws.slot.Records.{mark_child, length_bytes, records_local, entries_local, records_add, entries_add, records_next, records_rest, records_less, entries_front, entries_rest, entries_head, decoded, decoded_length, entry_key_length, entry_value_length, at_key, at_mark, at_value, at_length}
 use Rattle.node.specs.Slot.{insert_at, remove_at, rekeyed, with_key, revalued, with_value, child_means, value_means}
-use Rattle.node.specs.declared.record.Record.{Record}
+use Rattle.node.specs.declared.record.RecordParts.{RecordParts}
 use Rattle.node.specs.declared.val.Child.TheVariants as child
 use Rattle.node.specs.declared.val.Val.TheVariants as held
 
@@ -37,9 +37,6 @@ at_lies l n i at h q p =
 
 pub at_next : (l : List ℕ) (i at r : ℕ) → at ≡ records_length i l → r ≡ at + record_length (drop at l) → r ≡ records_length (i + 1) l
 at_next l i at r p q = q ∙ ap (λ (x : ℕ). x + record_length (drop x l)) p ∙ sym (records_next i l)
-
-pub at_end : (l : List ℕ) (i k at : ℕ) → at ≡ records_length k l → k ≤ i → i ≤ k → at ≡ records_length i l
-at_end l i k at p a b = let e : k ≡ i = omega arith in p ∙ ap (λ (x : ℕ). records_length x l) e
 
 pub at_lies_below : (l : List ℕ) (n i k at : ℕ) → records_length n l ≤ length l → i ≤ n → k < i → at ≡ records_length k l
     → at + record_length (drop at l) ≤ length l
@@ -501,7 +498,7 @@ module _ (l o o' : List ℕ) (n i used at : ℕ) (within : used ≤ length l) (p
 
 -- ---- the key and the value of a record, read
 
-module _ (l : List ℕ) (at : ℕ) (r : Record) (e : r ≡ record_at l at) where
+module _ (l : List ℕ) (at : ℕ) (r : RecordParts) (e : r ≡ parts_at l at) where
   pub key_start : r.key ≤ r.value
   key_start = let a = at_key l at r e in let b = at_value l at r e in omega arith
 
@@ -553,3 +550,8 @@ module _ (l : List ℕ) (at : ℕ) (r : Record) (e : r ≡ record_at l at) where
   value_mem x h q d p =
       let m = mark_child r.mark h q in
       ap mem p ∙ sym (value_there ∙ rw (lt-leb r.mark 0xFFFC h, ne_eqb r.mark 0xFFFF q, ne_eqb r.mark 0xFFFE d, ← m))
+
+-- what `Record::key` and `Record::value` take of these
+pub ruleset key = (key_start, key_end, key_part)
+
+pub ruleset value = (value_leaf, value_ghost, value_room, value_disk, value_mem)

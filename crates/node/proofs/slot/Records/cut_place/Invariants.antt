@@ -1,0 +1,11 @@
+use Prim.Native.Nat.{◌≤◌}
+use mathlib.Core.Path.{◌≡◌}
+use Rattle.node.specs.Fit.{fits}
+use Rattle.node.specs.internal.SlotSteps.{lengths_of}
+use Rattle.node.specs.Cut.{cut_place}
+use Rattle.node.specs.Records.{entries_of}
+use mathlib.Core.Bool.{false}
+use Rattle.node.proofs.slot.Records.cut_place.Given as goal
+
+abbrev pub invariant-loop-place : goal.invariant-loop-place
+invariant-loop-place l = (l.lengths ≡ lengths_of l.info l.place l.self.slot.now) × (l.place ≤ cut_place (fits l.info false l.level) (entries_of l.n l.self.slot.now))
