@@ -1,5 +1,5 @@
 -- What is lent to a call beside the slots (RULES: lent).
-use Rattle.std.specs.Prelude.{List, [], ◌∷◌, Bool, cond, ◌&&◌, ◌||◌, ℕ, ◌*◌, ◌/◌, ◌%◌, ◌^◌, length, leb, ltb, eqb}
+use Rattle.std.specs.Prelude.{List, Bool, ◌&&◌, ◌||◌, ℕ, ◌*◌, ◌/◌, ◌%◌, ◌^◌, length, leb, ltb, eqb, option_to_list}
 use Rattle.node.specs.Bytes.{window}
 use Rattle.tree.specs.declared.lent.Lent as lending
 
@@ -10,9 +10,9 @@ pub record Lent : Type 0 where
   pub map : List ℕ
   pub slots : ℕ
 
--- what the image and the numbers of a call lend: the object map's root counts only where a map is lent
+-- what the image and the numbers of a call lend
 unfoldable pub lent_of : List ℕ → lending.Lent → Lent
-lent_of image l = record { image = image; size = l.size; map = cond l.mapped (l.map ∷ []) []; slots = l.slots }
+lent_of image l = record { image = image; size = l.size; map = option_to_list l.map; slots = l.slots }
 
 -- a power of two from 512 to 65,536
 unfoldable pub is_size : ℕ → Bool

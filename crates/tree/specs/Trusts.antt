@@ -1,26 +1,18 @@
 -- Trusted calls (RULES: trusted): what a call that does not look at its slots requires of them, and what it leaves.
-use Rattle.std.specs.Prelude.{◌≡◌, List, Bool, true, false, cond, ◌&&◌, ◌||◌, ℕ, ◌+◌, ◌*◌, ◌≤◌, ◌<◌, length, leb, eqb}
+use Rattle.std.specs.Prelude.{◌≡◌, List, Bool, true, false, cond, ◌&&◌, ◌||◌, ℕ, ◌+◌, ◌*◌, ◌≤◌, ◌<◌, length, leb, eqb, Option, Ok, Err}
+use Rattle.std.specs.Prelude as std
 use Rattle.node.specs.Records.{records_length, records_of}
 use Rattle.node.specs.Slot.{head_at}
 use Rattle.node.specs.declared.head.Head.{Head}
+use Rattle.node.specs.declared.refusal.Refusal.{Refusal}
 use Rattle.tree.specs.Lent.{lent_of}
 use Rattle.tree.specs.State.{State, node_at}
 use Rattle.tree.specs.Workspace.{slot_bytes, state_of}
 use Rattle.tree.specs.Trust.{trusted}
 use Rattle.tree.specs.declared.editor.Tree.{Tree}
 use Rattle.tree.specs.declared.lent.Lent.{Lent}
-use Rattle.tree.specs.declared.lookup.Opened.{Opened}
-use Rattle.tree.specs.declared.lookup.Opened.TheVariants.{Refused, Open}
-use Rattle.tree.specs.declared.get.Got.{Got}
-use Rattle.tree.specs.declared.get.Got.TheVariants as getting
-use Rattle.tree.specs.declared.floor.Floor.{Floor}
-use Rattle.tree.specs.declared.floor.Floor.TheVariants as flooring
+use Rattle.tree.specs.declared.get.Copied.{Copied}
 use Rattle.tree.specs.declared.range.Ranged.{Ranged}
-use Rattle.tree.specs.declared.range.Ranged.TheVariants as ranging
-use Rattle.tree.specs.declared.edited.Edited.{Edited}
-use Rattle.tree.specs.declared.edited.Edited.TheVariants as editing
-use Rattle.tree.specs.declared.edited.Removed.{Removed}
-use Rattle.tree.specs.declared.edited.Removed.TheVariants as taking
 
 -- ---- what is required
 
@@ -80,40 +72,36 @@ pub record Trusts (image : List ℕ) (l : Lent) (t : Tree) (heads bytes : List �
 -- ---- what is left
 
 -- an accepted open leaves a tree to be trusted
-abbrev pub OpenedTrusts : List ℕ → Lent → List ℕ → List ℕ → Opened → Type 0
-OpenedTrusts image l heads bytes (Refused x) = Unit {0}
-OpenedTrusts image l heads bytes (Open t) = Trusts image l t heads bytes
+abbrev pub OpenedTrusts : List ℕ → Lent → List ℕ → List ℕ → std.Result Tree Refusal → Type 0
+OpenedTrusts image l heads bytes (Err x) = Unit {0}
+OpenedTrusts image l heads bytes (Ok t) = Trusts image l t heads bytes
 
 -- a refused get leaves the tree as it was, an accepted one a tree to be trusted
-abbrev pub GotCalled : List ℕ → Lent → Tree → List ℕ → List ℕ → List ℕ → List ℕ → Got → Type 0
-GotCalled image l t heads bytes heads' bytes' (getting.Refused x) =
+abbrev pub GotCalled : List ℕ → Lent → Tree → List ℕ → List ℕ → List ℕ → List ℕ → std.Result (Tree × Option Copied) Refusal → Type 0
+GotCalled image l t heads bytes heads' bytes' (Err x) =
     (state_of l.size t heads' bytes' ≡ state_of l.size t heads bytes) × Ready l.size l.slots t.used heads' bytes'
-GotCalled image l t heads bytes heads' bytes' (getting.None u) = Trusts image l u heads' bytes'
-GotCalled image l t heads bytes heads' bytes' (getting.Ghost u) = Trusts image l u heads' bytes'
-GotCalled image l t heads bytes heads' bytes' (getting.Value u n) = Trusts image l u heads' bytes'
+GotCalled image l t heads bytes heads' bytes' (Ok (u, c)) = Trusts image l u heads' bytes'
 
 -- a refused floor leaves the tree as it was, an accepted one a tree to be trusted
-abbrev pub FloorCalled : List ℕ → Lent → Tree → List ℕ → List ℕ → List ℕ → List ℕ → Floor → Type 0
-FloorCalled image l t heads bytes heads' bytes' (flooring.Refused x) =
+abbrev pub FloorCalled : List ℕ → Lent → Tree → List ℕ → List ℕ → List ℕ → List ℕ → std.Result (Tree × Option ℕ) Refusal → Type 0
+FloorCalled image l t heads bytes heads' bytes' (Err x) =
     (state_of l.size t heads' bytes' ≡ state_of l.size t heads bytes) × Ready l.size l.slots t.used heads' bytes'
-FloorCalled image l t heads bytes heads' bytes' (flooring.None u) = Trusts image l u heads' bytes'
-FloorCalled image l t heads bytes heads' bytes' (flooring.Record u n) = Trusts image l u heads' bytes'
+FloorCalled image l t heads bytes heads' bytes' (Ok (u, n)) = Trusts image l u heads' bytes'
 
 -- a refused range leaves the tree as it was, an accepted one a tree to be trusted
-abbrev pub RangeCalled : List ℕ → Lent → Tree → List ℕ → List ℕ → List ℕ → List ℕ → Ranged → Type 0
-RangeCalled image l t heads bytes heads' bytes' (ranging.Refused x) =
+abbrev pub RangeCalled : List ℕ → Lent → Tree → List ℕ → List ℕ → List ℕ → List ℕ → std.Result Ranged Refusal → Type 0
+RangeCalled image l t heads bytes heads' bytes' (Err x) =
     (state_of l.size t heads' bytes' ≡ state_of l.size t heads bytes) × Ready l.size l.slots t.used heads' bytes'
-RangeCalled image l t heads bytes heads' bytes' (ranging.Done u k m) = Trusts image l u heads' bytes'
+RangeCalled image l t heads bytes heads' bytes' (Ok r) = Trusts image l r.tree heads' bytes'
 
 -- a refused edit leaves the tree as it was, an accepted one a tree to be trusted
-abbrev pub EditedCalled : List ℕ → Lent → Tree → List ℕ → List ℕ → List ℕ → List ℕ → Edited → Type 0
-EditedCalled image l t heads bytes heads' bytes' (editing.Refused x) =
+abbrev pub EditedCalled : List ℕ → Lent → Tree → List ℕ → List ℕ → List ℕ → List ℕ → std.Result Tree Refusal → Type 0
+EditedCalled image l t heads bytes heads' bytes' (Err x) =
     (state_of l.size t heads' bytes' ≡ state_of l.size t heads bytes) × Ready l.size l.slots t.used heads' bytes'
-EditedCalled image l t heads bytes heads' bytes' (editing.Done u) = Trusts image l u heads' bytes'
+EditedCalled image l t heads bytes heads' bytes' (Ok u) = Trusts image l u heads' bytes'
 
 -- the same of remove
-abbrev pub RemovedCalled : List ℕ → Lent → Tree → List ℕ → List ℕ → List ℕ → List ℕ → Removed → Type 0
-RemovedCalled image l t heads bytes heads' bytes' (taking.Refused x) =
+abbrev pub RemovedCalled : List ℕ → Lent → Tree → List ℕ → List ℕ → List ℕ → List ℕ → std.Result (Tree × Bool) Refusal → Type 0
+RemovedCalled image l t heads bytes heads' bytes' (Err x) =
     (state_of l.size t heads' bytes' ≡ state_of l.size t heads bytes) × Ready l.size l.slots t.used heads' bytes'
-RemovedCalled image l t heads bytes heads' bytes' (taking.Yes u) = Trusts image l u heads' bytes'
-RemovedCalled image l t heads bytes heads' bytes' (taking.No u) = Trusts image l u heads' bytes'
+RemovedCalled image l t heads bytes heads' bytes' (Ok (u, there)) = Trusts image l u heads' bytes'

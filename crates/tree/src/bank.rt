@@ -1,11 +1,10 @@
 // The workspace: a slot read, a slot written. A function that writes one leaves every other as it was.
-ghost use Rattle.std.specs.Prelude.{◌≡◌, true, cond, ◌+◌, ◌*◌, ◌≤◌, ◌<◌, length};
+ghost use Rattle.std.specs.Prelude.{◌≡◌, true, ◌+◌, ◌*◌, ◌≤◌, ◌<◌, length};
 ghost use Rattle.node.specs.Entry.{mem};
 ghost use Rattle.node.specs.Find.{val_at};
 ghost use Rattle.node.specs.Records.{records_length, entries_of};
 ghost use Rattle.node.specs.Slot.{head_at, with_value, is_child};
 ghost use Rattle.node.specs.Read.{spans_length, on_disk};
-ghost use Rattle.node.specs.internal.ReadSteps.{Sound};
 ghost use Rattle.tree.specs.State.{with_entries, marked_dirty};
 ghost use Rattle.tree.specs.Load.{adopted};
 ghost use Rattle.tree.specs.Workspace.{slot_bytes};
@@ -15,8 +14,9 @@ ghost use Rattle.tree.specs.internal.Undo.{Follows};
 
 use crate::undo;
 use node::head::Head;
-use node::read::Node;
-use node::{adopt, bytes, head, record, slot};
+use node::read::ReadNode;
+use node::slot::Records;
+use node::{head, record, slot};
 
 // A slot's bytes: so many blocks' worth.
 pub const SLOT_BLOCKS: usize = 4;
@@ -27,15 +27,9 @@ pub fn live_of(h: Head) -> Head
 {
     if h.dead == 1 {
         return Head {
-            level: h.level,
             count: 0,
             used: 0,
-            placed: h.placed,
-            block: h.block,
-            named: h.named,
-            id: h.id,
-            dirty: h.dirty,
-            dead: h.dead,
+            ..h
         };
     }
     h
@@ -66,7 +60,7 @@ fn link_part(slot: &mut [u8], count: u64, i: u64, c: u64)
     ensures { (records_length count slot.new ≡ records_length count slot.old)
         × (entries_of count slot.new ≡ with_value i (mem c) (entries_of count slot.old)) }
 {
-    let at = slot::offset_of(slot, count, i);
+    let at = Records { slot, count }.offset_of(i);
     slot::relink(slot, count, i, at, record::MEM, c);
 }
 
@@ -133,34 +127,13 @@ pub fn mark_dirty(
 {
     undo::save(heads, bytes, size, slots, used, n);
     let h = Head::load(heads, n);
-    let d = Head {
-        level: h.level,
-        count: h.count,
-        used: h.used,
-        placed: h.placed,
-        block: h.block,
-        named: h.named,
-        id: h.id,
-        dirty: 1,
-        dead: h.dead,
-    };
+    let d = Head { dirty: 1, ..h };
     d.store(heads, n);
-}
-
-// 1 for a mark that is set.
-pub fn one_if(on: bool) -> u64
-    ensures { result ≡ cond on 1 0 }
-{
-    if on {
-        return 1;
-    }
-    0
 }
 
 // A node that was read, in slot c: its entries as records, and its words.
 pub fn adopt_into(
-    block: &[u8],
-    v: Node,
+    read: ReadNode<'_>,
     heads: &mut [u64],
     bytes: &mut [u8],
     size: usize,
@@ -168,16 +141,15 @@ pub fn adopt_into(
     by_id: bool,
     a: u64,
 )
-    requires sound { Sound v block.now }
-    requires nkeys_bound { spans_length v block.now 0 v.nkeys ≤ 65532 }
-    requires block_len { (length block.now ≡ size) × (size ≤ 65536) × (c ≤ 4096) × (c * 9 + 9 ≤ length heads.old)
+    requires few { spans_length read.node read.block.now 0 read.node.nkeys ≤ 65532 }
+    requires room { (length read.block.now ≡ size) × (size ≤ 65536) × (c ≤ 4096) × (c * 9 + 9 ≤ length heads.old)
         × (c * (4 * size) + 4 * size ≤ length bytes.old) }
     ensures { Wrote size heads.old bytes.old heads.new bytes.new c
-        (adopted by_id a (on_disk v block.now)) }
+        (adopted by_id a (on_disk read.entry.node read.entry.block.now)) }
 {
     let s = c * (SLOT_BLOCKS * size);
     let e = s + SLOT_BLOCKS * size;
-    let used = adopt::adopt(block, v, &mut bytes[s..e]);
-    let h = head::head_of(v, used, a, by_id);
+    let used = read.adopt(&mut bytes[s..e]);
+    let h = head::head_of(read.node, used, a, by_id);
     h.store(heads, c);
 }

@@ -13,6 +13,7 @@ use crate::bank;
 use crate::editor::Tree;
 use node::build::NodeBuild;
 use node::head::Head;
+use node::slot::Records;
 use node::{fit, pack};
 
 // What is known of a slot's node beside its level and its records; a dead slot has none.
@@ -52,15 +53,12 @@ pub fn rewrite(heads: &mut [u64], n: usize, a: u64, named: u64, id: u64)
 {
     let h = Head::load(heads, n);
     let w = Head {
-        level: h.level,
-        count: h.count,
-        used: h.used,
         placed: 1,
         block: a,
-        named: named,
-        id: id,
+        named,
+        id,
         dirty: 0,
-        dead: h.dead,
+        ..h
     };
     w.store(heads, n);
 }
@@ -99,7 +97,11 @@ impl Tree {
             info: info,
         };
         let part = bank::slot_of(bytes, size, n);
-        pack::pack(dst, part, h.count as usize, heads, self.by_id, build);
+        let records = Records {
+            slot: part,
+            count: h.count,
+        };
+        pack::pack(dst, records, heads, self.by_id, build);
     }
 
     // What the root takes as packed: contents, keys and values.
@@ -113,8 +115,11 @@ impl Tree {
         let root = self.root;
         let h = bank::live_at(heads, root);
         let part = bank::slot_of(bytes, size, root);
-        let info = self.info;
-        fit::packed_length(part, h.count as usize, info, true, h.level)
+        let records = Records {
+            slot: part,
+            count: h.count,
+        };
+        records.packed_length(self.info, true, h.level)
     }
 
     // The data space of a root.

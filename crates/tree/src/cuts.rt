@@ -10,20 +10,20 @@ ghost use Rattle.tree.specs.Trusts.{Ready};
 ghost use Rattle.tree.specs.internal.Undo.{Follows};
 ghost use Rattle.tree.specs.internal.Index.{Rewritten, steps_from};
 ghost use Rattle.tree.specs.internal.Edits.{above_of, CutFits, CutsFit, ReadyEdited};
-ghost use Rattle.tree.specs.internal.Cutting.{up_of, room_code, counted, stays_whole, child_put, ChildFits, root_added, RootFits, CutIs};
+ghost use Rattle.tree.specs.internal.Cutting.{up_of, room_of, counted, stays_whole, child_put, ChildFits, root_added, RootFits, CutIs};
 
-use crate::edited::Edited;
 use crate::editor::Tree;
 use crate::lent::Lent;
 use crate::{bank, undo, writers};
 use node::head::Head;
 use node::info::BTreeInfo;
-use node::{bytes, cut, fit, record, refusal};
+use node::refusal::Refusal;
+use node::slot::Records;
+use node::{bytes, fit, record};
 
-// The step of a way above a node; none above the root.
+// The step of a way above a node.
 #[derive(Clone, Copy)]
 pub struct Up {
-    pub some: bool,
     pub slot: usize,
     pub child: u64,
 }
@@ -34,39 +34,34 @@ const MOST_COUNT: u64 = 0xFFFFFFFFFFFFFFFF;
 // The highest level of a node.
 const MOST_LEVEL: u64 = 32;
 
-// The step above step j of a way.
-fn step_above(way: &[usize], kids: &[u64], j: usize) -> Up
+// The step above step j of a way; none above the root.
+fn step_above(way: &[usize], kids: &[u64], j: usize) -> Option<Up>
     requires { (j ≤ length way.now) × (j ≤ length kids.now) }
     ensures { up_of result ≡ above_of way.now kids.now j }
 {
     if j == 0 {
-        return Up {
-            some: false,
-            slot: 0,
-            child: 0,
-        };
+        return None;
     }
-    Up {
-        some: true,
+    Some(Up {
         slot: way[j - 1],
         child: kids[j - 1],
-    }
+    })
 }
 
 impl Tree {
-    // 17 and 11: the refusal where node count or slots have no room for n nodes made, else 0.
-    fn room_for(self, slots: usize, n: usize) -> u64
+    // 17 and 11: whether node count and slots have room for n nodes made.
+    fn room_for(self, slots: usize, n: usize) -> Result<(), Refusal>
         requires { (self.used ≤ slots) × (slots ≤ 4096) × (n ≤ 2) }
-        ensures { result ≡ room_code self.info.node_count self.used slots n }
+        ensures { result ≡ room_of self.info.node_count self.used slots n }
     {
         let info = self.info;
         if MOST_COUNT - (n as u64) < info.node_count {
-            return refusal::COUNT;
+            return Err(Refusal::Count);
         }
         if slots < self.used + n {
-            return refusal::NO_SLOT;
+            return Err(Refusal::NoSlot);
         }
-        refusal::NONE
+        Ok(())
     }
 
     // So many nodes more in the node count.
@@ -74,18 +69,10 @@ impl Tree {
         requires { self.info.node_count + n < 2 ^ 64 }
         ensures { result ≡ counted self n }
     {
-        let info = self.info;
-        let more = BTreeInfo {
-            flags: info.flags,
-            node_size: info.node_size,
-            key_size: info.key_size,
-            val_size: info.val_size,
-            longest_key: info.longest_key,
-            longest_val: info.longest_val,
-            key_count: info.key_count,
-            node_count: info.node_count + n,
+        self.info = BTreeInfo {
+            node_count: self.info.node_count + n,
+            ..self.info
         };
-        self.info = more;
         self
     }
 
@@ -99,15 +86,11 @@ impl Tree {
         if h.dead == 1 {
             return true;
         }
-        let part = bank::slot_of(bytes, size, n);
-        fit::fits(
-            part,
-            h.count as usize,
-            h.used,
-            self.info,
-            n == self.root,
-            h.level,
-        )
+        let records = Records {
+            slot: bank::slot_of(bytes, size, n),
+            count: h.count,
+        };
+        records.fits(h.used, self.info, n == self.root, h.level)
     }
 
     // Before entry i of slot n, the child in slot c under its first key; slot n is dirty.
@@ -129,7 +112,7 @@ impl Tree {
     {
         let len = self.first_key(heads, bytes, size, slots, c, scratch);
         let mut number = [0u8; 8];
-        bytes::put_u64(&mut number, 0, c as u64);
+        bytes::put_field::<8>(&mut number, 0, c as u64);
         let at = writers::offset_at(heads, bytes, size, slots, self.used, n, i);
         writers::insert_at(
             heads,
@@ -170,24 +153,17 @@ impl Tree {
             level: h.level + 1,
             count: 0,
             used: 0,
-            placed: h.placed,
-            block: h.block,
-            named: h.named,
-            id: h.id,
             dirty: 1,
             dead: 0,
+            ..h
         };
         top.store(heads, c);
         let left = Head {
-            level: h.level,
-            count: h.count,
-            used: h.used,
             placed: 0,
             block: 0,
             named: 0,
             id: 0,
-            dirty: h.dirty,
-            dead: h.dead,
+            ..h
         };
         left.store(heads, n);
         self.root = c;
@@ -252,7 +228,7 @@ impl Tree {
         place: u64,
         at: usize,
         scratch: &mut [u8],
-    ) -> Edited
+    ) -> Result<Tree, Refusal>
         requires ready { (Ready lent.size lent.slots self.used heads.old bytes.old) × (lent.size ≤ length scratch.old) }
         requires room { (CutFits lent.size (state_of lent.size self heads.old bytes.old) [] n)
             × (CutIs lent.size self heads.old bytes.old n place at) }
@@ -262,16 +238,13 @@ impl Tree {
         ensures follows { Follows lent.size lent.slots self.used heads.old bytes.old heads.new bytes.new }
     {
         if !self.new_root_holds(heads, bytes, lent.size, lent.slots, n, place) {
-            return Edited::Refused(refusal::NEW_ROOT);
+            return Err(Refusal::NewRoot);
         }
-        let room = self.room_for(lent.slots, 2);
-        if room != refusal::NONE {
-            return Edited::Refused(room);
-        }
+        self.room_for(lent.slots, 2)?;
         let r = self.used;
         let t = self.part(heads, bytes, lent.size, lent.slots, n, place, at);
         let top = t.grow_root(heads, bytes, lent.size, lent.slots, n, r, scratch);
-        Edited::Done(top.more_nodes(2))
+        Ok(top.more_nodes(2))
     }
 
     // Slot n, a child, cut after so many entries: 17, 11. Its right part stands after it.
@@ -285,20 +258,16 @@ impl Tree {
         place: u64,
         at: usize,
         scratch: &mut [u8],
-    ) -> Edited
-        requires ready { (Ready lent.size lent.slots self.used heads.old bytes.old) × (lent.size ≤ length scratch.old)
-            × (up.some ≡ true) }
-        requires room { (CutFits lent.size (state_of lent.size self heads.old bytes.old) (up_of up) n)
+    ) -> Result<Tree, Refusal>
+        requires ready { (Ready lent.size lent.slots self.used heads.old bytes.old) × (lent.size ≤ length scratch.old) }
+        requires room { (CutFits lent.size (state_of lent.size self heads.old bytes.old) (up_of (Some up)) n)
             × (CutIs lent.size self heads.old bytes.old n place at) }
         ensures answer { edited_of lent.size heads.new bytes.new result
-            ≡ cut_at (lent_of [] lent) (up_of up) n place (state_of lent.size self heads.old bytes.old) }
+            ≡ cut_at (lent_of [] lent) (up_of (Some up)) n place (state_of lent.size self heads.old bytes.old) }
         ensures ready { ReadyEdited lent.size lent.slots heads.new bytes.new result }
         ensures follows { Follows lent.size lent.slots self.used heads.old bytes.old heads.new bytes.new }
     {
-        let room = self.room_for(lent.slots, 1);
-        if room != refusal::NONE {
-            return Edited::Refused(room);
-        }
+        self.room_for(lent.slots, 1)?;
         let r = self.used;
         let t = self.part(heads, bytes, lent.size, lent.slots, n, place, at);
         t.link_child(
@@ -311,7 +280,7 @@ impl Tree {
             r,
             scratch,
         );
-        Edited::Done(t.more_nodes(1))
+        Ok(t.more_nodes(1))
     }
 
     // A node that does not fit is cut: 13, 14, at the root 15, 17, 11.
@@ -320,10 +289,10 @@ impl Tree {
         heads: &mut [u64],
         bytes: &mut [u8],
         lent: Lent,
-        up: Up,
+        up: Option<Up>,
         n: usize,
         scratch: &mut [u8],
-    ) -> Edited
+    ) -> Result<Tree, Refusal>
         requires ready { (Ready lent.size lent.slots self.used heads.old bytes.old) × (lent.size ≤ length scratch.old) }
         requires room { CutFits lent.size (state_of lent.size self heads.old bytes.old) (up_of up) n }
         ensures answer { edited_of lent.size heads.new bytes.new result
@@ -332,20 +301,26 @@ impl Tree {
         ensures follows { Follows lent.size lent.slots self.used heads.old bytes.old heads.new bytes.new }
     {
         if self.fits_at(heads, bytes, lent.size, lent.slots, n) {
-            return Edited::Done(self);
+            return Ok(self);
         }
         let h = Head::load(heads, n);
-        let part = bank::slot_of(bytes, lent.size, n);
-        let place = cut::cut(part, h.count as usize, self.info, h.level);
-        match place {
-            cut::Answer::TooLarge => Edited::Refused(refusal::SINGLE),
-            cut::Answer::Nowhere => Edited::Refused(refusal::NO_CUT),
-            cut::Answer::After { place, at } => {
-                if up.some {
-                    return self.cut_child(heads, bytes, lent, up, n, place as u64, at, scratch);
-                }
-                self.cut_root(heads, bytes, lent, n, place as u64, at, scratch)
-            }
+        let records = Records {
+            slot: bank::slot_of(bytes, lent.size, n),
+            count: h.count,
+        };
+        let found = records.cut(self.info, h.level)?;
+        match up {
+            None => self.cut_root(heads, bytes, lent, n, found.place as u64, found.at, scratch),
+            Some(up) => self.cut_child(
+                heads,
+                bytes,
+                lent,
+                up,
+                n,
+                found.place as u64,
+                found.at,
+                scratch,
+            ),
         }
     }
 
@@ -359,7 +334,7 @@ impl Tree {
         kids: &[u64],
         steps: usize,
         scratch: &mut [u8],
-    ) -> Edited
+    ) -> Result<Tree, Refusal>
         requires ready { (Ready lent.size lent.slots self.used heads.old bytes.old)
             × (steps ≤ length way.now) × (steps ≤ length kids.now) }
         requires room { (CutsFit (lent_of [] lent) (state_of lent.size self heads.old bytes.old) way.now kids.now steps)
@@ -371,21 +346,10 @@ impl Tree {
         ensures follows { Follows lent.size lent.slots self.used heads.old bytes.old heads.new bytes.new }
     {
         let mut t = self;
-        let mut j: usize = steps;
-        while 0 < j {
-            let up = step_above(way, kids, j - 1);
-            let n = way[j - 1];
-            let done = t.cut_node(heads, bytes, lent, up, n, scratch);
-            match done {
-                Edited::Refused(x) => {
-                    return Edited::Refused(x);
-                }
-                Edited::Done(t2) => {
-                    t = t2;
-                    j -= 1;
-                }
-            }
+        for j in (0..steps).rev() {
+            let up = step_above(way, kids, j);
+            t = t.cut_node(heads, bytes, lent, up, way[j], scratch)?;
         }
-        Edited::Done(t)
+        Ok(t)
     }
 }

@@ -31,11 +31,8 @@ impl Tree {
         ensures { Dirtied size slots self way.now steps heads.old bytes.old
             heads.new bytes.new }
     {
-        let mut j: usize = 0;
-        while j < steps {
-            let n = way[j];
+        for &n in &way[..steps] {
             bank::mark_dirty(heads, bytes, size, slots, self.used, n);
-            j += 1;
         }
     }
 
@@ -87,7 +84,7 @@ impl Tree {
         let h = bank::live_at(heads, n);
         let w = bank::SLOT_BLOCKS * size;
         let rest = h.used as usize - at;
-        bytes::move_up(bytes, n * w + at, c * w, rest);
+        bytes::shift(bytes, n * w + at, c * w, rest);
         let right = Head {
             level: h.level,
             count: h.count - i,
@@ -101,15 +98,10 @@ impl Tree {
         };
         right.store(heads, c);
         let left = Head {
-            level: h.level,
             count: i,
             used: at as u64,
-            placed: h.placed,
-            block: h.block,
-            named: h.named,
-            id: h.id,
             dirty: 1,
-            dead: h.dead,
+            ..h
         };
         left.store(heads, n);
         self.used = c + 1;
@@ -250,13 +242,11 @@ impl Tree {
         ensures { Rewritten size slots self heads.old bytes.old heads.new bytes.new
             (index_keys (steps_of way.now kids.now steps) (state_of size self heads.old bytes.old)) }
     {
-        let mut j: usize = steps - 1;
-        while 0 < j {
+        for j in (1..steps).rev() {
             let n = way[j - 1];
             let i = kids[j - 1];
             let c = way[j];
             self.set_index_key(heads, bytes, size, slots, n, i, c, scratch);
-            j -= 1;
         }
     }
 }

@@ -1,9 +1,9 @@
 // An open tree: its numbers by value, its nodes in slots. A child loaded.
-ghost use Rattle.std.specs.Prelude.{◌≡◌, true, ◌+◌, ◌≤◌, ◌<◌, ◌^◌, length};
+ghost use Rattle.std.specs.Prelude.{◌≡◌, true, ◌+◌, ◌≤◌, ◌<◌, ◌^◌, length, Some};
+ghost use Rattle.node.specs.declared.val.Child.TheVariants.{Disk};
 ghost use Rattle.node.specs.Find.{key_at, val_at};
 ghost use Rattle.node.specs.Slot.{head_at, is_child};
 ghost use Rattle.node.specs.Read.{spans_length, on_disk, read_of};
-ghost use Rattle.node.specs.internal.ReadSteps.{Sound};
 ghost use Rattle.tree.specs.Lent.{block_at, lent_of};
 ghost use Rattle.tree.specs.State.{node_at};
 ghost use Rattle.tree.specs.Load.{bound_key, tighter_lower, tighter_upper, child_bounds, load_child};
@@ -14,14 +14,15 @@ ghost use Rattle.tree.specs.Workspace.{state_of};
 ghost use Rattle.tree.specs.internal.Tree.{child_of, bound_of, BoundIn, BoundsIn, bounds_of, read_child, fetched_at, loaded_of, ReadyAfter};
 
 use crate::lent::Lent;
-use crate::map::Address;
 use crate::{bank, map};
 use node::head::Head;
 use node::info::BTreeInfo;
 use node::order::Order;
-use node::read::{Node, Place, Read};
+use node::read::{Node, Place, ReadNode};
+use node::record::Record;
+use node::refusal::Refusal;
+use node::slot::Records;
 use node::val::{Child, Val};
-use node::{refusal, slot};
 
 #[derive(Clone, Copy)]
 pub struct Tree {
@@ -36,33 +37,25 @@ pub struct Tree {
     pub xid: u64,
 }
 
-// A bound: the index key of an entry of a slot, or none.
+// A bound: the index key of an entry of a slot.
 #[derive(Clone, Copy)]
 pub struct Bound {
-    pub some: bool,
     pub slot: usize,
     pub index: u64,
 }
 
+// The bounds of a node's keys; the first node of the first has no lower one, the last of the last no upper one.
 #[derive(Clone, Copy)]
 pub struct Bounds {
-    pub lower: Bound,
-    pub upper: Bound,
+    pub lower: Option<Bound>,
+    pub upper: Option<Bound>,
 }
 
-// What an entry holds, if it is a child.
-#[derive(Clone, Copy)]
-pub enum ChildAt {
-    None,
-    Disk(u64),
-    Mem(u64),
-}
-
-#[derive(Clone, Copy)]
-pub enum Loaded {
-    Refused(u64),
-    At(Tree, usize),
-}
+// No bounds: a root's.
+pub const UNBOUNDED: Bounds = Bounds {
+    lower: None,
+    upper: None,
+};
 
 impl Tree {
     // The key of an entry of a slot; none where there is no such slot or entry.
@@ -87,8 +80,12 @@ impl Tree {
             return &bytes[..0];
         }
         let part = bank::slot_of(bytes, size, n);
-        let at = slot::offset_of(part, h.count, i);
-        slot::key_of(part, at)
+        let records = Records {
+            slot: part,
+            count: h.count,
+        };
+        let at = records.offset_of(i);
+        Record { slot: part, at }.key()
     }
 
     // The child of an entry of a slot.
@@ -100,28 +97,28 @@ impl Tree {
         slots: usize,
         n: usize,
         i: u64,
-    ) -> ChildAt
+    ) -> Option<Child>
         requires { Ready size slots self.used heads.now bytes.now }
         ensures { result
             ≡ child_of (val_at (node_at (state_of size self heads.now bytes.now) n).entries i) }
     {
         if self.used <= n {
-            return ChildAt::None;
+            return None;
         }
         let h = bank::live_at(heads, n);
         if h.count <= i {
-            return ChildAt::None;
+            return None;
         }
         let part = bank::slot_of(bytes, size, n);
-        let at = slot::offset_of(part, h.count, i);
-        let v = slot::value_of(part, at);
-        match v {
-            Val::Ghost => ChildAt::None,
-            Val::Leaf(_, _) => ChildAt::None,
-            Val::Child(c) => match c {
-                Child::Disk(r) => ChildAt::Disk(r),
-                Child::Mem(s) => ChildAt::Mem(s),
-            },
+        let records = Records {
+            slot: part,
+            count: h.count,
+        };
+        let at = records.offset_of(i);
+        match (Record { slot: part, at }.value()) {
+            Val::Ghost => None,
+            Val::Leaf(_, _) => None,
+            Val::Child(c) => Some(c),
         }
     }
 
@@ -158,15 +155,15 @@ impl Tree {
         bytes: &'a [u8],
         size: usize,
         slots: usize,
-        b: Bound,
+        b: Option<Bound>,
     ) -> &'a [u8]
         requires { Ready size slots self.used heads.now bytes.now }
         ensures { result.now ≡ bound_key (bound_of (state_of size self heads.now bytes.now) b) }
     {
-        if !b.some {
-            return &bytes[..0];
+        match b {
+            None => &bytes[..0],
+            Some(b) => self.key_at(heads, bytes, size, slots, b.slot, b.index),
         }
-        self.key_at(heads, bytes, size, slots, b.slot, b.index)
     }
 
     // The higher of a lower bound and the key of entry i of slot n.
@@ -176,26 +173,22 @@ impl Tree {
         bytes: &[u8],
         size: usize,
         slots: usize,
-        b: Bound,
+        b: Option<Bound>,
         n: usize,
         i: u64,
-    ) -> Bound
+    ) -> Option<Bound>
         requires { Ready size slots self.used heads.now bytes.now }
         ensures bound { bound_of (state_of size self heads.now bytes.now) result
             ≡ tighter_lower self.order (bound_of (state_of size self heads.now bytes.now) b)
             (key_at (node_at (state_of size self heads.now bytes.now) n).entries i) }
         ensures within { BoundIn self.used b → n < self.used → BoundIn self.used result }
     {
-        let new = Bound {
-            some: true,
-            slot: n,
-            index: i,
-        };
-        if !b.some {
+        let new = Some(Bound { slot: n, index: i });
+        let Some(bound) = b else {
             return new;
-        }
+        };
         let order = Order { code: self.order };
-        let old = self.key_at(heads, bytes, size, slots, b.slot, b.index);
+        let old = self.key_at(heads, bytes, size, slots, bound.slot, bound.index);
         let key = self.key_at(heads, bytes, size, slots, n, i);
         if order.less(old, key) {
             return new;
@@ -210,26 +203,22 @@ impl Tree {
         bytes: &[u8],
         size: usize,
         slots: usize,
-        b: Bound,
+        b: Option<Bound>,
         n: usize,
         i: u64,
-    ) -> Bound
+    ) -> Option<Bound>
         requires { Ready size slots self.used heads.now bytes.now }
         ensures bound { bound_of (state_of size self heads.now bytes.now) result
             ≡ tighter_upper self.order (bound_of (state_of size self heads.now bytes.now) b)
             (key_at (node_at (state_of size self heads.now bytes.now) n).entries i) }
         ensures within { BoundIn self.used b → n < self.used → BoundIn self.used result }
     {
-        let new = Bound {
-            some: true,
-            slot: n,
-            index: i,
-        };
-        if !b.some {
+        let new = Some(Bound { slot: n, index: i });
+        let Some(bound) = b else {
             return new;
-        }
+        };
         let order = Order { code: self.order };
-        let old = self.key_at(heads, bytes, size, slots, b.slot, b.index);
+        let old = self.key_at(heads, bytes, size, slots, bound.slot, bound.index);
         let key = self.key_at(heads, bytes, size, slots, n, i);
         if order.less(key, old) {
             return new;
@@ -279,7 +268,7 @@ impl Tree {
         n: usize,
         r: u64,
         a: u64,
-    ) -> Read
+    ) -> Result<Node, Refusal>
         requires { Ready lent.size lent.slots self.used heads.now bytes.now }
         ensures { read_of (block_at (lent_of image.now lent) a) result
             ≡ read_child (lent_of image.now lent) (state_of lent.size self heads.now bytes.now)
@@ -294,7 +283,7 @@ impl Tree {
             parent: self.level_at(heads, bytes, lent.size, lent.slots, n),
             ksize: info.key_size,
             vsize: info.val_size,
-            bounded: upper.some,
+            bounded: upper.is_some(),
         };
         let order = Order { code: self.order };
         let lo = self.bound_key(heads, bytes, lent.size, lent.slots, lower);
@@ -305,8 +294,7 @@ impl Tree {
     // A node that was read, brought into the next slot as child i of slot n.
     pub fn bring(
         mut self,
-        block: &[u8],
-        v: Node,
+        read: ReadNode<'_>,
         heads: &mut [u64],
         bytes: &mut [u8],
         size: usize,
@@ -316,18 +304,17 @@ impl Tree {
         a: u64,
     ) -> Tree
         requires ready_2 { Ready size slots self.used heads.old bytes.old }
-        requires sound { Sound v block.now }
-        requires nkeys_bound { (spans_length v block.now 0 v.nkeys ≤ 65532) × (length block.now ≡ size)
+        requires nkeys_bound { (spans_length read.node read.block.now 0 read.node.nkeys ≤ 65532) × (length read.block.now ≡ size)
             × (self.used < slots) × (n < self.used) × (i < (live (head_at heads.old n)).count)
             × (is_child (val_at (node_at (state_of size self heads.old bytes.old) n).entries i) ≡ true) }
         ensures after { state_of size result heads.new bytes.new
-            ≡ (brought (state_of size self heads.old bytes.old) n i (on_disk v block.now) a).state }
+            ≡ (brought (state_of size self heads.old bytes.old) n i (on_disk read.entry.node read.entry.block.now) a).state }
         ensures ready { Ready size slots result.used heads.new bytes.new }
         ensures follows { Follows size slots self.used heads.old bytes.old heads.new bytes.new }
     {
         let c = self.used;
         bank::link(heads, bytes, size, slots, c, n, i, c as u64);
-        bank::adopt_into(block, v, heads, bytes, size, c, self.by_id, a);
+        bank::adopt_into(read, heads, bytes, size, c, self.by_id, a);
         self.used = c + 1;
         self
     }
@@ -344,27 +331,23 @@ impl Tree {
         i: u64,
         r: u64,
         a: u64,
-    ) -> Loaded
+    ) -> Result<(Tree, usize), Refusal>
         requires ready_2 { Ready lent.size lent.slots self.used heads.old bytes.old }
         requires used_lt_slots { (self.used < lent.slots)
             × (child_of (val_at (node_at (state_of lent.size self heads.old bytes.old) n).entries i)
-            ≡ ChildAt.Disk r) }
+            ≡ Some (Disk r)) }
         ensures answer { loaded_of lent.size heads.new bytes.new result
             ≡ fetched_at (lent_of image.now lent) (state_of lent.size self heads.old bytes.old)
             (bounds_of (state_of lent.size self heads.old bytes.old) b) n i r a }
         ensures ready { ReadyAfter lent.size lent.slots heads.new bytes.new result }
         ensures follows { Follows lent.size lent.slots self.used heads.old bytes.old heads.new bytes.new }
     {
-        let read = self.read_child(image, heads, bytes, lent, b, n, r, a);
-        match read {
-            Read::Refused(x) => Loaded::Refused(x),
-            Read::Loaded(v) => {
-                let c = self.used;
-                let block = map::block_of(image, lent.size, a);
-                let t = self.bring(block, v, heads, bytes, lent.size, lent.slots, n, i, a);
-                Loaded::At(t, c)
-            }
-        }
+        let node = self.read_child(image, heads, bytes, lent, b, n, r, a)?;
+        let c = self.used;
+        let block = map::block_of(image, lent.size, a);
+        let read = ReadNode { block, node };
+        let t = self.bring(read, heads, bytes, lent.size, lent.slots, n, i, a);
+        Ok((t, c))
     }
 
     // Child i of slot n: loaded already, or loaded now into the next slot.
@@ -377,7 +360,7 @@ impl Tree {
         b: Bounds,
         n: usize,
         i: u64,
-    ) -> Loaded
+    ) -> Result<(Tree, usize), Refusal>
         requires { Ready lent.size lent.slots self.used heads.old bytes.old }
         ensures answer { loaded_of lent.size heads.new bytes.new result
             ≡ load_child (lent_of image.now lent) (state_of lent.size self heads.old bytes.old)
@@ -385,22 +368,19 @@ impl Tree {
         ensures ready { ReadyAfter lent.size lent.slots heads.new bytes.new result }
         ensures follows { Follows lent.size lent.slots self.used heads.old bytes.old heads.new bytes.new }
     {
-        let child = self.child_at(heads, bytes, lent.size, lent.slots, n, i);
+        let held = self.child_at(heads, bytes, lent.size, lent.slots, n, i);
+        let Some(child) = held else {
+            return Err(Refusal::Lent);
+        };
         match child {
-            ChildAt::None => Loaded::Refused(refusal::LENT),
-            ChildAt::Mem(c) => Loaded::At(self, c as usize),
-            ChildAt::Disk(r) => {
+            Child::Mem(c) => Ok((self, c as usize)),
+            Child::Disk(r) => {
                 if lent.slots <= self.used {
-                    return Loaded::Refused(refusal::NO_SLOT);
+                    return Err(Refusal::NoSlot);
                 }
-                let found = map::address_of(image, lent, self.xid, r);
-                match found {
-                    Address::Refused(x) => Loaded::Refused(x),
-                    Address::At(a) => {
-                        let inner = self.child_bounds(heads, bytes, lent.size, lent.slots, b, n, i);
-                        self.fetch(image, heads, bytes, lent, inner, n, i, r, a)
-                    }
-                }
+                let a = map::address_of(image, lent, self.xid, r)?;
+                let inner = self.child_bounds(heads, bytes, lent.size, lent.slots, b, n, i);
+                self.fetch(image, heads, bytes, lent, inner, n, i, r, a)
             }
         }
     }

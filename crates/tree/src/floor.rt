@@ -1,5 +1,5 @@
 // The last entry not above a key: found on its way down, leftward only if the leaf has none.
-ghost use Rattle.std.specs.Prelude.{◌≡◌, ◌-◌, length};
+ghost use Rattle.std.specs.Prelude.{◌≡◌, length, IfSome};
 ghost use Rattle.node.specs.Records.{records_length};
 ghost use Rattle.node.specs.Result.{ok};
 ghost use Rattle.tree.specs.Lent.{lent_of};
@@ -10,52 +10,42 @@ ghost use Rattle.tree.specs.Trusts.{Ready, Trusts, FloorCalled};
 ghost use Rattle.tree.specs.internal.Tree.{bounds_of, BoundsIn};
 ghost use Rattle.tree.specs.internal.Undo.{Follows};
 ghost use Rattle.tree.specs.internal.Floor.{entry_in, last_means, EntryReady, LastReady, last_at, floor_at, left_from};
-ghost use Rattle.tree.specs.internal.Floor.{floored_of, floor_way, FloorReady, SpotOf};
+ghost use Rattle.tree.specs.internal.Floor.{floored_of, floor_way, FloorReady, SpotIs};
 
-use crate::editor::{Bound, Bounds, Loaded, Tree};
+use crate::editor::{Bounds, Tree, UNBOUNDED};
 use crate::lent::Lent;
 use crate::{bank, lent, undo};
+use node::bytes;
 use node::order::Order;
-use node::{bytes, record, refusal, slot};
+use node::record::Record;
+use node::refusal::Refusal;
+use node::slot::Records;
 
-// Where a lookup ended: refused, at no entry, or at an entry of a slot.
+// The entry of a slot that a lookup ended at.
 #[derive(Clone, Copy)]
-pub enum Last {
-    Refused(u64),
-    None(Tree),
-    At(Tree, usize, u64),
+pub struct Last {
+    pub slot: usize,
+    pub index: u64,
 }
 
-// Where an entry of a slot lies, if one was found.
+// The same, and where its record starts.
 #[derive(Clone, Copy)]
 pub struct Spot {
-    pub found: bool,
     pub slot: usize,
     pub index: u64,
     pub at: usize,
 }
 
-// The answer of floor; a record of so many bytes stands at the output's start.
-#[derive(Clone, Copy)]
-pub enum Floor {
-    Refused(u64),
-    None(Tree),
-    Record(Tree, usize),
-}
-
-// The place of the last of so many entries.
-pub fn last_index(count: u64) -> u64
-    ensures { result ≡ count - 1 }
-{
-    if count == 0 {
-        return 0;
-    }
-    count - 1
-}
-
 impl Tree {
     // The last entry of slot n.
-    fn last_at(self, heads: &[u64], bytes: &[u8], size: usize, slots: usize, n: usize) -> Last
+    fn last_at(
+        self,
+        heads: &[u64],
+        bytes: &[u8],
+        size: usize,
+        slots: usize,
+        n: usize,
+    ) -> Result<(Tree, Option<Last>), Refusal>
         requires { Ready size slots self.used heads.now bytes.now }
         ensures answer { last_means size heads.now bytes.now result
             ≡ ok (last_at (state_of size self heads.now bytes.now) n) }
@@ -63,9 +53,15 @@ impl Tree {
     {
         let count = self.count_at(heads, bytes, size, slots, n);
         if count == 0 {
-            return Last::None(self);
+            return Ok((self, None));
         }
-        Last::At(self, n, count - 1)
+        Ok((
+            self,
+            Some(Last {
+                slot: n,
+                index: count - 1,
+            }),
+        ))
     }
 
     // The last entry of slot n that is not above a key.
@@ -77,22 +73,32 @@ impl Tree {
         slots: usize,
         n: usize,
         key: &[u8],
-    ) -> Last
+    ) -> Result<(Tree, Option<Last>), Refusal>
         requires { Ready size slots self.used heads.now bytes.now }
         ensures answer { last_means size heads.now bytes.now result
             ≡ ok (floor_at (state_of size self heads.now bytes.now) n key.now) }
         ensures ready { LastReady size slots heads.now bytes.now result }
     {
         if self.used <= n {
-            return Last::None(self);
+            return Ok((self, None));
         }
         let h = bank::live_at(heads, n);
         let order = Order { code: self.order };
-        let last = slot::not_above(bank::slot_of(bytes, size, n), h.count, order, key);
+        let records = Records {
+            slot: bank::slot_of(bytes, size, n),
+            count: h.count,
+        };
+        let last = records.not_above(order, key);
         if last.count == 0 {
-            return Last::None(self);
+            return Ok((self, None));
         }
-        Last::At(self, n, last.count - 1)
+        Ok((
+            self,
+            Some(Last {
+                slot: n,
+                index: last.count - 1,
+            }),
+        ))
     }
 
     // The last entry d levels below slot n.
@@ -105,7 +111,7 @@ impl Tree {
         b: Bounds,
         n: usize,
         d: u64,
-    ) -> Last
+    ) -> Result<(Tree, Option<Last>), Refusal>
         requires ready_2 { Ready lent.size lent.slots self.used heads.old bytes.old }
         requires bounds_in { BoundsIn self.used b }
         ensures answer { last_means lent.size heads.new bytes.new result
@@ -121,13 +127,10 @@ impl Tree {
             return self.last_at(heads, bytes, lent.size, lent.slots, n);
         }
         let count = self.count_at(heads, bytes, lent.size, lent.slots, n);
-        let i = last_index(count);
+        let i = count.saturating_sub(1);
         let inner = self.child_bounds(heads, bytes, lent.size, lent.slots, b, n, i);
-        let got = self.load_child(image, heads, bytes, lent, b, n, i);
-        match got {
-            Loaded::Refused(x) => Last::Refused(x),
-            Loaded::At(t, c) => t.last_from(image, heads, bytes, lent, inner, c, d - 1),
-        }
+        let (t, c) = self.load_child(image, heads, bytes, lent, b, n, i)?;
+        t.last_from(image, heads, bytes, lent, inner, c, d - 1)
     }
 
     // Left of child i of slot n, where no entry below it answered: the last entry d levels below child i - 1,
@@ -143,7 +146,7 @@ impl Tree {
         i: u64,
         d: u64,
         key: &[u8],
-    ) -> Last
+    ) -> Result<(Tree, Option<Last>), Refusal>
         requires ready_2 { Ready lent.size lent.slots self.used heads.old bytes.old }
         requires bounds_in { BoundsIn self.used b }
         ensures answer { last_means lent.size heads.new bytes.new result
@@ -156,19 +159,16 @@ impl Tree {
             bytes.old heads.new bytes.new }
     {
         if i == 0 {
-            return Last::None(self);
+            return Ok((self, None));
         }
         let order = Order { code: self.order };
         let above = order.less(key, self.key_at(heads, bytes, lent.size, lent.slots, n, i));
         if above {
-            return Last::None(self);
+            return Ok((self, None));
         }
         let inner = self.child_bounds(heads, bytes, lent.size, lent.slots, b, n, i - 1);
-        let got = self.load_child(image, heads, bytes, lent, b, n, i - 1);
-        match got {
-            Loaded::Refused(x) => Last::Refused(x),
-            Loaded::At(t, c) => t.last_from(image, heads, bytes, lent, inner, c, d),
-        }
+        let (t, c) = self.load_child(image, heads, bytes, lent, b, n, i - 1)?;
+        t.last_from(image, heads, bytes, lent, inner, c, d)
     }
 
     // The last entry not above a key, d levels below slot n.
@@ -182,7 +182,7 @@ impl Tree {
         n: usize,
         d: u64,
         key: &[u8],
-    ) -> Last
+    ) -> Result<(Tree, Option<Last>), Refusal>
         requires ready_2 { Ready lent.size lent.slots self.used heads.old bytes.old }
         requires bounds_in { BoundsIn self.used b }
         ensures answer { last_means lent.size heads.new bytes.new result
@@ -199,17 +199,11 @@ impl Tree {
         }
         let i = self.way_index(heads, bytes, lent.size, lent.slots, n, key);
         let inner = self.child_bounds(heads, bytes, lent.size, lent.slots, b, n, i);
-        let got = self.load_child(image, heads, bytes, lent, b, n, i);
-        match got {
-            Loaded::Refused(x) => Last::Refused(x),
-            Loaded::At(t, c) => {
-                let found = t.floor_from(image, heads, bytes, lent, inner, c, d - 1, key);
-                match found {
-                    Last::Refused(x) => Last::Refused(x),
-                    Last::At(u, m, j) => Last::At(u, m, j),
-                    Last::None(u) => u.floor_left(image, heads, bytes, lent, b, n, i, d - 1, key),
-                }
-            }
+        let (t, c) = self.load_child(image, heads, bytes, lent, b, n, i)?;
+        let (u, found) = t.floor_from(image, heads, bytes, lent, inner, c, d - 1, key)?;
+        match found {
+            Some(_) => Ok((u, found)),
+            None => u.floor_left(image, heads, bytes, lent, b, n, i, d - 1, key),
         }
     }
 
@@ -222,7 +216,7 @@ impl Tree {
         slots: usize,
         spot: Spot,
         out: &mut [u8],
-    ) -> Floor
+    ) -> Result<(Tree, Option<usize>), Refusal>
         requires entry_ready { EntryReady size slots self heads.now bytes.now spot.slot spot.index }
         requires at_value { spot.at ≡ records_length spot.index (slot_bytes size bytes.now spot.slot) }
         ensures answer { floor_means size heads.now bytes.now out.new result
@@ -235,12 +229,12 @@ impl Tree {
     {
         let part = bank::slot_of(bytes, size, spot.slot);
         let at = spot.at;
-        let end = record::next(part, at);
+        let end = Record { slot: part, at }.next();
         if out.len() < end - at {
-            return Floor::Refused(refusal::OUTPUT);
+            return Err(Refusal::Output);
         }
         bytes::copy_to(&part[at..end], out, 0);
-        Floor::Record(self, end - at)
+        Ok((self, Some(end - at)))
     }
 
     // Entry i of slot n copied out as its record: 20.
@@ -253,7 +247,7 @@ impl Tree {
         n: usize,
         i: u64,
         out: &mut [u8],
-    ) -> Floor
+    ) -> Result<(Tree, Option<usize>), Refusal>
         requires { EntryReady size slots self heads.now bytes.now n i }
         ensures answer { floor_means size heads.now bytes.now out.new result
             ≡ floored_of (length out.old)
@@ -264,12 +258,14 @@ impl Tree {
         ensures ready { FloorReady size slots heads.now bytes.now result }
     {
         let h = bank::live_at(heads, n);
-        let at = slot::offset_of(bank::slot_of(bytes, size, n), h.count, i);
+        let records = Records {
+            slot: bank::slot_of(bytes, size, n),
+            count: h.count,
+        };
         let spot = Spot {
-            found: true,
             slot: n,
             index: i,
-            at: at,
+            at: records.offset_of(i),
         };
         self.copy_at(heads, bytes, size, slots, spot, out)
     }
@@ -283,7 +279,7 @@ impl Tree {
         lent: Lent,
         key: &[u8],
         out: &mut [u8],
-    ) -> Floor
+    ) -> Result<(Tree, Option<usize>), Refusal>
         requires { Ready lent.size lent.slots self.used heads.old bytes.old }
         ensures answer { floor_means lent.size heads.new bytes.new out.new result
             ≡ floor_way (lent_of image.now lent) (state_of lent.size self heads.old bytes.old) (length out.old) key.now }
@@ -294,21 +290,12 @@ impl Tree {
         ensures follows { Follows lent.size lent.slots self.used heads.old
             bytes.old heads.new bytes.new }
     {
-        let none = Bound {
-            some: false,
-            slot: 0,
-            index: 0,
-        };
-        let unbounded = Bounds {
-            lower: none,
-            upper: none,
-        };
         let level = self.level_at(heads, bytes, lent.size, lent.slots, self.root);
-        let found = self.floor_from(image, heads, bytes, lent, unbounded, self.root, level, key);
+        let root = self.root;
+        let (t, found) = self.floor_from(image, heads, bytes, lent, UNBOUNDED, root, level, key)?;
         match found {
-            Last::Refused(x) => Floor::Refused(x),
-            Last::None(t) => Floor::None(t),
-            Last::At(t, n, i) => t.copy_record(heads, bytes, lent.size, lent.slots, n, i, out),
+            None => Ok((t, None)),
+            Some(e) => t.copy_record(heads, bytes, lent.size, lent.slots, e.slot, e.index, out),
         }
     }
 
@@ -321,7 +308,7 @@ impl Tree {
         lent: Lent,
         key: &[u8],
         out: &mut [u8],
-    ) -> Floor
+    ) -> Result<(Tree, Option<usize>), Refusal>
         requires trusts { Trusts image.now lent self heads.old bytes.old }
         ensures answer { floor_means lent.size heads.new bytes.new out.new result
             ≡ floor_in (lent_of image.now lent) (state_of lent.size self heads.old bytes.old) (length out.old) key.now }
@@ -333,18 +320,14 @@ impl Tree {
     {
         let order = Order { code: self.order };
         if !order.keyed(key.len()) {
-            return Floor::Refused(refusal::ARGUMENT);
+            return Err(Refusal::Argument);
         }
         undo::clear_marks(heads, lent.slots, self.used);
         let got = self.floor_way(image, heads, bytes, lent, key, out);
-        match got {
-            Floor::Refused(x) => {
-                undo::restore(heads, bytes, lent.size, lent.slots, self.used);
-                Floor::Refused(x)
-            }
-            Floor::None(t) => Floor::None(t),
-            Floor::Record(t, n) => Floor::Record(t, n),
+        if got.is_err() {
+            undo::restore(heads, bytes, lent.size, lent.slots, self.used);
         }
+        got
     }
 
     // The last entry not above a key in the leaf of its way, where every child on the way is loaded.
@@ -355,32 +338,26 @@ impl Tree {
         size: usize,
         slots: usize,
         key: &[u8],
-    ) -> Spot
+    ) -> Option<Spot>
         requires { Ready size slots self.used heads.now bytes.now }
-        ensures { SpotOf size slots self heads.now bytes.now key.now result }
+        ensures { IfSome result (SpotIs size slots self heads.now bytes.now key.now) }
     {
-        let none = Spot {
-            found: false,
-            slot: 0,
-            index: 0,
-            at: 0,
-        };
-        let leaf = self.leaf_of(heads, bytes, size, slots, key);
-        if self.used <= leaf {
-            return none;
-        }
+        let leaf = self.leaf_of(heads, bytes, size, slots, key)?;
         let h = bank::live_at(heads, leaf);
         let order = Order { code: self.order };
-        let last = slot::not_above(bank::slot_of(bytes, size, leaf), h.count, order, key);
+        let records = Records {
+            slot: bank::slot_of(bytes, size, leaf),
+            count: h.count,
+        };
+        let last = records.not_above(order, key);
         if last.count == 0 {
-            return none;
+            return None;
         }
-        Spot {
-            found: true,
+        Some(Spot {
             slot: leaf,
             index: last.count - 1,
             at: last.at,
-        }
+        })
     }
 
     // floor on slots that are trusted: 12; the lookup; 20. Refused, every slot is as it was.
@@ -392,7 +369,7 @@ impl Tree {
         lent: Lent,
         key: &[u8],
         out: &mut [u8],
-    ) -> Floor
+    ) -> Result<(Tree, Option<usize>), Refusal>
         requires trusts { Trusts image.now lent self heads.old bytes.old }
         ensures answer { floor_means lent.size heads.new bytes.new out.new result
             ≡ floor_in (lent_of image.now lent) (state_of lent.size self heads.old bytes.old) (length out.old) key.now }
@@ -402,11 +379,10 @@ impl Tree {
         ensures left { FloorCalled image.now lent self heads.old bytes.old
             heads.new bytes.new result }
     {
-        let spot = self.floor_loaded(heads, bytes, lent.size, lent.slots, key);
-        if spot.found {
-            return self.copy_at(heads, bytes, lent.size, lent.slots, spot, out);
+        match self.floor_loaded(heads, bytes, lent.size, lent.slots, key) {
+            Some(spot) => self.copy_at(heads, bytes, lent.size, lent.slots, spot, out),
+            None => self.floor_down(image, heads, bytes, lent, key, out),
         }
-        self.floor_down(image, heads, bytes, lent, key, out)
     }
 
     // The last entry not above a key; its record is copied to the output's start.
@@ -418,7 +394,7 @@ impl Tree {
         lent: Lent,
         key: &[u8],
         out: &mut [u8],
-    ) -> Floor
+    ) -> Result<(Tree, Option<usize>), Refusal>
         ensures answer { floor_means lent.size heads.new bytes.new out.new result
             ≡ floored_in (lent_of image.now lent) self heads.old bytes.old (length out.old) key.now }
         ensures output { out.new
@@ -428,7 +404,7 @@ impl Tree {
             heads.new bytes.new result }
     {
         if !lent::lent_holds(self, image, heads, bytes, lent) {
-            return Floor::Refused(refusal::LENT);
+            return Err(Refusal::Lent);
         }
         // All slots were looked at, so that a short way would save nothing.
         self.floor_down(image, heads, bytes, lent, key, out)

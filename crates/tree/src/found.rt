@@ -7,8 +7,7 @@ ghost use Rattle.tree.specs.internal.Found.{FoundAt};
 use crate::bank;
 use crate::editor::Tree;
 use node::order::Order;
-use node::slot;
-use node::slot::Found;
+use node::slot::{Found, Records};
 
 impl Tree {
     // Where a key stands among the entries of slot n, or would stand.
@@ -27,6 +26,10 @@ impl Tree {
     {
         let h = bank::live_at(heads, n);
         let order = Order { code: self.order };
-        slot::below(bank::slot_of(bytes, size, n), h.count, order, key)
+        let records = Records {
+            slot: bank::slot_of(bytes, size, n),
+            count: h.count,
+        };
+        records.below(order, key)
     }
 }

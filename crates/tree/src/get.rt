@@ -1,6 +1,6 @@
 // What a key holds: found in its leaf, copied out.
-ghost use Rattle.std.specs.Prelude.{◌≡◌, true, ◌+◌, ◌≤◌, ◌<◌, length};
-ghost use Rattle.node.specs.Records.{records_length, entries_of};
+ghost use Rattle.std.specs.Prelude.{◌≡◌, true, ◌+◌, ◌<◌, length};
+ghost use Rattle.node.specs.Records.{entries_of};
 ghost use Rattle.node.specs.Slot.{suits};
 ghost use Rattle.tree.specs.Lent.{lent_of};
 ghost use Rattle.tree.specs.State.{node_at};
@@ -14,54 +14,47 @@ ghost use Rattle.tree.specs.internal.Get.{held_means, HeldIn, got_at, got_way, g
 
 use crate::editor::Tree;
 use crate::lent::Lent;
-use crate::way::Went;
 use crate::{bank, lent, undo};
 use node::order::Order;
-use node::{bytes, record, refusal, slot};
+use node::record::Record;
+use node::refusal::Refusal;
+use node::slot::Records;
+use node::{bytes, record};
 
-// What a key holds in a slot: nothing, a ghost, or a value, which starts there and has so many bytes.
+// What a key holds in a slot: a ghost, or a value, which starts there and has so many bytes.
 #[derive(Clone, Copy)]
 pub enum Held {
-    None,
     Ghost,
     Value(usize, usize),
 }
 
-// The answer of get; a value of so many bytes stands at the output's start.
-#[derive(Clone, Copy)]
-pub enum Got {
-    Refused(u64),
-    None(Tree),
-    Ghost(Tree),
-    Value(Tree, usize),
-}
-
-// What a key holds among the n records of a leaf.
-fn held_in(slot: &[u8], n: u64, order: Order, key: &[u8]) -> Held
-    requires slot_in_bounds { records_length n slot.now ≤ length slot.now }
-    requires slot_value { suits true (entries_of n slot.now) ≡ true }
-    ensures answer { held_means slot.now result
-        ≡ held order.code key.now (entries_of n slot.now) }
-    ensures within { HeldIn slot.now result }
-{
-    let f = slot::below(slot, n, order, key);
-    if !f.found {
-        return Held::None;
-    }
-    let r = record::record_at(slot, f.at);
-    if r.mark == record::GHOST {
-        return Held::Ghost;
-    }
-    Held::Value(r.value, r.vlen)
-}
-
-// What get copied out: refused with 20, nothing, a ghost, or a value of so many bytes.
+// What get copied out: a ghost, which has nothing to copy, or a value of so many bytes, which stand at the output's start.
 #[derive(Clone, Copy)]
 pub enum Copied {
-    Refused,
-    None,
     Ghost,
     Value(usize),
+}
+
+// What a key holds among the records of a leaf.
+fn held_in(records: Records<'_>, order: Order, key: &[u8]) -> Option<Held>
+    requires { suits true (entries_of records.count records.slot.now) ≡ true }
+    ensures answer { held_means records.entry.slot.now result
+        ≡ held order.code key.now (entries_of records.entry.count records.entry.slot.now) }
+    ensures within { HeldIn records.entry.slot.now result }
+{
+    let f = records.below(order, key);
+    if !f.found {
+        return None;
+    }
+    let r = Record {
+        slot: records.slot,
+        at: f.at,
+    }
+    .parts();
+    if r.mark == record::GHOST {
+        return Some(Held::Ghost);
+    }
+    Some(Held::Value(r.value, r.vlen))
 }
 
 impl Tree {
@@ -75,7 +68,7 @@ impl Tree {
         n: usize,
         key: &[u8],
         out: &mut [u8],
-    ) -> Copied
+    ) -> Result<Option<Copied>, Refusal>
         requires ready_2 { Ready size slots self.used heads.now bytes.now }
         requires n_value { suits true (node_at (state_of size self heads.now bytes.now) n).entries ≡ true }
         ensures answer { got_means size heads.now bytes.now out.new (got_of self result)
@@ -87,22 +80,27 @@ impl Tree {
         ensures ready { ReadyGot size slots heads.now bytes.now (got_of self result) }
     {
         if self.used <= n {
-            return Copied::None;
+            return Ok(None);
         }
         let order = Order { code: self.order };
         let h = bank::live_at(heads, n);
         let part = bank::slot_of(bytes, size, n);
-        let v = held_in(part, h.count, order, key);
-        match v {
-            Held::None => Copied::None,
-            Held::Ghost => Copied::Ghost,
+        let records = Records {
+            slot: part,
+            count: h.count,
+        };
+        let Some(held) = held_in(records, order, key) else {
+            return Ok(None);
+        };
+        match held {
+            Held::Ghost => Ok(Some(Copied::Ghost)),
             Held::Value(at, len) => {
                 if out.len() < len {
-                    return Copied::Refused;
+                    return Err(Refusal::Output);
                 }
                 let end = at + len;
                 bytes::copy_to(&part[at..end], out, 0);
-                Copied::Value(len)
+                Ok(Some(Copied::Value(len)))
             }
         }
     }
@@ -117,7 +115,7 @@ impl Tree {
         n: usize,
         key: &[u8],
         out: &mut [u8],
-    ) -> Got
+    ) -> Result<(Tree, Option<Copied>), Refusal>
         requires ready_2 { Ready size slots self.used heads.now bytes.now }
         requires n_value { suits true (node_at (state_of size self heads.now bytes.now) n).entries ≡ true }
         ensures answer { got_means size heads.now bytes.now out.new result
@@ -128,13 +126,8 @@ impl Tree {
             (length out.old) n key.now) }
         ensures ready { ReadyGot size slots heads.now bytes.now result }
     {
-        let copied = self.copy_out(heads, bytes, size, slots, n, key, out);
-        match copied {
-            Copied::Refused => Got::Refused(refusal::OUTPUT),
-            Copied::None => Got::None(self),
-            Copied::Ghost => Got::Ghost(self),
-            Copied::Value(len) => Got::Value(self, len),
-        }
+        let copied = self.copy_out(heads, bytes, size, slots, n, key, out)?;
+        Ok((self, copied))
     }
 
     // Of get, what follows 12: the way, 20. Refused, it may leave slots changed.
@@ -146,7 +139,7 @@ impl Tree {
         lent: Lent,
         key: &[u8],
         out: &mut [u8],
-    ) -> Got
+    ) -> Result<(Tree, Option<Copied>), Refusal>
         requires ready_2 { Ready lent.size lent.slots self.used heads.old bytes.old }
         requires bytes_value { trusted (lent_of image.now lent) (state_of lent.size self heads.old bytes.old) ≡ true }
         ensures answer { got_means lent.size heads.new bytes.new out.new result
@@ -158,17 +151,10 @@ impl Tree {
         ensures follows { Follows lent.size lent.slots self.used heads.old bytes.old heads.new bytes.new }
     {
         let level = self.level_at(heads, bytes, lent.size, lent.slots, self.root);
-        let w = self.way(image, heads, bytes, lent, level, key);
-        let went = w.went;
-        match went {
-            Went::Refused(x) => Got::Refused(x),
-            Went::Arrived => {
-                let t = w.tree;
-                let way = w.slots;
-                let n = way[w.steps - 1];
-                t.copy_held(heads, bytes, lent.size, lent.slots, n, key, out)
-            }
-        }
+        let w = self.way(image, heads, bytes, lent, level, key)?;
+        let n = w.slots[w.steps - 1];
+        w.tree
+            .copy_held(heads, bytes, lent.size, lent.slots, n, key, out)
     }
 
     // get on slots that are trusted, whatever of the way is loaded.
@@ -180,7 +166,7 @@ impl Tree {
         lent: Lent,
         key: &[u8],
         out: &mut [u8],
-    ) -> Got
+    ) -> Result<(Tree, Option<Copied>), Refusal>
         requires trusts { Trusts image.now lent self heads.old bytes.old }
         ensures answer { got_means lent.size heads.new bytes.new out.new result
             ≡ get_in (lent_of image.now lent) (state_of lent.size self heads.old bytes.old) (length out.old) key.now }
@@ -192,19 +178,14 @@ impl Tree {
     {
         let order = Order { code: self.order };
         if !order.keyed(key.len()) {
-            return Got::Refused(refusal::ARGUMENT);
+            return Err(Refusal::Argument);
         }
         undo::clear_marks(heads, lent.slots, self.used);
         let got = self.get_way(image, heads, bytes, lent, key, out);
-        match got {
-            Got::Refused(x) => {
-                undo::restore(heads, bytes, lent.size, lent.slots, self.used);
-                Got::Refused(x)
-            }
-            Got::None(t) => Got::None(t),
-            Got::Ghost(t) => Got::Ghost(t),
-            Got::Value(t, n) => Got::Value(t, n),
+        if got.is_err() {
+            undo::restore(heads, bytes, lent.size, lent.slots, self.used);
         }
+        got
     }
 
     // get on slots that are trusted: 12; the way; 20. Refused, every slot is as it was.
@@ -216,7 +197,7 @@ impl Tree {
         lent: Lent,
         key: &[u8],
         out: &mut [u8],
-    ) -> Got
+    ) -> Result<(Tree, Option<Copied>), Refusal>
         requires trusts { Trusts image.now lent self heads.old bytes.old }
         ensures answer { got_means lent.size heads.new bytes.new out.new result
             ≡ get_in (lent_of image.now lent) (state_of lent.size self heads.old bytes.old) (length out.old) key.now }
@@ -226,11 +207,10 @@ impl Tree {
         ensures left { GotCalled image.now lent self heads.old bytes.old
             heads.new bytes.new result }
     {
-        let leaf = self.leaf_of(heads, bytes, lent.size, lent.slots, key);
-        if leaf < self.used {
-            return self.copy_held(heads, bytes, lent.size, lent.slots, leaf, key, out);
+        match self.leaf_of(heads, bytes, lent.size, lent.slots, key) {
+            Some(leaf) => self.copy_held(heads, bytes, lent.size, lent.slots, leaf, key, out),
+            None => self.get_down(image, heads, bytes, lent, key, out),
         }
-        self.get_down(image, heads, bytes, lent, key, out)
     }
 
     // What a key holds; its value is copied to the output's start.
@@ -242,7 +222,7 @@ impl Tree {
         lent: Lent,
         key: &[u8],
         out: &mut [u8],
-    ) -> Got
+    ) -> Result<(Tree, Option<Copied>), Refusal>
         ensures answer { got_means lent.size heads.new bytes.new out.new result
             ≡ got_in (lent_of image.now lent) self heads.old bytes.old (length out.old) key.now }
         ensures output { out.new
@@ -252,7 +232,7 @@ impl Tree {
             heads.new bytes.new result }
     {
         if !lent::lent_holds(self, image, heads, bytes, lent) {
-            return Got::Refused(refusal::LENT);
+            return Err(Refusal::Lent);
         }
         // All slots were looked at, so that a short way would save nothing.
         self.get_down(image, heads, bytes, lent, key, out)

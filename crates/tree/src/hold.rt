@@ -1,7 +1,7 @@
 // Refusal 1 of the slots: each slot's words, its records in one pass, its children; no slot is reached twice (a mark for each slot).
 ghost use Rattle.std.specs.Prelude.{◌≡◌, ◌&&◌, ◌+◌, ◌*◌, ◌≤◌, ◌<◌, ◌^◌, length, drop};
 ghost use Rattle.node.specs.Fit.{Sized};
-ghost use Rattle.node.specs.Records.{record_length, records_length, entry_of, entries_of};
+ghost use Rattle.node.specs.Records.{entry_of, entries_of};
 ghost use Rattle.tree.specs.Workspace.{state_of, slots_hold};
 ghost use Rattle.tree.specs.Hold.{hold_together};
 ghost use Rattle.tree.specs.Trusts.{number_holds, words_hold};
@@ -10,12 +10,12 @@ ghost use Rattle.tree.specs.internal.Holding.{Laid, count_holds, place_holds, bo
 
 use crate::bank;
 use crate::editor::Tree;
-use node::fit::Lengths;
 use node::head::Head;
 use node::order::Order;
-use node::stands::Checked;
+use node::record::Record;
+use node::slot::Records;
 use node::val::{Child, Val};
-use node::{fit, record, slot, stands};
+use node::{fit, stands};
 
 // The most levels of a tree, less one.
 const MOST_LEVEL: u64 = 32;
@@ -110,8 +110,8 @@ fn body_holds(t: Tree, part: &[u8], h: Head, n: usize) -> bool
     let order = Order { code: t.order };
     let checked = stands::check(part, h.count, h.used, order, info, h.level == 0);
     match checked {
-        Checked::Not => false,
-        Checked::Held(s) => place_holds(t, n == t.root, h, s.keys + s.values),
+        None => false,
+        Some(s) => place_holds(t, n == t.root, h, s.keys + s.values),
     }
 }
 
@@ -135,23 +135,12 @@ fn child_holds(heads: &[u64], used: usize, level: u64, c: u64) -> bool
 }
 
 // The child in a slot that a record names, if it names one, holds and is marked; false where it does not, or is marked already.
-fn link_value(
-    heads: &[u64],
-    slot: &[u8],
-    at: usize,
-    level: u64,
-    used: usize,
-    marks: &mut [u8],
-) -> bool
-    requires { (at + record_length (drop at slot.now) ≤ length slot.now)
-        × (used ≤ length marks.old) × (used * 9 ≤ length heads.now) }
+fn link_value(heads: &[u64], r: Record<'_>, level: u64, used: usize, marks: &mut [u8]) -> bool
+    requires { (used ≤ length marks.old) × (used * 9 ≤ length heads.now) }
     ensures { mark_of result marks.new
-        ≡ link_value heads.now used level (entry_of (drop at slot.now)).value marks.old }
+        ≡ link_value heads.now used level (entry_of (drop r.entry.at r.entry.slot.now)).value marks.old }
 {
-    let v = slot::value_of(slot, at);
-    match v {
-        Val::Ghost => true,
-        Val::Leaf(_, _) => true,
+    match r.value() {
         Val::Child(c) => match c {
             Child::Disk(_) => true,
             Child::Mem(s) => {
@@ -161,32 +150,32 @@ fn link_value(
                 mark_slot(s as usize, used, marks)
             }
         },
+        _ => true,
     }
 }
 
-// The same of the n entries of a slot.
+// The same of the entries of a slot.
 fn link_entries(
     heads: &[u64],
-    slot: &[u8],
-    n: u64,
+    records: Records<'_>,
     level: u64,
     used: usize,
     marks: &mut [u8],
 ) -> bool
-    requires { (records_length n slot.now ≤ length slot.now)
-        × (used ≤ length marks.old) × (used * 9 ≤ length heads.now) }
+    requires { (used ≤ length marks.old) × (used * 9 ≤ length heads.now) }
     ensures { mark_of result marks.new
-        ≡ link_entries heads.now used level (entries_of n slot.now) marks.old }
+        ≡ link_entries heads.now used level (entries_of records.entry.count records.entry.slot.now) marks.old }
 {
-    let mut i = 0;
     let mut at = 0;
-    while i < n {
-        let linked = link_value(heads, slot, at, level, used, marks);
-        if !linked {
+    for _i in 0..records.count {
+        let r = Record {
+            slot: records.slot,
+            at,
+        };
+        if !link_value(heads, r, level, used, marks) {
             return false;
         }
-        at = record::next(slot, at);
-        i += 1;
+        at = r.next();
     }
     true
 }
@@ -225,7 +214,11 @@ fn hold_slot(
     if h.level == 0 {
         return true;
     }
-    link_entries(heads, part, h.count, h.level, t.used, marks)
+    let records = Records {
+        slot: part,
+        count: h.count,
+    };
+    link_entries(heads, records, h.level, t.used, marks)
 }
 
 // The same of every slot in use.
@@ -243,13 +236,10 @@ fn hold_slots(
         ≡ hold_slots size heads.now bytes.now
         (state_of size t heads.now bytes.now) t.used t.used 0 marks.old }
 {
-    let mut n = 0;
-    while n < t.used {
-        let held = hold_slot(t, heads, bytes, size, slots, n, marks);
-        if !held {
+    for n in 0..t.used {
+        if !hold_slot(t, heads, bytes, size, slots, n, marks) {
             return false;
         }
-        n += 1;
     }
     true
 }

@@ -1,5 +1,5 @@
 // What is lent to a call beside the image and the slots; of refusal 1, its sizes and the tree's numbers.
-ghost use Rattle.std.specs.Prelude.{◌≡◌, List, cond, ◌&&◌, ℕ, ◌≤◌, eqb};
+ghost use Rattle.std.specs.Prelude.{◌≡◌, List, cond, ◌&&◌, ℕ, ◌≤◌, eqb, is_some};
 ghost use Rattle.tree.specs.Lent.{is_size, sizes_hold, lent_of};
 ghost use Rattle.tree.specs.Hold.{info_holds, numbers_hold, lent_holds};
 ghost use Rattle.tree.specs.Workspace.{state_of, workspace_holds, scratch_holds};
@@ -27,9 +27,8 @@ pub struct Lent {
     pub size: usize,
     // How many slots there are.
     pub slots: usize,
-    // Whether an object map is lent, and the address of its root.
-    pub mapped: bool,
-    pub map: u64,
+    // The address of the root of the object map, if one is lent.
+    pub map: Option<u64>,
 }
 
 // A power of two from 512 to 65,536.
@@ -104,13 +103,10 @@ pub fn info_holds(info: BTreeInfo) -> bool
 }
 
 // A map is lent to a virtual tree and to no other.
-fn map_holds(mapped: bool, by_id: bool) -> bool
-    ensures { result ≡ eqb (cond mapped 1 0) (cond by_id 1 0) }
+fn map_holds(map: Option<u64>, by_id: bool) -> bool
+    ensures { result ≡ eqb (cond (is_some map) 1 0) (cond by_id 1 0) }
 {
-    if mapped {
-        return by_id;
-    }
-    !by_id
+    map.is_some() == by_id
 }
 
 // 1: sizes, order, the tree's numbers; whatever the slots hold.
@@ -132,7 +128,7 @@ pub fn numbers_hold(t: Tree, image: &[u8], lent: Lent) -> bool
     if !info_holds(info) {
         return false;
     }
-    if !map_holds(lent.mapped, t.by_id) {
+    if !map_holds(lent.map, t.by_id) {
         return false;
     }
     t.used <= lent.slots

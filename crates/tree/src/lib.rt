@@ -7,7 +7,6 @@ pub mod bank;
 pub mod block;
 pub mod cuts;
 pub mod edit;
-pub mod edited;
 pub mod editor;
 pub mod floor;
 pub mod found;

@@ -8,18 +8,11 @@ ghost use Rattle.tree.specs.internal.Open.{opened_root, ReadyOpened};
 
 use crate::editor::Tree;
 use crate::lent::Lent;
-use crate::map::Address;
 use crate::{bank, lent, map};
 use node::info::BTreeInfo;
 use node::order::Order;
-use node::read::{Place, Read};
-use node::refusal;
-
-#[derive(Clone, Copy)]
-pub enum Opened {
-    Refused(u64),
-    Open(Tree),
-}
+use node::read::{Place, ReadNode};
+use node::refusal::Refusal;
 
 // The tree whose root is r, at an address: the load line from 2, then 10.
 fn open_at(
@@ -31,7 +24,7 @@ fn open_at(
     order: u64,
     xid: u64,
     a: u64,
-) -> Opened
+) -> Result<Tree, Refusal>
     requires le_size { (512 ≤ lent.size) × (lent.size ≤ 65536) × (1 ≤ lent.slots) × (lent.slots ≤ 4096) }
     requires heads_len { (length heads.old ≡ lent.slots * 19) × (length bytes.old
         ≡ (lent.slots + lent.slots) * (4 * lent.size)) }
@@ -48,27 +41,24 @@ fn open_at(
         bounded: false,
     };
     let none = &image[..0];
-    let read = map::load_block(image, lent, Order { code: order }, place, none, none, a);
-    match read {
-        Read::Refused(x) => Opened::Refused(x),
-        Read::Loaded(v) => {
-            if !map::root_holds(image, lent, a, lent.mapped, v) {
-                return Opened::Refused(refusal::ROOT);
-            }
-            let block = map::block_of(image, lent.size, a);
-            let info = BTreeInfo::parse(block);
-            bank::adopt_into(block, v, heads, bytes, lent.size, 0, lent.mapped, a);
-            Opened::Open(Tree {
-                root: 0,
-                used: 1,
-                info: info,
-                by_id: lent.mapped,
-                subtype: v.subtype,
-                order: order,
-                xid: xid,
-            })
-        }
+    let v = map::load_block(image, lent, Order { code: order }, place, none, none, a)?;
+    let by_id = lent.map.is_some();
+    if !map::root_holds(image, lent, a, by_id, v) {
+        return Err(Refusal::Root);
     }
+    let block = map::block_of(image, lent.size, a);
+    let info = BTreeInfo::parse(block);
+    let read = ReadNode { block, node: v };
+    bank::adopt_into(read, heads, bytes, lent.size, 0, by_id, a);
+    Ok(Tree {
+        root: 0,
+        used: 1,
+        info,
+        by_id,
+        subtype: v.subtype,
+        order,
+        xid,
+    })
 }
 
 // The tree whose root is r, in a workspace for so many slots.
@@ -80,7 +70,7 @@ pub fn open_in(
     r: u64,
     order: u64,
     xid: u64,
-) -> Opened
+) -> Result<Tree, Refusal>
     requires { (length heads.old ≡ lent.slots * 19) × (length bytes.old
         ≡ (lent.slots + lent.slots) * (4 * lent.size)) }
     ensures answer { opened_of lent.size heads.new bytes.new result
@@ -88,17 +78,14 @@ pub fn open_in(
     ensures trusts { OpenedTrusts image.now lent heads.new bytes.new result }
 {
     if !lent::sizes_hold(image, lent) {
-        return Opened::Refused(refusal::LENT);
+        return Err(Refusal::Lent);
     }
     let by = Order { code: order };
     if !by.known() {
-        return Opened::Refused(refusal::LENT);
+        return Err(Refusal::Lent);
     }
-    let found = map::address_of(image, lent, xid, r);
-    match found {
-        Address::Refused(x) => Opened::Refused(x),
-        Address::At(a) => open_at(image, heads, bytes, lent, r, order, xid, a),
-    }
+    let a = map::address_of(image, lent, xid, r)?;
+    open_at(image, heads, bytes, lent, r, order, xid, a)
 }
 
 // The same of any workspace: 1 where it is none for so many slots.
@@ -110,17 +97,17 @@ pub fn open(
     r: u64,
     order: u64,
     xid: u64,
-) -> Opened
+) -> Result<Tree, Refusal>
     ensures answer { opened_of lent.size heads.new bytes.new result
         ≡ opened_in (lent_of image.now lent) heads.old bytes.old r order xid }
     ensures left { opened_leaves lent.size lent.slots heads.new bytes.new result }
     ensures trusts { OpenedTrusts image.now lent heads.new bytes.new result }
 {
     if !lent::sizes_hold(image, lent) {
-        return Opened::Refused(refusal::LENT);
+        return Err(Refusal::Lent);
     }
     if !lent::room_holds(heads, bytes, 0, lent) {
-        return Opened::Refused(refusal::LENT);
+        return Err(Refusal::Lent);
     }
     open_in(image, heads, bytes, lent, r, order, xid)
 }

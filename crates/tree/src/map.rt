@@ -1,21 +1,20 @@
 // The object map: a physical tree of pairs, its nodes read where they lie in the image.
-ghost use Rattle.std.specs.Prelude.{◌≡◌, List, [], ◌∷◌, ℕ, ◌+◌, ◌-◌, ◌*◌, ◌/◌, ◌≤◌, ◌<◌, length};
+ghost use Rattle.std.specs.Prelude.{◌≡◌, [], ◌∷◌, ◌+◌, ◌*◌, ◌/◌, ◌≤◌, ◌<◌, length};
 ghost use Rattle.node.specs.Bytes.{window};
 ghost use Rattle.node.specs.Order.{pair};
-ghost use Rattle.node.specs.Find.{key_at, val_at, not_above};
-ghost use Rattle.node.specs.Read.{read_of, on_disk, entry_at, entries_from};
-ghost use Rattle.node.specs.internal.ReadSteps.{Sound};
+ghost use Rattle.node.specs.Find.{key_at, val_at};
+ghost use Rattle.node.specs.Read.{read_of, on_disk, entry_at};
 ghost use Rattle.tree.specs.Lent.{block_at, lent_of};
 ghost use Rattle.tree.specs.Load.{bound_key, disk_number, tighter_lower, tighter_upper, child_bounds, root_holds, map_last, map_floor, mapping, map_root_holds, map_address, address_of};
-ghost use Rattle.tree.specs.internal.Map.{load_at, edge_of, edges_of, EdgeIn, EdgesIn, MapSound, map_entries, map_read, map_child_at, map_loaded_of, MapSoundAfter, leftward, spotted_of, SpottedIn, address_at, mapping_in, looked_up};
+ghost use Rattle.tree.specs.internal.Map.{load_at, edge_of, edges_of, key_of, KeyIn, EdgeIn, EdgesIn, MapSound, map_entries, map_read, map_child_at, map_loaded_of, MapSoundAfter, leftward, spotted_of, SpottedIn, address_at, mapping_in, looked_up, FoundIn};
 
-use crate::bank;
 use crate::lent::Lent;
 use node::info::BTreeInfo;
 use node::order::Order;
-use node::read::{Node, Place, Read};
+use node::read::{Node, Place, ReadNode};
+use node::refusal::Refusal;
 use node::val::{Child, Val};
-use node::{bytes, read, refusal};
+use node::{bytes, read};
 
 // Fixed lengths of the map's keys and values (`omap_key_t`, `omap_val_t`).
 const PAIR_SIZE: u64 = 16;
@@ -33,38 +32,31 @@ pub struct MapNode {
     pub node: Node,
 }
 
-// A bound: where its key lies in the image, or none.
+// Where the key of a bound lies in the image.
 #[derive(Clone, Copy)]
 pub struct Edge {
-    pub some: bool,
     pub at: usize,
     pub len: usize,
 }
 
+// The bounds of a node's keys; the first node of the first has no lower one, the last of the last no upper one.
 #[derive(Clone, Copy)]
 pub struct Edges {
-    pub lower: Edge,
-    pub upper: Edge,
+    pub lower: Option<Edge>,
+    pub upper: Option<Edge>,
 }
 
-#[derive(Clone, Copy)]
-pub enum MapLoaded {
-    Refused(u64),
-    At(MapNode),
-}
+// No bounds: a root's.
+pub const UNBOUNDED: Edges = Edges {
+    lower: None,
+    upper: None,
+};
 
 // An entry of the map: its node and its index.
 #[derive(Clone, Copy)]
-pub enum Spotted {
-    Refused(u64),
-    None,
-    At(MapNode, u64),
-}
-
-#[derive(Clone, Copy)]
-pub enum Address {
-    Refused(u64),
-    At(u64),
+pub struct Spotted {
+    pub node: MapNode,
+    pub index: u64,
 }
 
 // The block at an address.
@@ -86,14 +78,14 @@ pub fn load_block(
     lower: &[u8],
     upper: &[u8],
     a: u64,
-) -> Read
+) -> Result<Node, Refusal>
     requires { (512 ≤ lent.size) × (lent.size ≤ 65536) }
     ensures { read_of (block_at (lent_of image.now lent) a) result
         ≡ load_at (lent_of image.now lent) order.code place lower.now upper.now a }
 {
     let size = lent.size;
     if (image.len() / size) as u64 <= a {
-        return Read::Refused(refusal::ADDRESS);
+        return Err(Refusal::Address);
     }
     read::read_node(block_of(image, size, a), order, place, lower, upper)
 }
@@ -106,43 +98,45 @@ pub fn root_holds(image: &[u8], lent: Lent, a: u64, by_id: bool, v: Node) -> boo
 {
     let size = lent.size;
     let info = BTreeInfo::parse(block_of(image, size, a));
-    let class = bank::one_if(!by_id);
+    let class = u64::from(!by_id);
     if v.otype / STORAGE_CLASS != class {
         return false;
     }
     info.node_size == size as u64
 }
 
-// The key of a bound; nothing where there is none.
-fn edge_key(image: &[u8], e: Edge) -> &[u8]
-    requires { EdgeIn image.now e }
-    ensures { result.now ≡ bound_key (edge_of image.now e) }
+// The key that lies there.
+fn key_in(image: &[u8], e: Edge) -> &[u8]
+    requires { KeyIn image.now e }
+    ensures { result.now ≡ key_of image.now e }
 {
-    if !e.some {
-        return &image[..0];
+    &image[e.at..e.at + e.len]
+}
+
+// The key of a bound; nothing where there is none.
+fn edge_key(image: &[u8], b: Option<Edge>) -> &[u8]
+    requires { EdgeIn image.now b }
+    ensures { result.now ≡ bound_key (edge_of image.now b) }
+{
+    match b {
+        None => &image[..0],
+        Some(e) => key_in(image, e),
     }
-    let a = e.at;
-    let end = e.at + e.len;
-    &image[a..end]
 }
 
 // Where the key of an entry lies; an empty one where there is no such entry.
 fn edge_at(image: &[u8], size: usize, d: MapNode, i: u64) -> Edge
     requires { MapSound image.now size d }
-    ensures key { edge_of image.now result ≡ key_at (map_entries image.now size d) i ∷ [] }
-    ensures within { EdgeIn image.now result }
+    ensures key { key_of image.now result ≡ key_at (map_entries image.now size d) i }
+    ensures within { KeyIn image.now result }
 {
     let v = d.node;
     if v.nkeys <= i {
-        return Edge {
-            some: true,
-            at: 0,
-            len: 0,
-        };
+        return Edge { at: 0, len: 0 };
     }
-    let s = read::span_at(block_of(image, size, d.at), v, i as usize);
+    let block = block_of(image, size, d.at);
+    let s = ReadNode { block, node: v }.span_at(i as usize);
     Edge {
-        some: true,
         at: d.at as usize * size + s.key,
         len: s.klen,
     }
@@ -157,8 +151,8 @@ fn number_at(image: &[u8], size: usize, d: MapNode, i: u64) -> u64
     if v.nkeys <= i {
         return 0;
     }
-    let x = read::value_at(block_of(image, size, d.at), v, i as usize);
-    match x {
+    let block = block_of(image, size, d.at);
+    match (ReadNode { block, node: v }.value_at(i as usize)) {
         Val::Ghost => 0,
         Val::Leaf(_, _) => 0,
         Val::Child(c) => match c {
@@ -168,54 +162,34 @@ fn number_at(image: &[u8], size: usize, d: MapNode, i: u64) -> u64
     }
 }
 
-// How many leading keys of a node are not above a key.
-fn not_above(block: &[u8], v: Node, key: &[u8]) -> u64
-    requires { Sound v block.now }
-    ensures { result ≡ not_above pair key.now (entries_from v block.now 0 v.nkeys) }
-{
-    let order = Order { code: Order::PAIR };
-    let n = v.nkeys;
-    let mut i: u64 = 0;
-    while i < n {
-        let s = read::span_at(block, v, i as usize);
-        if order.less(key, read::key_in(block, s)) {
-            return i;
-        }
-        i += 1;
-    }
-    n
-}
-
 // The higher of a lower bound and a key.
-fn tighter_lower(image: &[u8], old: Edge, key: Edge) -> Edge
-    requires { (EdgeIn image.now old) × (EdgeIn image.now key) }
-    ensures bound { (k : List ℕ) → edge_of image.now key ≡ k ∷ []
-        → edge_of image.now result ≡ tighter_lower pair (edge_of image.now old) k }
+fn tighter_lower(image: &[u8], old: Option<Edge>, key: Edge) -> Option<Edge>
+    requires { (EdgeIn image.now old) × (KeyIn image.now key) }
+    ensures bound { edge_of image.now result ≡ tighter_lower pair (edge_of image.now old) (key_of image.now key) }
     ensures within { EdgeIn image.now result }
 {
-    if !old.some {
-        return key;
-    }
+    let Some(edge) = old else {
+        return Some(key);
+    };
     let order = Order { code: Order::PAIR };
-    if order.less(edge_key(image, old), edge_key(image, key)) {
-        return key;
+    if order.less(key_in(image, edge), key_in(image, key)) {
+        return Some(key);
     }
     old
 }
 
 // The lower of an upper bound and a key.
-fn tighter_upper(image: &[u8], old: Edge, key: Edge) -> Edge
-    requires { (EdgeIn image.now old) × (EdgeIn image.now key) }
-    ensures bound { (k : List ℕ) → edge_of image.now key ≡ k ∷ []
-        → edge_of image.now result ≡ tighter_upper pair (edge_of image.now old) k }
+fn tighter_upper(image: &[u8], old: Option<Edge>, key: Edge) -> Option<Edge>
+    requires { (EdgeIn image.now old) × (KeyIn image.now key) }
+    ensures bound { edge_of image.now result ≡ tighter_upper pair (edge_of image.now old) (key_of image.now key) }
     ensures within { EdgeIn image.now result }
 {
-    if !old.some {
-        return key;
-    }
+    let Some(edge) = old else {
+        return Some(key);
+    };
     let order = Order { code: Order::PAIR };
-    if order.less(edge_key(image, key), edge_key(image, old)) {
-        return key;
+    if order.less(key_in(image, key), key_in(image, edge)) {
+        return Some(key);
     }
     old
 }
@@ -243,18 +217,8 @@ fn map_bounds(image: &[u8], size: usize, d: MapNode, b: Edges, i: u64) -> Edges
     Edges { lower, upper }
 }
 
-// One less; 0 has none.
-fn less_one(n: u64) -> u64
-    ensures { result ≡ n - 1 }
-{
-    if n == 0 {
-        return 0;
-    }
-    n - 1
-}
-
 // Child i of a node, within its bounds.
-fn map_child(image: &[u8], lent: Lent, d: MapNode, b: Edges, i: u64) -> MapLoaded
+fn map_child(image: &[u8], lent: Lent, d: MapNode, b: Edges, i: u64) -> Result<MapNode, Refusal>
     requires le_size { (512 ≤ lent.size) × (lent.size ≤ 65536) }
     requires map_sound { (MapSound image.now lent.size d) × (EdgesIn image.now b) }
     ensures answer { map_loaded_of image.now lent.size result
@@ -272,20 +236,23 @@ fn map_child(image: &[u8], lent: Lent, d: MapNode, b: Edges, i: u64) -> MapLoade
         parent: v.level,
         ksize: PAIR_SIZE,
         vsize: PAIR_SIZE,
-        bounded: upper.some,
+        bounded: upper.is_some(),
     };
     let order = Order { code: Order::PAIR };
     let lo = edge_key(image, lower);
     let up = edge_key(image, upper);
-    let read = load_block(image, lent, order, place, lo, up, a);
-    match read {
-        Read::Refused(x) => MapLoaded::Refused(x),
-        Read::Loaded(c) => MapLoaded::At(MapNode { at: a, node: c }),
-    }
+    let node = load_block(image, lent, order, place, lo, up, a)?;
+    Ok(MapNode { at: a, node })
 }
 
 // The last entry below a node.
-fn map_last(image: &[u8], lent: Lent, d: MapNode, b: Edges, level: u64) -> Spotted
+fn map_last(
+    image: &[u8],
+    lent: Lent,
+    d: MapNode,
+    b: Edges,
+    level: u64,
+) -> Result<Option<Spotted>, Refusal>
     requires le_size { (512 ≤ lent.size) × (lent.size ≤ 65536) }
     requires map_sound { (MapSound image.now lent.size d) × (EdgesIn image.now b) }
     ensures answer { spotted_of image.now lent.size result
@@ -293,19 +260,16 @@ fn map_last(image: &[u8], lent: Lent, d: MapNode, b: Edges, level: u64) -> Spott
     ensures within { SpottedIn image.now lent.size result }
 {
     let v = d.node;
-    let i = less_one(v.nkeys);
+    let i = v.nkeys.saturating_sub(1);
     if level == 0 {
         if v.nkeys == 0 {
-            return Spotted::None;
+            return Ok(None);
         }
-        return Spotted::At(d, i);
+        return Ok(Some(Spotted { node: d, index: i }));
     }
     let inner = map_bounds(image, lent.size, d, b, i);
-    let got = map_child(image, lent, d, inner, i);
-    match got {
-        MapLoaded::Refused(x) => Spotted::Refused(x),
-        MapLoaded::At(c) => map_last(image, lent, c, inner, level - 1),
-    }
+    let c = map_child(image, lent, d, inner, i)?;
+    map_last(image, lent, c, inner, level - 1)
 }
 
 // The last entry of the child before child i, where the key does not lie before child i.
@@ -317,7 +281,7 @@ fn map_left(
     key: &[u8],
     i: u64,
     level: u64,
-) -> Spotted
+) -> Result<Option<Spotted>, Refusal>
     requires le_size { (512 ≤ lent.size) × (lent.size ≤ 65536) }
     requires map_sound { (MapSound image.now lent.size d) × (EdgesIn image.now b) }
     ensures answer { spotted_of image.now lent.size result
@@ -326,23 +290,27 @@ fn map_left(
     ensures within { SpottedIn image.now lent.size result }
 {
     if i == 0 {
-        return Spotted::None;
+        return Ok(None);
     }
     let order = Order { code: Order::PAIR };
     let here = edge_at(image, lent.size, d, i);
-    if order.less(key, edge_key(image, here)) {
-        return Spotted::None;
+    if order.less(key, key_in(image, here)) {
+        return Ok(None);
     }
     let inner = map_bounds(image, lent.size, d, b, i - 1);
-    let got = map_child(image, lent, d, inner, i - 1);
-    match got {
-        MapLoaded::Refused(x) => Spotted::Refused(x),
-        MapLoaded::At(c) => map_last(image, lent, c, inner, level),
-    }
+    let c = map_child(image, lent, d, inner, i - 1)?;
+    map_last(image, lent, c, inner, level)
 }
 
 // The last entry not above a key; leftward only if the leaf has none.
-fn map_floor(image: &[u8], lent: Lent, d: MapNode, b: Edges, key: &[u8], level: u64) -> Spotted
+fn map_floor(
+    image: &[u8],
+    lent: Lent,
+    d: MapNode,
+    b: Edges,
+    key: &[u8],
+    level: u64,
+) -> Result<Option<Spotted>, Refusal>
     requires le_size { (512 ≤ lent.size) × (lent.size ≤ 65536) }
     requires map_sound { (MapSound image.now lent.size d) × (EdgesIn image.now b) }
     ensures answer { spotted_of image.now lent.size result
@@ -350,65 +318,59 @@ fn map_floor(image: &[u8], lent: Lent, d: MapNode, b: Edges, key: &[u8], level: 
         key.now }
     ensures within { SpottedIn image.now lent.size result }
 {
-    let n = not_above(block_of(image, lent.size, d.at), d.node, key);
-    let i = less_one(n);
+    let block = block_of(image, lent.size, d.at);
+    let read = ReadNode {
+        block,
+        node: d.node,
+    };
+    let n = read.not_above(Order::PAIR_ORDER, key);
+    let i = n.saturating_sub(1);
     if level == 0 {
         if n == 0 {
-            return Spotted::None;
+            return Ok(None);
         }
-        return Spotted::At(d, i);
+        return Ok(Some(Spotted { node: d, index: i }));
     }
     let inner = map_bounds(image, lent.size, d, b, i);
-    let got = map_child(image, lent, d, inner, i);
-    match got {
-        MapLoaded::Refused(x) => Spotted::Refused(x),
-        MapLoaded::At(c) => {
-            let found = map_floor(image, lent, c, inner, key, level - 1);
-            match found {
-                Spotted::Refused(x) => Spotted::Refused(x),
-                Spotted::None => map_left(image, lent, d, b, key, i, level - 1),
-                Spotted::At(e, j) => Spotted::At(e, j),
-            }
-        }
+    let c = map_child(image, lent, d, inner, i)?;
+    let found = map_floor(image, lent, c, inner, key, level - 1)?;
+    match found {
+        Some(s) => Ok(Some(s)),
+        None => map_left(image, lent, d, b, key, i, level - 1),
     }
 }
 
 // 18 where an entry is not the id's or has no value, 19 where it is encrypted; else its address.
-fn mapping_at(image: &[u8], size: usize, d: MapNode, i: u64, id: u64) -> Address
+fn mapping_at(image: &[u8], size: usize, d: MapNode, i: u64, id: u64) -> Result<u64, Refusal>
     requires { (MapSound image.now size d) × (i < d.node.nkeys) }
     ensures { address_at result
         ≡ mapping id (entry_at d.node (window (d.at * size) size image.now) i ∷ []) }
 {
     let v = d.node;
     let block = block_of(image, size, d.at);
-    let s = read::span_at(block, v, i as usize);
-    let key = s.key;
-    if bytes::u64_at(block, key) != id {
-        return Address::Refused(refusal::UNMAPPED);
+    let read = ReadNode { block, node: v };
+    let key = read.span_at(i as usize).key;
+    if bytes::field_at::<8>(block, key) != id {
+        return Err(Refusal::Unmapped);
     }
-    let x = read::value_at(block, v, i as usize);
-    match x {
-        Val::Ghost => Address::Refused(refusal::UNMAPPED),
-        Val::Child(_) => Address::Refused(refusal::UNMAPPED),
-        Val::Leaf(at, _) => {
-            let flags = bytes::u32_at(block, at);
-            if flags / OMAP_VAL_ENCRYPTED % 2 == 1 {
-                return Address::Refused(refusal::ENCRYPTED);
-            }
-            Address::At(bytes::u64_at(block, at + 8))
-        }
+    let Val::Leaf(at, _) = read.value_at(i as usize) else {
+        return Err(Refusal::Unmapped);
+    };
+    let flags = bytes::field_at::<4>(block, at);
+    if flags / OMAP_VAL_ENCRYPTED % 2 == 1 {
+        return Err(Refusal::Encrypted);
     }
+    Ok(bytes::field_at::<8>(block, at + 8))
 }
 
 // The same of what was found, if anything was.
-fn mapping(image: &[u8], size: usize, s: Spotted, id: u64) -> Address
-    requires { SpottedIn image.now size s }
-    ensures { address_at result ≡ mapping_in id (spotted_of image.now size s) }
+fn mapping(image: &[u8], size: usize, found: Option<Spotted>, id: u64) -> Result<u64, Refusal>
+    requires { FoundIn image.now size found }
+    ensures { address_at result ≡ mapping_in id (spotted_of image.now size (Ok found)) }
 {
-    match s {
-        Spotted::Refused(x) => Address::Refused(x),
-        Spotted::None => Address::Refused(refusal::UNMAPPED),
-        Spotted::At(d, i) => mapping_at(image, size, d, i, id),
+    match found {
+        None => Err(Refusal::Unmapped),
+        Some(s) => mapping_at(image, size, s.node, s.index, id),
     }
 }
 
@@ -429,7 +391,7 @@ fn map_root_holds(image: &[u8], lent: Lent, a: u64, v: Node) -> bool
 }
 
 // The mapping of an id as seen from a transaction, from the map's root on.
-fn map_lookup(image: &[u8], lent: Lent, d: MapNode, xid: u64, id: u64) -> Address
+fn map_lookup(image: &[u8], lent: Lent, d: MapNode, xid: u64, id: u64) -> Result<u64, Refusal>
     requires le_size { (512 ≤ lent.size) × (lent.size ≤ 65536) }
     requires map_sound { MapSound image.now lent.size d }
     ensures { address_at result
@@ -437,22 +399,12 @@ fn map_lookup(image: &[u8], lent: Lent, d: MapNode, xid: u64, id: u64) -> Addres
 {
     let mut key = [0u8; 16];
     Order::pair_key(&mut key, id, xid);
-    let none = Edge {
-        some: false,
-        at: 0,
-        len: 0,
-    };
-    let b = Edges {
-        lower: none,
-        upper: none,
-    };
-    let v = d.node;
-    let s = map_floor(image, lent, d, b, &key, v.level);
-    mapping(image, lent.size, s, id)
+    let found = map_floor(image, lent, d, UNBOUNDED, &key, d.node.level)?;
+    mapping(image, lent.size, found, id)
 }
 
 // The address of an id as seen from a transaction, in the map whose root is at m.
-fn map_address(image: &[u8], lent: Lent, xid: u64, id: u64, m: u64) -> Address
+fn map_address(image: &[u8], lent: Lent, xid: u64, id: u64, m: u64) -> Result<u64, Refusal>
     requires { (512 ≤ lent.size) × (lent.size ≤ 65536) }
     ensures { address_at result ≡ map_address (lent_of image.now lent) xid id m }
 {
@@ -466,25 +418,20 @@ fn map_address(image: &[u8], lent: Lent, xid: u64, id: u64, m: u64) -> Address
     };
     let order = Order { code: Order::PAIR };
     let none = &image[..0];
-    let read = load_block(image, lent, order, place, none, none, m);
-    match read {
-        Read::Refused(x) => Address::Refused(x),
-        Read::Loaded(v) => {
-            if !map_root_holds(image, lent, m, v) {
-                return Address::Refused(refusal::ROOT);
-            }
-            map_lookup(image, lent, MapNode { at: m, node: v }, xid, id)
-        }
+    let v = load_block(image, lent, order, place, none, none, m)?;
+    if !map_root_holds(image, lent, m, v) {
+        return Err(Refusal::Root);
     }
+    map_lookup(image, lent, MapNode { at: m, node: v }, xid, id)
 }
 
 // The address of a reference: itself, or with a map lent its id's mapping.
-pub fn address_of(image: &[u8], lent: Lent, xid: u64, r: u64) -> Address
+pub fn address_of(image: &[u8], lent: Lent, xid: u64, r: u64) -> Result<u64, Refusal>
     requires { (512 ≤ lent.size) × (lent.size ≤ 65536) }
     ensures { address_at result ≡ address_of (lent_of image.now lent) xid r }
 {
-    if !lent.mapped {
-        return Address::At(r);
+    match lent.map {
+        None => Ok(r),
+        Some(m) => map_address(image, lent, xid, r, m),
     }
-    map_address(image, lent, xid, r, lent.map)
 }

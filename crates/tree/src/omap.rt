@@ -11,13 +11,13 @@ ghost use Rattle.tree.specs.internal.Range.{end_of};
 ghost use Rattle.tree.specs.internal.Edits.{ReadyEdited};
 ghost use Rattle.tree.specs.internal.Dropping.{Listed, put_anew};
 
-use crate::edited::{Edited, Removed};
-use crate::editor::{Bound, Bounds, Tree};
+use crate::editor::{Tree, UNBOUNDED};
 use crate::lent::Lent;
-use crate::range::Ranged;
 use crate::{lent, undo};
+use node::bytes;
 use node::order::Order;
-use node::{bytes, record, refusal, slot};
+use node::record::Record;
+use node::refusal::Refusal;
 
 // Keys and values of an object map have so many bytes.
 const OMAP_ENTRY: u64 = 16;
@@ -25,15 +25,15 @@ const OMAP_ENTRY: u64 = 16;
 const LAST_ID: u64 = 0xFFFFFFFFFFFFFFFF;
 
 // The end of an id's versions: the next id's first; the last id has none.
-fn versions_end(out: &mut [u8], id: u64) -> bool
-    requires { length out.old ≡ 16 }
-    ensures { end_of result out.new ≡ versions_end id }
+fn versions_end(out: &mut [u8], id: u64) -> Option<&[u8]>
+    requires { length out.now ≡ 16 }
+    ensures { end_of result ≡ versions_end id }
 {
     if id == LAST_ID {
-        return false;
+        return None;
     }
     Order::pair_key(out, id + 1, 0);
-    true
+    Some(out)
 }
 
 impl Tree {
@@ -60,7 +60,7 @@ impl Tree {
         lent: Lent,
         scratch: &mut [u8],
         count: u64,
-    ) -> Edited
+    ) -> Result<Tree, Refusal>
         requires trusts { Trusts image.now lent self heads.old bytes.old }
         requires listed { Listed (2 * lent.size) count scratch.old }
         ensures answer { edited_of lent.size heads.new bytes.new result
@@ -73,27 +73,16 @@ impl Tree {
         let keys = 2 * lent.size;
         let mut t = self;
         let mut at = keys;
-        let mut i: u64 = 0;
-        while i < count {
+        for _i in 0..count {
+            let r = Record { slot: scratch, at };
             let mut key = [0u8; 16];
-            bytes::copy_to(slot::key_of(scratch, at), &mut key, 0);
-            let next = record::next(scratch, at);
-            let done = t.removed(image, heads, bytes, lent, &key, &mut scratch[..keys]);
-            match done {
-                Removed::Refused(x) => {
-                    return Edited::Refused(x);
-                }
-                Removed::Yes(u) => {
-                    t = u;
-                }
-                Removed::No(u) => {
-                    t = u;
-                }
-            }
+            bytes::copy_to(r.key(), &mut key, 0);
+            let next = r.next();
+            let (u, _) = t.removed(image, heads, bytes, lent, &key, &mut scratch[..keys])?;
+            t = u;
             at = next;
-            i += 1;
         }
-        Edited::Done(t)
+        Ok(t)
     }
 
     // The loads of an id's versions, each remove in key order.
@@ -105,7 +94,7 @@ impl Tree {
         lent: Lent,
         scratch: &mut [u8],
         id: u64,
-    ) -> Edited
+    ) -> Result<Tree, Refusal>
         requires trusts { Trusts image.now lent self heads.old bytes.old }
         requires omap { is_omap (state_of lent.size self heads.old bytes.old) ≡ true }
         requires room { length scratch.old ≡ (2 * lent.slots + 2) * lent.size }
@@ -115,41 +104,27 @@ impl Tree {
         ensures follows { Follows lent.size lent.slots self.used heads.old bytes.old
             heads.new bytes.new }
     {
-        let none = Bound {
-            some: false,
-            slot: 0,
-            index: 0,
-        };
-        let b = Bounds {
-            lower: none,
-            upper: none,
-        };
         let mut lo = [0u8; 16];
         Order::pair_key(&mut lo, id, 0);
         let mut hi = [0u8; 16];
-        let ended = versions_end(&mut hi, id);
+        let end = versions_end(&mut hi, id);
         let n = self.root;
         let level = self.level_at(heads, bytes, lent.size, lent.slots, n);
-        let r = self.range_from(image, heads, bytes, lent, b, n, level, &lo, &hi, ended);
-        match r {
-            Ranged::Refused(x) => Edited::Refused(x),
-            Ranged::Done(t, count, _) => {
-                t.range_out(
-                    heads,
-                    bytes,
-                    lent.size,
-                    lent.slots,
-                    t.root,
-                    level,
-                    &lo,
-                    &hi,
-                    ended,
-                    scratch,
-                    2 * lent.size,
-                );
-                t.remove_all(image, heads, bytes, lent, scratch, count)
-            }
-        }
+        let r = self.range_from(image, heads, bytes, lent, UNBOUNDED, n, level, &lo, end)?;
+        let t = r.tree;
+        t.range_out(
+            heads,
+            bytes,
+            lent.size,
+            lent.slots,
+            t.root,
+            level,
+            &lo,
+            end,
+            scratch,
+            2 * lent.size,
+        );
+        t.remove_all(image, heads, bytes, lent, scratch, r.count)
     }
 
     // omap_drop on slots that are trusted.
@@ -161,7 +136,7 @@ impl Tree {
         lent: Lent,
         scratch: &mut [u8],
         id: u64,
-    ) -> Edited
+    ) -> Result<Tree, Refusal>
         requires trusts { Trusts image.now lent self heads.old bytes.old }
         requires room { length scratch.old ≡ (2 * lent.slots + 2) * lent.size }
         ensures answer { edited_of lent.size heads.new bytes.new result
@@ -170,17 +145,14 @@ impl Tree {
             heads.new bytes.new result }
     {
         if !self.is_omap() {
-            return Edited::Refused(refusal::ARGUMENT);
+            return Err(Refusal::Argument);
         }
         undo::clear_marks(heads, lent.slots, self.used);
         let done = self.dropped(image, heads, bytes, lent, scratch, id);
-        match done {
-            Edited::Refused(x) => {
-                undo::restore(heads, bytes, lent.size, lent.slots, self.used);
-                Edited::Refused(x)
-            }
-            Edited::Done(t) => Edited::Done(t),
+        if done.is_err() {
+            undo::restore(heads, bytes, lent.size, lent.slots, self.used);
         }
+        done
     }
 
     // The drop, then the upsert. Refused, it may leave slots changed.
@@ -194,7 +166,7 @@ impl Tree {
         id: u64,
         key: &[u8],
         value: &[u8],
-    ) -> Edited
+    ) -> Result<Tree, Refusal>
         requires trusts { Trusts image.now lent self heads.old bytes.old }
         requires omap { is_omap (state_of lent.size self heads.old bytes.old) ≡ true }
         requires room { length scratch.old ≡ (2 * lent.slots + 2) * lent.size }
@@ -206,23 +178,17 @@ impl Tree {
         ensures follows { Follows lent.size lent.slots self.used heads.old bytes.old
             heads.new bytes.new }
     {
-        let done = self.dropped(image, heads, bytes, lent, scratch, id);
-        match done {
-            Edited::Refused(x) => Edited::Refused(x),
-            Edited::Done(t) => {
-                let keys = 2 * lent.size;
-                t.upserted(
-                    image,
-                    heads,
-                    bytes,
-                    lent,
-                    key,
-                    false,
-                    value,
-                    &mut scratch[..keys],
-                )
-            }
-        }
+        let t = self.dropped(image, heads, bytes, lent, scratch, id)?;
+        let keys = 2 * lent.size;
+        t.upserted(
+            image,
+            heads,
+            bytes,
+            lent,
+            key,
+            Some(value),
+            &mut scratch[..keys],
+        )
     }
 
     // omap_put on slots that are trusted.
@@ -237,7 +203,7 @@ impl Tree {
         xid: u64,
         address: u64,
         size: u64,
-    ) -> Edited
+    ) -> Result<Tree, Refusal>
         requires trusts { Trusts image.now lent self heads.old bytes.old }
         requires room { length scratch.old ≡ (2 * lent.slots + 2) * lent.size }
         ensures answer { edited_of lent.size heads.new bytes.new result
@@ -247,22 +213,19 @@ impl Tree {
             heads.new bytes.new result }
     {
         if !self.is_omap() {
-            return Edited::Refused(refusal::ARGUMENT);
+            return Err(Refusal::Argument);
         }
         undo::clear_marks(heads, lent.slots, self.used);
         let mut key = [0u8; 16];
         Order::pair_key(&mut key, id, xid);
         let mut value = [0u8; 16];
-        bytes::put_u32(&mut value, 4, size);
-        bytes::put_u64(&mut value, 8, address);
+        bytes::put_field::<4>(&mut value, 4, size);
+        bytes::put_field::<8>(&mut value, 8, address);
         let done = self.put(image, heads, bytes, lent, scratch, id, &key, &value);
-        match done {
-            Edited::Refused(x) => {
-                undo::restore(heads, bytes, lent.size, lent.slots, self.used);
-                Edited::Refused(x)
-            }
-            Edited::Done(t) => Edited::Done(t),
+        if done.is_err() {
+            undo::restore(heads, bytes, lent.size, lent.slots, self.used);
         }
+        done
     }
 
     // An id's versions taken out.
@@ -274,7 +237,7 @@ impl Tree {
         scratch: &mut [u8],
         lent: Lent,
         id: u64,
-    ) -> Edited
+    ) -> Result<Tree, Refusal>
         ensures answer { edited_of lent.size heads.new bytes.new result
             ≡ edits lent.size lent.slots self heads.old bytes.old scratch.old
             (λ s. omap_drop (lent_of image.now lent) s id) }
@@ -282,7 +245,7 @@ impl Tree {
             heads.new bytes.new result }
     {
         if !lent::edit_holds(self, image, heads, bytes, scratch, lent) {
-            return Edited::Refused(refusal::LENT);
+            return Err(Refusal::Lent);
         }
         self.omap_drop_in(image, heads, bytes, lent, scratch, id)
     }
@@ -299,7 +262,7 @@ impl Tree {
         xid: u64,
         address: u64,
         size: u64,
-    ) -> Edited
+    ) -> Result<Tree, Refusal>
         ensures answer { edited_of lent.size heads.new bytes.new result
             ≡ edits lent.size lent.slots self heads.old bytes.old scratch.old
             (λ s. omap_put (lent_of image.now lent) s id xid address size) }
@@ -307,7 +270,7 @@ impl Tree {
             heads.new bytes.new result }
     {
         if !lent::edit_holds(self, image, heads, bytes, scratch, lent) {
-            return Edited::Refused(refusal::LENT);
+            return Err(Refusal::Lent);
         }
         self.omap_put_in(image, heads, bytes, lent, scratch, id, xid, address, size)
     }

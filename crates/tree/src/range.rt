@@ -1,7 +1,8 @@
 // The entries from one key to another: their nodes loaded and the answer counted first, then its records written out.
 ghost use Rattle.std.specs.Prelude.{◌≡◌, true, ◌+◌, ◌*◌, ◌-◌, ◌≤◌, ◌<◌, ◌^◌, length, drop};
 ghost use Rattle.node.specs.Bytes.{splice};
-ghost use Rattle.node.specs.Records.{record_length, records_length, entry_of, entries_of, records_of};
+ghost use Rattle.node.specs.laws.base.Bytes.{Bytes};
+ghost use Rattle.node.specs.Records.{records_length, entry_of, entries_of, records_of};
 ghost use Rattle.tree.specs.State.{node_at};
 ghost use Rattle.tree.specs.Lent.{lent_of};
 ghost use Rattle.tree.specs.Lookup.{ends_above, between, range_enters, range_from, range_in};
@@ -14,20 +15,25 @@ ghost use Rattle.tree.specs.internal.Undo.{Follows};
 ghost use Rattle.tree.specs.internal.Range.{end_of, lies_between, next_entered, most, at_most, sum_of, counted, ranged_of, ReadyRanged};
 ghost use Rattle.tree.specs.internal.Range.{range_child, held_child, range_held, range_way};
 
-use crate::editor::{Bound, Bounds, ChildAt, Loaded, Tree};
+use crate::editor::{Bounds, Tree, UNBOUNDED};
 use crate::lent::Lent;
 use crate::{bank, lent, undo};
+use node::bytes;
 use node::order::Order;
-use node::{bytes, record, refusal, slot};
+use node::record::Record;
+use node::refusal::Refusal;
+use node::slot::Records;
+use node::val::Child;
 
 // Sums stop here. No tree's entries come near it: its slots hold less.
 const MOST: u64 = 0x4000000000000000;
 
 // The answer of range: so many records of so many bytes together.
 #[derive(Clone, Copy)]
-pub enum Ranged {
-    Refused(u64),
-    Done(Tree, u64, u64),
+pub struct Ranged {
+    pub tree: Tree,
+    pub count: u64,
+    pub length: u64,
 }
 
 // How many records, and how many bytes they take.
@@ -50,139 +56,125 @@ fn add(a: u64, b: u64) -> u64
 }
 
 // Below an upper end, if there is one.
-fn ends_above(order: Order, ended: bool, hi: &[u8], key: &[u8]) -> bool
-    ensures { result ≡ ends_above order.code (end_of ended hi.now) key.now }
+fn ends_above(order: Order, hi: Option<&[u8]>, key: &[u8]) -> bool
+    ensures { result ≡ ends_above order.code (end_of hi.entry) key.now }
 {
-    if !ended {
-        return true;
+    match hi {
+        Some(end) => order.less(key, end),
+        None => true,
     }
-    order.less(key, hi)
 }
 
 // Whether a record's key lies between.
-fn between_at(slot: &[u8], at: usize, order: Order, lo: &[u8], hi: &[u8], ended: bool) -> bool
-    requires { at + record_length (drop at slot.now) ≤ length slot.now }
+fn between_at(r: Record<'_>, order: Order, lo: &[u8], hi: Option<&[u8]>) -> bool
     ensures { result
-        ≡ lies_between order.code lo.now (end_of ended hi.now) (entry_of (drop at slot.now)).key }
+        ≡ lies_between order.code lo.now (end_of hi.entry) (entry_of (drop r.entry.at r.entry.slot.now)).key }
 {
-    let key = slot::key_of(slot, at);
+    let key = r.key();
     if order.less(key, lo) {
         return false;
     }
-    ends_above(order, ended, hi, key)
+    ends_above(order, hi, key)
 }
 
-// Whether range looks into child i of n records, which lies at an offset: its key below hi, and the next, if any, above lo.
+// Whether range looks into child i, which lies at an offset: its key below hi, and the next, if any, above lo.
 fn enters_at(
-    slot: &[u8],
-    n: u64,
+    records: Records<'_>,
     i: u64,
     at: usize,
     order: Order,
     lo: &[u8],
-    hi: &[u8],
-    ended: bool,
+    hi: Option<&[u8]>,
 ) -> bool
-    requires { (records_length n slot.now ≤ length slot.now) × (i < n) × (at ≡ records_length i slot.now) }
+    requires { (i < records.count) × (at ≡ records_length i records.slot.now) }
     ensures { result
-        ≡ range_enters order.code lo.now (end_of ended hi.now) (entries_of n slot.now) i }
+        ≡ range_enters order.code lo.now (end_of hi.entry) (entries_of records.entry.count records.entry.slot.now) i }
 {
-    let key = slot::key_of(slot, at);
-    if !ends_above(order, ended, hi, key) {
+    let slot = records.slot;
+    let r = Record { slot, at };
+    if !ends_above(order, hi, r.key()) {
         return false;
     }
-    if n <= i + 1 {
+    if records.count <= i + 1 {
         return true;
     }
-    let next = record::next(slot, at);
-    order.less(lo, slot::key_of(slot, next))
+    let next = Record { slot, at: r.next() };
+    order.less(lo, next.key())
 }
 
 // The first child from one on that range looks into, n if there is none. One walk, so that a node's children are not each looked for anew.
-fn next_in(slot: &[u8], n: u64, from: u64, order: Order, lo: &[u8], hi: &[u8], ended: bool) -> u64
-    requires { (records_length n slot.now ≤ length slot.now) × (from ≤ n) }
+fn next_in(records: Records<'_>, from: u64, order: Order, lo: &[u8], hi: Option<&[u8]>) -> u64
+    requires { from ≤ records.count }
     ensures { result
-        ≡ next_entered order.code lo.now (end_of ended hi.now) (entries_of n slot.now)
-        (n - from) from }
+        ≡ next_entered order.code lo.now (end_of hi.entry) (entries_of records.entry.count records.entry.slot.now)
+        (records.entry.count - from) from }
 {
-    let mut at = slot::offset_of(slot, n, from);
-    let mut i = from;
-    while i < n {
-        let enters = enters_at(slot, n, i, at, order, lo, hi, ended);
-        if enters {
+    let mut at = records.offset_of(from);
+    for i in from..records.count {
+        if enters_at(records, i, at, order, lo, hi) {
             return i;
         }
-        at = record::next(slot, at);
-        i += 1;
+        let r = Record {
+            slot: records.slot,
+            at,
+        };
+        at = r.next();
     }
-    i
+    records.count
 }
 
-// Of n records in a slot, those between.
-fn count_between(slot: &[u8], n: u64, order: Order, lo: &[u8], hi: &[u8], ended: bool) -> Sum
-    requires { (records_length n slot.now ≤ length slot.now) × (length slot.now ≤ 2 ^ 20) }
+// Of the records of a slot, those between.
+fn count_between(records: Records<'_>, order: Order, lo: &[u8], hi: Option<&[u8]>) -> Sum
+    requires { length records.slot.now ≤ 2 ^ 20 }
     ensures { result
-        ≡ sum_of (between order.code lo.now (end_of ended hi.now) (entries_of n slot.now)) }
+        ≡ sum_of (between order.code lo.now (end_of hi.entry) (entries_of records.entry.count records.entry.slot.now)) }
 {
+    let slot = records.slot;
     let mut count: u64 = 0;
     let mut length: u64 = 0;
     let mut at: usize = 0;
-    let mut i: u64 = 0;
-    while i < n {
-        let next = record::next(slot, at);
-        let taken = between_at(slot, at, order, lo, hi, ended);
-        if !taken {
-            at = next;
-            i += 1;
-            continue;
+    for _i in 0..records.count {
+        let r = Record { slot, at };
+        let next = r.next();
+        if between_at(r, order, lo, hi) {
+            count += 1;
+            length += (next - at) as u64;
         }
-        count += 1;
-        length += (next - at) as u64;
         at = next;
-        i += 1;
     }
-    Sum {
-        count: count,
-        length: length,
-    }
+    Sum { count, length }
 }
 
 // The same records written out from a place on. The answer is where they end.
 fn write_between(
-    slot: &[u8],
-    n: u64,
+    records: Records<'_>,
     order: Order,
     lo: &[u8],
-    hi: &[u8],
-    ended: bool,
+    hi: Option<&[u8]>,
     out: &mut [u8],
     from: usize,
 ) -> usize
-    requires slot_in_bounds { records_length n slot.now ≤ length slot.now }
-    requires slot_in_bounds_2 { from + length (records_of (between order.code lo.now (end_of ended hi.now) (entries_of n slot.now)))
+    requires room { from + length (records_of (between order.code lo.now (end_of hi) (entries_of records.count records.slot.now)))
         ≤ length out.old }
+    requires bytes { Bytes records.slot.now }
     ensures end { result
-        ≡ from + length (records_of (between order.code lo.now (end_of ended hi.now)
-        (entries_of n slot.now))) }
+        ≡ from + length (records_of (between order.code lo.now (end_of hi.entry)
+        (entries_of records.entry.count records.entry.slot.now))) }
     ensures output { out.new
-        ≡ splice out.old from (records_of (between order.code lo.now (end_of ended hi.now)
-        (entries_of n slot.now))) }
+        ≡ splice out.old from (records_of (between order.code lo.now (end_of hi.entry)
+        (entries_of records.entry.count records.entry.slot.now))) }
 {
+    let slot = records.slot;
     let mut end = from;
     let mut at: usize = 0;
-    let mut i: u64 = 0;
-    while i < n {
-        let next = record::next(slot, at);
-        let taken = between_at(slot, at, order, lo, hi, ended);
-        if !taken {
-            at = next;
-            i += 1;
-            continue;
+    for _i in 0..records.count {
+        let r = Record { slot, at };
+        let next = r.next();
+        if between_at(r, order, lo, hi) {
+            bytes::copy_to(&slot[at..next], out, end);
+            end += next - at;
         }
-        bytes::copy_to(&slot[at..next], out, end);
-        end += next - at;
         at = next;
-        i += 1;
     }
     end
 }
@@ -198,17 +190,16 @@ impl Tree {
         n: usize,
         i: u64,
         lo: &[u8],
-        hi: &[u8],
-        ended: bool,
+        hi: Option<&[u8]>,
     ) -> bool
         requires { Ready size slots self.used heads.now bytes.now }
         ensures { result
-            ≡ range_enters self.order lo.now (end_of ended hi.now)
+            ≡ range_enters self.order lo.now (end_of hi.entry)
             (node_at (state_of size self heads.now bytes.now) n).entries i }
     {
         let order = Order { code: self.order };
         let key = self.key_at(heads, bytes, size, slots, n, i);
-        if !ends_above(order, ended, hi, key) {
+        if !ends_above(order, hi, key) {
             return false;
         }
         let count = self.count_at(heads, bytes, size, slots, n);
@@ -231,12 +222,11 @@ impl Tree {
         n: usize,
         from: u64,
         lo: &[u8],
-        hi: &[u8],
-        ended: bool,
+        hi: Option<&[u8]>,
     ) -> u64
         requires { Ready size slots self.used heads.now bytes.now }
         ensures { result
-            ≡ next_entered self.order lo.now (end_of ended hi.now)
+            ≡ next_entered self.order lo.now (end_of hi.entry)
             (node_at (state_of size self heads.now bytes.now) n).entries
             (length (node_at (state_of size self heads.now bytes.now) n).entries - from) from }
     {
@@ -248,15 +238,11 @@ impl Tree {
             return from;
         }
         let order = Order { code: self.order };
-        next_in(
-            bank::slot_of(bytes, size, n),
-            h.count,
-            from,
-            order,
-            lo,
-            hi,
-            ended,
-        )
+        let records = Records {
+            slot: bank::slot_of(bytes, size, n),
+            count: h.count,
+        };
+        next_in(records, from, order, lo, hi)
     }
 
     // Of the entries of slot n, those between.
@@ -268,12 +254,11 @@ impl Tree {
         slots: usize,
         n: usize,
         lo: &[u8],
-        hi: &[u8],
-        ended: bool,
+        hi: Option<&[u8]>,
     ) -> Sum
         requires { Ready size slots self.used heads.now bytes.now }
         ensures { result
-            ≡ sum_of (between self.order lo.now (end_of ended hi.now)
+            ≡ sum_of (between self.order lo.now (end_of hi.entry)
             (node_at (state_of size self heads.now bytes.now) n).entries) }
     {
         if self.used <= n {
@@ -284,7 +269,11 @@ impl Tree {
         }
         let h = bank::live_at(heads, n);
         let order = Order { code: self.order };
-        count_between(bank::slot_of(bytes, size, n), h.count, order, lo, hi, ended)
+        let records = Records {
+            slot: bank::slot_of(bytes, size, n),
+            count: h.count,
+        };
+        count_between(records, order, lo, hi)
     }
 
     // The range d levels below slot n: nodes loaded, entries counted.
@@ -299,52 +288,43 @@ impl Tree {
         n: usize,
         d: u64,
         lo: &[u8],
-        hi: &[u8],
-        ended: bool,
-    ) -> Ranged
+        hi: Option<&[u8]>,
+    ) -> Result<Ranged, Refusal>
         requires ready_2 { Ready lent.size lent.slots self.used heads.old bytes.old }
         requires bounds_in { BoundsIn self.used b }
         ensures answer { ranged_of lent.size heads.new bytes.new result
-            ≡ counted (range_from d (lent_of image.now lent) lo.now (end_of ended hi.now)
+            ≡ counted (range_from d (lent_of image.now lent) lo.now (end_of hi.entry)
             (state_of lent.size self heads.old bytes.old)
             (bounds_of (state_of lent.size self heads.old bytes.old) b) n) }
         ensures ready { ReadyRanged lent.size lent.slots heads.new bytes.new result }
         ensures follows { Follows lent.size lent.slots self.used heads.old bytes.old heads.new bytes.new }
     {
         if d == 0 {
-            let s = self.count_at_between(heads, bytes, lent.size, lent.slots, n, lo, hi, ended);
-            return Ranged::Done(self, s.count, s.length);
+            let s = self.count_at_between(heads, bytes, lent.size, lent.slots, n, lo, hi);
+            return Ok(Ranged {
+                tree: self,
+                count: s.count,
+                length: s.length,
+            });
         }
         let kids = self.count_at(heads, bytes, lent.size, lent.slots, n);
         let mut t = self;
         let mut count: u64 = 0;
         let mut length: u64 = 0;
-        let mut i = t.next_entered(heads, bytes, lent.size, lent.slots, n, 0, lo, hi, ended);
+        let mut i = t.next_entered(heads, bytes, lent.size, lent.slots, n, 0, lo, hi);
+        // From each child that range looks into, i goes to the next such child, not to the next number.
         while i < kids {
-            let got = t.range_child(image, heads, bytes, lent, b, n, i, d - 1, lo, hi, ended);
-            match got {
-                Ranged::Refused(x) => {
-                    return Ranged::Refused(x);
-                }
-                Ranged::Done(u, k, m) => {
-                    t = u;
-                    count = add(count, k);
-                    length = add(length, m);
-                    i = u.next_entered(
-                        heads,
-                        bytes,
-                        lent.size,
-                        lent.slots,
-                        n,
-                        i + 1,
-                        lo,
-                        hi,
-                        ended,
-                    );
-                }
-            }
+            let got = t.range_child(image, heads, bytes, lent, b, n, i, d - 1, lo, hi)?;
+            t = got.tree;
+            count = add(count, got.count);
+            length = add(length, got.length);
+            i = t.next_entered(heads, bytes, lent.size, lent.slots, n, i + 1, lo, hi);
         }
-        Ranged::Done(t, count, length)
+        Ok(Ranged {
+            tree: t,
+            count,
+            length,
+        })
     }
 
     // The same of child i of slot n, if range looks into it.
@@ -360,29 +340,29 @@ impl Tree {
         i: u64,
         d: u64,
         lo: &[u8],
-        hi: &[u8],
-        ended: bool,
-    ) -> Ranged
+        hi: Option<&[u8]>,
+    ) -> Result<Ranged, Refusal>
         requires ready_2 { Ready lent.size lent.slots self.used heads.old bytes.old }
         requires bounds_in { BoundsIn self.used b }
         ensures answer { ranged_of lent.size heads.new bytes.new result
-            ≡ counted (range_child (range_from d (lent_of image.now lent) lo.now (end_of ended hi.now))
+            ≡ counted (range_child (range_from d (lent_of image.now lent) lo.now (end_of hi.entry))
             (lent_of image.now lent) (state_of lent.size self heads.old bytes.old)
             (bounds_of (state_of lent.size self heads.old bytes.old) b) n lo.now
-            (end_of ended hi.now) i) }
+            (end_of hi.entry) i) }
         ensures ready { ReadyRanged lent.size lent.slots heads.new bytes.new result }
         ensures follows { Follows lent.size lent.slots self.used heads.old bytes.old heads.new bytes.new }
     {
-        let enters = self.range_enters(heads, bytes, lent.size, lent.slots, n, i, lo, hi, ended);
+        let enters = self.range_enters(heads, bytes, lent.size, lent.slots, n, i, lo, hi);
         if !enters {
-            return Ranged::Done(self, 0, 0);
+            return Ok(Ranged {
+                tree: self,
+                count: 0,
+                length: 0,
+            });
         }
         let inner = self.child_bounds(heads, bytes, lent.size, lent.slots, b, n, i);
-        let got = self.load_child(image, heads, bytes, lent, b, n, i);
-        match got {
-            Loaded::Refused(x) => Ranged::Refused(x),
-            Loaded::At(t, c) => t.range_from(image, heads, bytes, lent, inner, c, d, lo, hi, ended),
-        }
+        let (t, c) = self.load_child(image, heads, bytes, lent, b, n, i)?;
+        t.range_from(image, heads, bytes, lent, inner, c, d, lo, hi)
     }
 
     // The records of the range d levels below slot n, all of its nodes loaded, written out from a place on. The answer is where they end.
@@ -396,43 +376,30 @@ impl Tree {
         n: usize,
         d: u64,
         lo: &[u8],
-        hi: &[u8],
-        ended: bool,
+        hi: Option<&[u8]>,
         out: &mut [u8],
         from: usize,
     ) -> usize
         requires ready { Ready size slots self.used heads.now bytes.now }
         requires n_in_bounds { from + length (records_of (range_held d (state_of size self heads.now bytes.now) lo.now
-            (end_of ended hi.now) n)) ≤ length out.old }
+            (end_of hi) n)) ≤ length out.old }
         ensures end { result
             ≡ from + length (records_of (range_held d (state_of size self heads.now bytes.now)
-            lo.now (end_of ended hi.now) n)) }
+            lo.now (end_of hi.entry) n)) }
         ensures output { out.new
             ≡ splice out.old from (records_of (range_held d (state_of size self heads.now
-            bytes.now) lo.now (end_of ended hi.now) n)) }
+            bytes.now) lo.now (end_of hi.entry) n)) }
     {
         if d == 0 {
-            return self.write_at_between(heads, bytes, size, slots, n, lo, hi, ended, out, from);
+            return self.write_at_between(heads, bytes, size, slots, n, lo, hi, out, from);
         }
         let kids = self.count_at(heads, bytes, size, slots, n);
         let mut end = from;
-        let mut i = self.next_entered(heads, bytes, size, slots, n, 0, lo, hi, ended);
+        let mut i = self.next_entered(heads, bytes, size, slots, n, 0, lo, hi);
+        // From each child that range looks into, i goes to the next such child, not to the next number.
         while i < kids {
-            end = self.child_out(
-                heads,
-                bytes,
-                size,
-                slots,
-                n,
-                i,
-                d - 1,
-                lo,
-                hi,
-                ended,
-                out,
-                end,
-            );
-            i = self.next_entered(heads, bytes, size, slots, n, i + 1, lo, hi, ended);
+            end = self.child_out(heads, bytes, size, slots, n, i, d - 1, lo, hi, out, end);
+            i = self.next_entered(heads, bytes, size, slots, n, i + 1, lo, hi);
         }
         end
     }
@@ -449,34 +416,35 @@ impl Tree {
         i: u64,
         d: u64,
         lo: &[u8],
-        hi: &[u8],
-        ended: bool,
+        hi: Option<&[u8]>,
         out: &mut [u8],
         from: usize,
     ) -> usize
         requires ready { Ready size slots self.used heads.now bytes.now }
         requires i_in_bounds { from + length (records_of (held_child (range_held d (state_of size self heads.now bytes.now) lo.now
-            (end_of ended hi.now)) (state_of size self heads.now bytes.now) lo.now (end_of ended hi.now) n i))
+            (end_of hi)) (state_of size self heads.now bytes.now) lo.now (end_of hi) n i))
             ≤ length out.old }
         ensures end { result
             ≡ from + length (records_of (held_child (range_held d (state_of size self heads.now bytes.now)
-            lo.now (end_of ended hi.now)) (state_of size self heads.now bytes.now)
-            lo.now (end_of ended hi.now) n i)) }
+            lo.now (end_of hi.entry)) (state_of size self heads.now bytes.now)
+            lo.now (end_of hi.entry) n i)) }
         ensures output { out.new
             ≡ splice out.old from (records_of (held_child (range_held d (state_of size self heads.now
-            bytes.now) lo.now (end_of ended hi.now)) (state_of size self heads.now bytes.now) lo.now (end_of ended hi.now) n i)) }
+            bytes.now) lo.now (end_of hi.entry)) (state_of size self heads.now bytes.now) lo.now (end_of hi.entry) n i)) }
     {
-        let enters = self.range_enters(heads, bytes, size, slots, n, i, lo, hi, ended);
+        let enters = self.range_enters(heads, bytes, size, slots, n, i, lo, hi);
         if !enters {
             return from;
         }
-        let child = self.child_at(heads, bytes, size, slots, n, i);
+        let held = self.child_at(heads, bytes, size, slots, n, i);
+        let Some(child) = held else {
+            return from;
+        };
         match child {
-            ChildAt::None => from,
-            ChildAt::Disk(_) => from,
-            ChildAt::Mem(c) => self.range_out(
-                heads, bytes, size, slots, c as usize, d, lo, hi, ended, out, from,
+            Child::Mem(c) => self.range_out(
+                heads, bytes, size, slots, c as usize, d, lo, hi, out, from,
             ),
+            Child::Disk(_) => from,
         }
     }
 
@@ -489,19 +457,18 @@ impl Tree {
         slots: usize,
         n: usize,
         lo: &[u8],
-        hi: &[u8],
-        ended: bool,
+        hi: Option<&[u8]>,
         out: &mut [u8],
         from: usize,
     ) -> usize
         requires ready { Ready size slots self.used heads.now bytes.now }
-        requires n_in_bounds { from + length (records_of (between self.order lo.now (end_of ended hi.now)
+        requires n_in_bounds { from + length (records_of (between self.order lo.now (end_of hi)
             (node_at (state_of size self heads.now bytes.now) n).entries)) ≤ length out.old }
         ensures end { result
-            ≡ from + length (records_of (between self.order lo.now (end_of ended hi.now)
+            ≡ from + length (records_of (between self.order lo.now (end_of hi.entry)
             (node_at (state_of size self heads.now bytes.now) n).entries)) }
         ensures output { out.new
-            ≡ splice out.old from (records_of (between self.order lo.now (end_of ended hi.now)
+            ≡ splice out.old from (records_of (between self.order lo.now (end_of hi.entry)
             (node_at (state_of size self heads.now bytes.now) n).entries)) }
     {
         if self.used <= n {
@@ -509,16 +476,12 @@ impl Tree {
         }
         let h = bank::live_at(heads, n);
         let order = Order { code: self.order };
-        write_between(
-            bank::slot_of(bytes, size, n),
-            h.count,
-            order,
-            lo,
-            hi,
-            ended,
-            out,
-            from,
-        )
+        let part = bank::slot_of(bytes, size, n);
+        let records = Records {
+            slot: part,
+            count: h.count,
+        };
+        write_between(records, order, lo, hi, out, from)
     }
 
     // Of range, what follows 12: the loads, 20, the records. Refused, it may leave slots changed.
@@ -531,7 +494,7 @@ impl Tree {
         lo: &[u8],
         hi: &[u8],
         out: &mut [u8],
-    ) -> Ranged
+    ) -> Result<Ranged, Refusal>
         requires ready_2 { Ready lent.size lent.slots self.used heads.old bytes.old }
         requires bytes_value { trusted (lent_of image.now lent) (state_of lent.size self heads.old bytes.old) ≡ true }
         requires roomy { Roomy (2 * lent.size) (state_of lent.size self heads.old bytes.old) }
@@ -544,31 +507,36 @@ impl Tree {
         ensures ready { ReadyRanged lent.size lent.slots heads.new bytes.new result }
         ensures follows { Follows lent.size lent.slots self.used heads.old bytes.old heads.new bytes.new }
     {
-        let none = Bound {
-            some: false,
-            slot: 0,
-            index: 0,
-        };
-        let b = Bounds {
-            lower: none,
-            upper: none,
-        };
         let root = self.root;
         let level = self.level_at(heads, bytes, lent.size, lent.slots, root);
-        let found = self.range_from(image, heads, bytes, lent, b, root, level, lo, hi, true);
-        match found {
-            Ranged::Refused(x) => Ranged::Refused(x),
-            Ranged::Done(t, count, length) => {
-                let room = out.len() as u64;
-                if room < length {
-                    return Ranged::Refused(refusal::OUTPUT);
-                }
-                t.range_out(
-                    heads, bytes, lent.size, lent.slots, t.root, level, lo, hi, true, out, 0,
-                );
-                Ranged::Done(t, count, length)
-            }
+        let found = self.range_from(
+            image,
+            heads,
+            bytes,
+            lent,
+            UNBOUNDED,
+            root,
+            level,
+            lo,
+            Some(hi),
+        )?;
+        let t = found.tree;
+        if (out.len() as u64) < found.length {
+            return Err(Refusal::Output);
         }
+        t.range_out(
+            heads,
+            bytes,
+            lent.size,
+            lent.slots,
+            t.root,
+            level,
+            lo,
+            Some(hi),
+            out,
+            0,
+        );
+        Ok(found)
     }
 
     // range on slots that are trusted: 12 of both ends; the loads; 20. Refused, every slot is as it was.
@@ -581,7 +549,7 @@ impl Tree {
         lo: &[u8],
         hi: &[u8],
         out: &mut [u8],
-    ) -> Ranged
+    ) -> Result<Ranged, Refusal>
         requires trusts { Trusts image.now lent self heads.old bytes.old }
         ensures answer { range_means lent.size heads.new bytes.new out.new result
             ≡ range_in (lent_of image.now lent) (state_of lent.size self heads.old bytes.old) (length out.old) lo.now hi.now }
@@ -594,20 +562,17 @@ impl Tree {
     {
         let order = Order { code: self.order };
         if !order.keyed(lo.len()) {
-            return Ranged::Refused(refusal::ARGUMENT);
+            return Err(Refusal::Argument);
         }
         if !order.keyed(hi.len()) {
-            return Ranged::Refused(refusal::ARGUMENT);
+            return Err(Refusal::Argument);
         }
         undo::clear_marks(heads, lent.slots, self.used);
         let got = self.range_way(image, heads, bytes, lent, lo, hi, out);
-        match got {
-            Ranged::Refused(x) => {
-                undo::restore(heads, bytes, lent.size, lent.slots, self.used);
-                Ranged::Refused(x)
-            }
-            Ranged::Done(t, count, length) => Ranged::Done(t, count, length),
+        if got.is_err() {
+            undo::restore(heads, bytes, lent.size, lent.slots, self.used);
         }
+        got
     }
 
     // The entries from one key up to another, without it; their records are copied to the output's start.
@@ -620,7 +585,7 @@ impl Tree {
         lo: &[u8],
         hi: &[u8],
         out: &mut [u8],
-    ) -> Ranged
+    ) -> Result<Ranged, Refusal>
         ensures answer { range_means lent.size heads.new bytes.new out.new result
             ≡ ranged_in (lent_of image.now lent) self heads.old bytes.old (length out.old) lo.now hi.now }
         ensures output { out.new
@@ -631,7 +596,7 @@ impl Tree {
             heads.new bytes.new result }
     {
         if !lent::lent_holds(self, image, heads, bytes, lent) {
-            return Ranged::Refused(refusal::LENT);
+            return Err(Refusal::Lent);
         }
         self.range_in(image, heads, bytes, lent, lo, hi, out)
     }

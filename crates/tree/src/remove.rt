@@ -17,30 +17,23 @@ ghost use Rattle.tree.specs.internal.Index.{Rewritten};
 ghost use Rattle.tree.specs.internal.Edits.{ReadyEdited, ReadyRemoved};
 ghost use Rattle.tree.specs.internal.Removing.{dead_put, child_dropped, DropFits, DropRoom, Emptied, taken_on, shrunk_at, removed_at, OnWay, SameUsed, Handed};
 
-use crate::edited::{Edited, Removed};
-use crate::editor::{Bound, Bounds, Loaded, Tree};
+use crate::editor::{Tree, UNBOUNDED};
 use crate::lent::Lent;
-use crate::still::Still;
-use crate::way::Went;
 use crate::{bank, lent, undo, writers};
 use node::head::Head;
 use node::info::BTreeInfo;
 use node::order::Order;
-use node::{fit, refusal};
+use node::refusal::Refusal;
+use node::slot::Records;
 
 // A tree's numbers with other counts.
 pub fn recounted(info: BTreeInfo, keys: u64, nodes: u64) -> BTreeInfo
     ensures { result ≡ with_counts info keys nodes }
 {
     BTreeInfo {
-        flags: info.flags,
-        node_size: info.node_size,
-        key_size: info.key_size,
-        val_size: info.val_size,
-        longest_key: info.longest_key,
-        longest_val: info.longest_val,
         key_count: keys,
         node_count: nodes,
+        ..info
     }
 }
 
@@ -73,15 +66,10 @@ impl Tree {
     {
         let h = Head::load(heads, n);
         let d = Head {
-            level: h.level,
             count: 0,
             used: 0,
-            placed: h.placed,
-            block: h.block,
-            named: h.named,
-            id: h.id,
-            dirty: h.dirty,
             dead: 1,
+            ..h
         };
         self.put_words(heads, bytes, size, slots, n, d);
     }
@@ -104,13 +92,11 @@ impl Tree {
             (drop_emptied (steps_of way.now kids.now steps) (state_of size self heads.old bytes.old)) result }
     {
         let mut dropped: u64 = 0;
-        let mut j: usize = steps - 1;
-        while 0 < j {
+        for j in (1..steps).rev() {
             let n = way[j - 1];
             let i = kids[j - 1];
             let c = way[j];
             dropped += self.drop_if_empty(heads, bytes, size, slots, n, i, c);
-            j -= 1;
         }
         dropped
     }
@@ -173,17 +159,7 @@ impl Tree {
             return;
         }
         let h = Head::load(heads, self.root);
-        let d = Head {
-            level: 0,
-            count: h.count,
-            used: h.used,
-            placed: h.placed,
-            block: h.block,
-            named: h.named,
-            id: h.id,
-            dirty: h.dirty,
-            dead: h.dead,
-        };
+        let d = Head { level: 0, ..h };
         self.put_words(heads, bytes, size, slots, self.root, d);
     }
 
@@ -204,27 +180,19 @@ impl Tree {
         let old = Head::load(heads, r);
         let new = Head::load(heads, c);
         let dead = Head {
-            level: old.level,
             count: 0,
             used: 0,
-            placed: old.placed,
-            block: old.block,
             named: new.named,
             id: new.id,
-            dirty: old.dirty,
             dead: 1,
+            ..old
         };
         self.put_words(heads, bytes, size, slots, r, dead);
         let top = Head {
-            level: new.level,
-            count: new.count,
-            used: new.used,
-            placed: new.placed,
-            block: new.block,
             named: old.named,
             id: old.id,
             dirty: 1,
-            dead: new.dead,
+            ..new
         };
         self.put_words(heads, bytes, size, slots, c, top);
         let info = self.info;
@@ -241,8 +209,11 @@ impl Tree {
             (node_at (state_of size self heads.now bytes.now) n).entries }
     {
         let h = bank::live_at(heads, n);
-        let part = bank::slot_of(bytes, size, n);
-        fit::fits(part, h.count as usize, h.used, self.info, true, h.level)
+        let records = Records {
+            slot: bank::slot_of(bytes, size, n),
+            count: h.count,
+        };
+        records.fits(h.used, self.info, true, h.level)
     }
 
     // An index root with one child.
@@ -266,7 +237,7 @@ impl Tree {
         bytes: &mut [u8],
         lent: Lent,
         n: u64,
-    ) -> Edited
+    ) -> Result<Tree, Refusal>
         requires ready { Ready lent.size lent.slots self.used heads.old bytes.old }
         requires trust { trusted (lent_of image.now lent) (state_of lent.size self heads.old bytes.old) ≡ true }
         ensures answer { edited_of lent.size heads.new bytes.new result
@@ -274,42 +245,23 @@ impl Tree {
         ensures ready { ReadyEdited lent.size lent.slots heads.new bytes.new result }
         ensures follows { Follows lent.size lent.slots self.used heads.old bytes.old heads.new bytes.new }
     {
-        let none = Bound {
-            some: false,
-            slot: 0,
-            index: 0,
-        };
-        let unbounded = Bounds {
-            lower: none,
-            upper: none,
-        };
         let mut t = self;
-        let mut d = n;
-        while 0 < d {
+        for _i in 0..n {
             let only = t.has_only_child(heads, bytes, lent.size, lent.slots);
             if !only {
-                return Edited::Done(t);
+                return Ok(t);
             }
-            let got = t.load_child(image, heads, bytes, lent, unbounded, t.root, 0);
-            match got {
-                Loaded::Refused(x) => {
-                    return Edited::Refused(x);
-                }
-                Loaded::At(u, c) => {
-                    let fits = u.fits_as_root(heads, bytes, lent.size, lent.slots, c);
-                    if !fits {
-                        return Edited::Done(u);
-                    }
-                    let info = u.info;
-                    if info.node_count == 0 {
-                        return Edited::Refused(refusal::COUNT);
-                    }
-                    t = u.handed_down(heads, bytes, lent.size, lent.slots, c);
-                    d -= 1;
-                }
+            let (u, c) = t.load_child(image, heads, bytes, lent, UNBOUNDED, t.root, 0)?;
+            let fits = u.fits_as_root(heads, bytes, lent.size, lent.slots, c);
+            if !fits {
+                return Ok(u);
             }
+            if u.info.node_count == 0 {
+                return Err(Refusal::Count);
+            }
+            t = u.handed_down(heads, bytes, lent.size, lent.slots, c);
         }
-        Edited::Done(t)
+        Ok(t)
     }
 
     // The leaf edited, emptied nodes dropped: 17.
@@ -323,7 +275,7 @@ impl Tree {
         steps: usize,
         i: u64,
         at: usize,
-    ) -> Edited
+    ) -> Result<Tree, Refusal>
         requires ready { (Ready lent.size lent.slots self.used heads.old bytes.old) × (WayIn self.used way.now steps) }
         requires steps { (1 ≤ steps) × (steps ≤ length kids.now) × (self.root < self.used) }
         requires leaf { (i < (live (head_at heads.old (get_or way.now (steps - 1) 0))).count)
@@ -346,14 +298,14 @@ impl Tree {
         let dropped = self.drop_emptied(heads, bytes, lent.size, lent.slots, way, kids, steps);
         let info = self.info;
         if info.key_count == 0 {
-            return Edited::Refused(refusal::COUNT);
+            return Err(Refusal::Count);
         }
         if info.node_count < dropped {
-            return Edited::Refused(refusal::COUNT);
+            return Err(Refusal::Count);
         }
         self.info = recounted(info, info.key_count - 1, info.node_count - dropped);
         self.level_root(heads, bytes, lent.size, lent.slots);
-        Edited::Done(self)
+        Ok(self)
     }
 
     // The edit on a way that is loaded and has the key: index keys and cuts follow, then the root's place goes down.
@@ -369,7 +321,7 @@ impl Tree {
         i: u64,
         at: usize,
         scratch: &mut [u8],
-    ) -> Edited
+    ) -> Result<Tree, Refusal>
         requires ready { (Ready lent.size lent.slots self.used heads.old bytes.old) × (1 ≤ steps)
             × (steps ≤ length way.now) × (steps ≤ length kids.now) }
         requires way { OnWay (lent_of image.now lent) (state_of lent.size self heads.old bytes.old)
@@ -385,23 +337,13 @@ impl Tree {
         ensures ready { ReadyEdited lent.size lent.slots heads.new bytes.new result }
         ensures follows { Follows lent.size lent.slots self.used heads.old bytes.old heads.new bytes.new }
     {
-        let shrunk = self.shrink(heads, bytes, lent, way, kids, steps, i, at);
-        match shrunk {
-            Edited::Refused(x) => Edited::Refused(x),
-            Edited::Done(t) => {
-                t.index_keys(
-                    heads, bytes, lent.size, lent.slots, way, kids, steps, scratch,
-                );
-                let cut = t.cuts(heads, bytes, lent, way, kids, steps, scratch);
-                match cut {
-                    Edited::Refused(x) => Edited::Refused(x),
-                    Edited::Done(u) => {
-                        let level = u.level_at(heads, bytes, lent.size, lent.slots, u.root);
-                        u.hand_down(image, heads, bytes, lent, level)
-                    }
-                }
-            }
-        }
+        let t = self.shrink(heads, bytes, lent, way, kids, steps, i, at)?;
+        t.index_keys(
+            heads, bytes, lent.size, lent.slots, way, kids, steps, scratch,
+        );
+        let u = t.cuts(heads, bytes, lent, way, kids, steps, scratch)?;
+        let level = u.level_at(heads, bytes, lent.size, lent.slots, u.root);
+        u.hand_down(image, heads, bytes, lent, level)
     }
 
     // Load; absent answers no; the edit. Refused, it may leave slots changed.
@@ -413,7 +355,7 @@ impl Tree {
         lent: Lent,
         key: &[u8],
         scratch: &mut [u8],
-    ) -> Removed
+    ) -> Result<(Tree, bool), Refusal>
         requires trusts { Trusts image.now lent self heads.old bytes.old }
         requires room { 2 * lent.size ≤ length scratch.old }
         ensures answer { removed_of lent.size heads.new bytes.new result
@@ -423,28 +365,17 @@ impl Tree {
         ensures follows { Follows lent.size lent.slots self.used heads.old bytes.old heads.new bytes.new }
     {
         let level = self.level_at(heads, bytes, lent.size, lent.slots, self.root);
-        let w = self.way(image, heads, bytes, lent, level, key);
-        let went = w.went;
-        match went {
-            Went::Refused(x) => Removed::Refused(x),
-            Went::Arrived => {
-                let t = w.tree;
-                let way = w.slots;
-                let kids = w.kids;
-                let n = way[w.steps - 1];
-                let f = t.found_at(heads, bytes, lent.size, lent.slots, n, key);
-                if !f.found {
-                    return Removed::No(t);
-                }
-                let done = t.remove_on(
-                    image, heads, bytes, lent, &way, &kids, w.steps, f.index, f.at, scratch,
-                );
-                match done {
-                    Edited::Refused(x) => Removed::Refused(x),
-                    Edited::Done(u) => Removed::Yes(u),
-                }
-            }
+        let w = self.way(image, heads, bytes, lent, level, key)?;
+        let t = w.tree;
+        let n = w.slots[w.steps - 1];
+        let f = t.found_at(heads, bytes, lent.size, lent.slots, n, key);
+        if !f.found {
+            return Ok((t, false));
         }
+        let u = t.remove_on(
+            image, heads, bytes, lent, &w.slots, &w.kids, w.steps, f.index, f.at, scratch,
+        )?;
+        Ok((u, true))
     }
 
     // remove on slots that are trusted, whatever it changes.
@@ -456,7 +387,7 @@ impl Tree {
         lent: Lent,
         key: &[u8],
         scratch: &mut [u8],
-    ) -> Removed
+    ) -> Result<(Tree, bool), Refusal>
         requires trusts { Trusts image.now lent self heads.old bytes.old }
         requires room { 2 * lent.size ≤ length scratch.old }
         ensures answer { removed_of lent.size heads.new bytes.new result
@@ -467,18 +398,14 @@ impl Tree {
     {
         let order = Order { code: self.order };
         if !order.keyed(key.len()) {
-            return Removed::Refused(refusal::ARGUMENT);
+            return Err(Refusal::Argument);
         }
         undo::clear_marks(heads, lent.slots, self.used);
         let done = self.removed(image, heads, bytes, lent, key, scratch);
-        match done {
-            Removed::Refused(x) => {
-                undo::restore(heads, bytes, lent.size, lent.slots, self.used);
-                Removed::Refused(x)
-            }
-            Removed::Yes(t) => Removed::Yes(t),
-            Removed::No(t) => Removed::No(t),
+        if done.is_err() {
+            undo::restore(heads, bytes, lent.size, lent.slots, self.used);
         }
+        done
     }
 
     // remove on slots that are trusted: 12; the edit. Refused, every slot is as it was.
@@ -490,7 +417,7 @@ impl Tree {
         lent: Lent,
         key: &[u8],
         scratch: &mut [u8],
-    ) -> Removed
+    ) -> Result<(Tree, bool), Refusal>
         requires trusts { Trusts image.now lent self heads.old bytes.old }
         requires room { 2 * lent.size ≤ length scratch.old }
         ensures answer { removed_of lent.size heads.new bytes.new result
@@ -499,10 +426,9 @@ impl Tree {
         ensures left { RemovedCalled image.now lent self heads.old bytes.old
             heads.new bytes.new result }
     {
-        let still = self.remove_still(heads, bytes, lent, key);
-        match still {
-            Still::Yes(t) => Removed::Yes(t),
-            Still::Not => self.remove_down(image, heads, bytes, lent, key, scratch),
+        match self.remove_still(heads, bytes, lent, key) {
+            Some(t) => Ok((t, true)),
+            None => self.remove_down(image, heads, bytes, lent, key, scratch),
         }
     }
 
@@ -515,7 +441,7 @@ impl Tree {
         scratch: &mut [u8],
         lent: Lent,
         key: &[u8],
-    ) -> Removed
+    ) -> Result<(Tree, bool), Refusal>
         ensures answer { removed_of lent.size heads.new bytes.new result
             ≡ edits lent.size lent.slots self heads.old bytes.old scratch.old
             (λ s. remove (lent_of image.now lent) s key.now) }
@@ -523,7 +449,7 @@ impl Tree {
             heads.new bytes.new result }
     {
         if !lent::edit_holds(self, image, heads, bytes, scratch, lent) {
-            return Removed::Refused(refusal::LENT);
+            return Err(Refusal::Lent);
         }
         // All slots were looked at, so that a short way would save nothing.
         self.remove_down(image, heads, bytes, lent, key, scratch)

@@ -10,17 +10,12 @@ ghost use Rattle.tree.specs.internal.Still.{Settled, StillOf, StillIn, StillLeaf
 use crate::editor::Tree;
 use crate::lent::Lent;
 use crate::loaded::Taken;
-use crate::{bank, floor, kids, remove, writers};
+use crate::{bank, kids, remove, writers};
 use node::head::Head;
+use node::order;
 use node::order::Order;
-use node::{order, slot};
-
-// What came of it. Where the way does not stay as it is, nothing was written.
-#[derive(Clone, Copy)]
-pub enum Still {
-    Not,
-    Yes(Tree),
-}
+use node::record::Record;
+use node::slot::Records;
 
 // Whether slot n is dirty.
 fn dirty_at(heads: &[u64], bytes: &[u8], size: usize, n: usize) -> bool
@@ -56,41 +51,46 @@ impl Tree {
         slots: usize,
         n: usize,
         key: &[u8],
-    ) -> Taken
+    ) -> Option<Taken>
         requires ready { Ready size slots self.used heads.now bytes.now }
         requires bytes_value { (stand_together (state_of size self heads.now bytes.now) ≡ true) × (Sized self.info) }
         ensures { StillOf (state_of size self heads.now bytes.now) key.now n result }
     {
-        let none = Taken {
-            loaded: false,
-            index: 0,
-            slot: 0,
-        };
         if self.used <= n {
-            return none;
+            return None;
         }
         if !self.settled(heads, bytes, size, slots, n) {
-            return none;
+            return None;
         }
         let h = bank::live_at(heads, n);
         if h.count == 0 {
-            return none;
+            return None;
         }
         let part = bank::slot_of(bytes, size, n);
-        let last = slot::not_above(part, h.count, Order { code: self.order }, key);
+        let records = Records {
+            slot: part,
+            count: h.count,
+        };
+        let last = records.not_above(Order { code: self.order }, key);
         let kid = kids::kid_of(part, last.at);
-        let first = self.key_at(heads, bytes, size, slots, kid.slot, 0);
-        if !order::same(slot::key_of(part, last.at), first) {
-            return none;
+        let Some(child) = kid.slot else {
+            return None;
+        };
+        let first = self.key_at(heads, bytes, size, slots, child, 0);
+        let r = Record {
+            slot: part,
+            at: last.at,
+        };
+        if !order::same(r.key(), first) {
+            return None;
         }
-        Taken {
-            loaded: kid.loaded,
-            index: floor::last_index(last.count),
-            slot: kid.slot,
-        }
+        Some(Taken {
+            index: last.count.saturating_sub(1),
+            slot: child,
+        })
     }
 
-    // The leaf that a key's way ends in, so many levels down; no slot in use where the way does not stay as it is.
+    // The leaf that a key's way ends in, so many levels down; none where the way does not stay as it is.
     fn still_leaf(
         self,
         heads: &[u64],
@@ -99,26 +99,26 @@ impl Tree {
         slots: usize,
         level: u64,
         key: &[u8],
-    ) -> usize
+    ) -> Option<usize>
         requires ready { Ready size slots self.used heads.now bytes.now }
         requires bytes_value { (stand_together (state_of size self heads.now bytes.now) ≡ true) × (Sized self.info) }
         ensures { StillIn self.used level (state_of size self heads.now bytes.now)
             key.now result }
     {
         let mut n = self.root;
-        let mut d = level;
-        while 0 < d {
-            let t = self.still_at(heads, bytes, size, slots, n, key);
-            if !t.loaded {
-                return self.used;
-            }
+        for _i in 0..level {
+            let Some(t) = self.still_at(heads, bytes, size, slots, n, key) else {
+                return None;
+            };
             n = t.slot;
-            d -= 1;
         }
-        n
+        if self.used <= n {
+            return None;
+        }
+        Some(n)
     }
 
-    // The same from the root's level down; no slot in use where the key is not one of the tree's order.
+    // The same from the root's level down; none where the key is not one of the tree's order.
     fn still_leaf_of(
         self,
         heads: &[u64],
@@ -126,7 +126,7 @@ impl Tree {
         size: usize,
         slots: usize,
         key: &[u8],
-    ) -> usize
+    ) -> Option<usize>
         requires ready { Ready size slots self.used heads.now bytes.now }
         requires bytes_value { (stand_together (state_of size self heads.now bytes.now) ≡ true) × (Sized self.info) }
         ensures { StillLeaf self.used (state_of size self heads.now bytes.now)
@@ -134,7 +134,7 @@ impl Tree {
     {
         let order = Order { code: self.order };
         if !order.keyed(key.len()) {
-            return self.used;
+            return None;
         }
         let level = self.level_at(heads, bytes, size, slots, self.root);
         self.still_leaf(heads, bytes, size, slots, level, key)
@@ -170,35 +170,34 @@ impl Tree {
         !only
     }
 
-    // The remove, if it changes nothing but an entry of its leaf.
+    // The remove, if it changes nothing but an entry of its leaf; else nothing is written.
     pub fn remove_still(
         mut self,
         heads: &mut [u64],
         bytes: &mut [u8],
         lent: Lent,
         key: &[u8],
-    ) -> Still
+    ) -> Option<Tree>
         requires ready { Ready lent.size lent.slots self.used heads.old bytes.old }
         requires bytes_value { (stand_together (state_of lent.size self heads.old bytes.old) ≡ true) × (Sized self.info) }
         ensures { StillRemoved lent.size lent.slots self heads.old bytes.old
             heads.new bytes.new key.now result }
     {
-        let n = self.still_leaf_of(heads, bytes, lent.size, lent.slots, key);
-        if self.used <= n {
-            return Still::Not;
-        }
+        let Some(n) = self.still_leaf_of(heads, bytes, lent.size, lent.slots, key) else {
+            return None;
+        };
         let f = self.found_at(heads, bytes, lent.size, lent.slots, n, key);
         if !f.found {
-            return Still::Not;
+            return None;
         }
         if !self.still_above(heads, bytes, lent.size, lent.slots, n, f.index) {
-            return Still::Not;
+            return None;
         }
         writers::take_at(
             heads, bytes, lent.size, lent.slots, self.used, n, f.index, f.at, false,
         );
         let info = self.info;
         self.info = remove::recounted(info, info.key_count - 1, info.node_count);
-        Still::Yes(self)
+        Some(self)
     }
 }

@@ -1,6 +1,6 @@
 // Undo: before a slot is changed for the first time in a call, it is saved in its shadow; a refused call brings back what was saved.
 ghost use Rattle.std.specs.Prelude.{◌≡◌, ◌+◌, ◌*◌, ◌≤◌, ◌<◌, length, replicate};
-ghost use Rattle.node.specs.Bytes.{splice, moved};
+ghost use Rattle.node.specs.Bytes.{splice};
 ghost use Rattle.node.specs.Slot.{head_at};
 ghost use Rattle.tree.specs.Workspace.{slot_bytes};
 ghost use Rattle.tree.specs.Trusts.{live, Lies, Ready};
@@ -15,15 +15,12 @@ use node::head::Head;
 const MARKS_AT: usize = 18;
 
 // Zeros from a on, n of them.
+#[tactic(auto, using(node::specs::laws::base::Seal::part_cleared))]
 fn clear_words(s: &mut [u64], a: usize, n: usize)
     requires { a + n ≤ length s.old }
     ensures { s.new ≡ splice s.old a (replicate n 0) }
 {
-    let mut k = 0;
-    while k < n {
-        s[a + k] = 0;
-        k += 1;
-    }
+    s[a..a + n].fill(0);
 }
 
 // No slot in use is saved.
@@ -32,17 +29,6 @@ pub fn clear_marks(heads: &mut [u64], slots: usize, used: usize)
     ensures { heads.new ≡ splice heads.old (slots * 18) (replicate used 0) }
 {
     clear_words(heads, slots * MARKS_AT, used);
-}
-
-fn shift(s: &mut [u8], a: usize, b: usize, n: usize)
-    requires { (a + n ≤ length s.old) × (b + n ≤ length s.old) }
-    ensures { s.new ≡ moved s.old a b n }
-{
-    if a < b {
-        bytes::move_up(s, a, b, n);
-        return;
-    }
-    bytes::move_down(s, a, b, n);
 }
 
 // Slot `to` is what slot `from` is. Either may be a shadow.
@@ -58,7 +44,7 @@ fn copy_slot(heads: &mut [u64], bytes: &mut [u8], size: usize, from: usize, to: 
     let a = from * (bank::SLOT_BLOCKS * size);
     let b = to * (bank::SLOT_BLOCKS * size);
     let v = bank::live_of(h);
-    shift(bytes, a, b, v.used as usize);
+    bytes::shift(bytes, a, b, v.used as usize);
     h.store(heads, to);
 }
 
@@ -94,9 +80,7 @@ pub fn restore(heads: &mut [u64], bytes: &mut [u8], size: usize, slots: usize, u
     requires { Shadowed size slots used heads.old bytes.old }
     ensures { Back size slots used used heads.old bytes.old heads.new bytes.new }
 {
-    let mut i = 0;
-    while i < used {
-        bring_back(heads, bytes, size, slots, used, i);
-        i += 1;
+    for n in 0..used {
+        bring_back(heads, bytes, size, slots, used, n);
     }
 }

@@ -1,14 +1,16 @@
 // Upsert: the entry of a key replaced, or inserted in its place.
-ghost use Rattle.std.specs.Prelude.{◌≡◌, [], true, false, cond, ◌&&◌, ◌||◌, ◌+◌, ◌-◌, ◌*◌, ◌^◌, ◌≤◌, ◌<◌, length, get_or, ltb};
+ghost use Rattle.std.specs.Prelude.{◌≡◌, List, [], true, false, cond, ◌||◌, ℕ, ◌+◌, ◌-◌, ◌*◌, ◌^◌, ◌≤◌, ◌<◌, length, get_or, ltb};
 ghost use Rattle.node.specs.Fit.{greater};
-ghost use Rattle.node.specs.Records.{mark_length, value_of};
-ghost use Rattle.node.specs.Slot.{head_at, key_length_holds, value_length_holds};
+ghost use Rattle.node.specs.Entry.{value_bytes, value_length};
+ghost use Rattle.node.specs.Records.{mark_of, mark_length, value_of};
+ghost use Rattle.node.specs.Slot.{head_at};
+ghost use Rattle.node.specs.declared.refusal.Refusal.TheVariants.{Single, NoCut};
 ghost use Rattle.tree.specs.Lent.{lent_of};
 ghost use Rattle.tree.specs.State.{node_at, with_counts, with_longest};
 ghost use Rattle.tree.specs.Edit.{touch, index_keys, cuts};
 ghost use Rattle.tree.specs.Upsert.{put_in_leaf, upsert_on, entry_fits, upserted, upsert_in, upsert};
 ghost use Rattle.tree.specs.Workspace.{state_of, edits};
-ghost use Rattle.tree.specs.Answers.{put_value, edited_of, edited_leaves};
+ghost use Rattle.tree.specs.Answers.{lent_value, edited_of, edited_leaves};
 ghost use Rattle.tree.specs.Trusts.{live, Ready, Trusts, EditedCalled};
 ghost use Rattle.tree.specs.internal.Undo.{Follows};
 ghost use Rattle.tree.specs.internal.Way.{steps_of};
@@ -16,126 +18,108 @@ ghost use Rattle.tree.specs.internal.Found.{FoundAt};
 ghost use Rattle.tree.specs.internal.Edits.{ReadyEdited};
 ghost use Rattle.tree.specs.internal.Upserting.{Gone, way_gone};
 
-use crate::edited::Edited;
 use crate::editor::Tree;
 use crate::lent::Lent;
-use crate::way::Went;
 use crate::{bank, lent, undo, writers};
 use node::info::BTreeInfo;
 use node::order::Order;
+use node::refusal::Refusal;
 use node::slot::Found;
-use node::{record, refusal, stands};
+use node::{record, stands};
 
 // The greatest key count that a root stores.
 const MOST_KEYS: u64 = 0xFFFFFFFFFFFFFFFF;
 
-fn greater(a: u64, b: u64) -> u64
-    ensures { result ≡ greater a b }
+// The mark of what is put.
+fn value_mark(value: Option<&[u8]>) -> u64
+    ensures { result ≡ mark_of (lent_value value.entry) }
 {
-    if a < b {
-        return b;
+    match value {
+        Some(bytes) => bytes.len() as u64,
+        None => record::GHOST,
     }
-    a
 }
 
-// The mark of a value that is put.
-fn value_mark(is_ghost: bool, len: usize) -> u64
-    ensures { result ≡ cond is_ghost 0xFFFF len }
+// The bytes of what is put: a ghost has none.
+fn value_bytes(value: Option<&[u8]>) -> &[u8]
+    ensures { result.now ≡ value_bytes (lent_value value.entry) }
 {
-    if is_ghost {
-        return record::GHOST;
+    match value {
+        Some(bytes) => bytes,
+        None => &[],
     }
-    len as u64
 }
 
 // One key more, and longest lengths that only grow.
+#[tactic(auto, using(crate::specs::laws::upsert::PutInLeaf::grown_new_is))]
 fn grown_new(info: BTreeInfo, key: usize, value: usize) -> BTreeInfo
     requires { info.key_count < 2 ^ 64 - 1 }
     ensures { result ≡ with_longest (with_counts info (info.key_count + 1) info.node_count) (greater info.longest_key key)
         (greater info.longest_val value) }
 {
     BTreeInfo {
-        flags: info.flags,
-        node_size: info.node_size,
-        key_size: info.key_size,
-        val_size: info.val_size,
-        longest_key: greater(info.longest_key, key as u64),
-        longest_val: greater(info.longest_val, value as u64),
+        longest_key: info.longest_key.max(key as u64),
+        longest_val: info.longest_val.max(value as u64),
         key_count: info.key_count + 1,
-        node_count: info.node_count,
+        ..info
     }
 }
 
 // The same of a value that is replaced.
+#[tactic(auto, using(crate::specs::laws::upsert::PutInLeaf::grown_old_is))]
 fn grown_old(info: BTreeInfo, value: usize) -> BTreeInfo
     ensures { result ≡ with_longest (with_counts info info.key_count info.node_count) info.longest_key
         (greater info.longest_val value) }
 {
     BTreeInfo {
-        flags: info.flags,
-        node_size: info.node_size,
-        key_size: info.key_size,
-        val_size: info.val_size,
-        longest_key: info.longest_key,
-        longest_val: greater(info.longest_val, value as u64),
-        key_count: info.key_count,
-        node_count: info.node_count,
+        longest_val: info.longest_val.max(value as u64),
+        ..info
     }
 }
 
 // 17: room in the key count for a key that is new.
+#[tactic(auto, using(crate::specs::laws::upsert::PutInLeaf::count_new))]
 fn count_holds(found: bool, keys: u64) -> bool
     ensures { result ≡ (found || ltb keys (2 ^ 64 - 1)) }
 {
-    if found {
-        return true;
-    }
-    keys != MOST_KEYS
+    found || keys != MOST_KEYS
 }
 
 // Whether an entry is too large for any node: more than its data space beside the record's head.
+#[tactic(auto)]
 fn too_large(size: usize, key: usize, value: usize) -> bool
     requires { size ≤ 65536 }
     ensures { result ≡ ltb size (4 + key + value + 56) }
 {
-    if size < key {
-        return true;
-    }
-    if size < value {
-        return true;
-    }
-    size < 4 + key + value + 56
+    size < key || size < value || size < 4 + key + value + 56
 }
 
 // 13 where the entry would stand alone in its leaf, 14 beside others.
-fn large_refusal(count: u64, found: bool) -> u64
-    ensures { result ≡ cond (ltb 1 (count + cond found 0 1)) 14 13 }
+#[tactic(auto, using(crate::specs::laws::upsert::PutInLeaf::refusal_alone, crate::specs::laws::upsert::PutInLeaf::refusal_beside))]
+fn large_refusal(count: u64, found: bool) -> Refusal
+    ensures { result ≡ cond (ltb 1 (count + cond found 0 1)) NoCut Single }
 {
-    if count == 0 {
-        return refusal::SINGLE;
+    let alone = if found { count <= 1 } else { count == 0 };
+    if alone {
+        Refusal::Single
+    } else {
+        Refusal::NoCut
     }
-    if !found {
-        return refusal::NO_CUT;
-    }
-    if count == 1 {
-        return refusal::SINGLE;
-    }
-    refusal::NO_CUT
 }
 
 impl Tree {
     // 12: a key or a value that the tree cannot hold.
-    fn entry_fits(self, key: usize, is_ghost: bool, value: usize) -> bool
-        ensures { result ≡ key_length_holds self.order self.info key && (is_ghost || value_length_holds self.info value) }
+    fn entry_fits(self, key: &[u8], value: Option<&[u8]>) -> bool
+        ensures { (size : ℕ) (heads bytes : List ℕ) → result ≡ entry_fits (state_of size self heads bytes) key.now (lent_value value.entry) }
     {
         let order = Order { code: self.order };
-        if !stands::key_holds(order, self.info, key) {
+        if !stands::key_holds(order, self.info, key.len()) {
             return false;
         }
-        if is_ghost {
-            return true;
+        match value {
+            Some(bytes) => stands::value_holds(self.info, bytes.len() as u64),
+            None => true,
         }
-        stands::value_holds(self.info, value as u64)
     }
 
     // The leaf edited, and the tree's numbers.
@@ -191,28 +175,27 @@ impl Tree {
         n: usize,
         f: Found,
         key: &[u8],
-        is_ghost: bool,
-        value: &[u8],
+        value: Option<&[u8]>,
         scratch: &mut [u8],
-    ) -> Edited
-        requires gone { (Gone lent self heads.old bytes.old way.now kids.now steps key.now (put_value is_ghost value.now))
+    ) -> Result<Tree, Refusal>
+        requires gone { (Gone lent self heads.old bytes.old way.now kids.now steps key.now (lent_value value))
             × (n ≡ get_or way.now (steps - 1) 0) }
         requires found { (FoundAt lent.size (state_of lent.size self heads.old bytes.old) heads.old bytes.old n key.now f)
             × (f.found ≡ false → self.info.key_count < 2 ^ 64 - 1) }
-        requires room { (is_ghost ≡ true → length value.now ≡ 0) × (4 + length key.now + length value.now + 56 ≤ lent.size)
-            × (2 * lent.size ≤ length scratch.old) }
+        requires room { (4 + length key.now + value_length (lent_value value) + 56 ≤ lent.size) × (2 * lent.size ≤ length scratch.old) }
         ensures answer { edited_of lent.size heads.new bytes.new result
             ≡ cuts (lent_of [] lent) [] (steps_of way.now kids.now steps)
             (index_keys (steps_of way.now kids.now steps)
             (put_in_leaf (touch (steps_of way.now kids.now steps)
             (state_of lent.size self heads.old bytes.old)) n key.now
-            (put_value is_ghost value.now))) }
+            (lent_value value.entry))) }
         ensures ready { ReadyEdited lent.size lent.slots heads.new bytes.new result }
         ensures follows { Follows lent.size lent.slots self.used heads.old bytes.old heads.new bytes.new }
     {
         self.touch(heads, bytes, lent.size, lent.slots, way, steps);
-        let mark = value_mark(is_ghost, value.len());
-        let t = self.put_in_leaf(heads, bytes, lent.size, lent.slots, n, f, key, mark, value);
+        let mark = value_mark(value);
+        let part = value_bytes(value);
+        let t = self.put_in_leaf(heads, bytes, lent.size, lent.slots, n, f, key, mark, part);
         t.index_keys(
             heads, bytes, lent.size, lent.slots, way, kids, steps, scratch,
         );
@@ -230,14 +213,13 @@ impl Tree {
         kids: &[u64],
         steps: usize,
         key: &[u8],
-        is_ghost: bool,
-        value: &[u8],
+        value: Option<&[u8]>,
         scratch: &mut [u8],
-    ) -> Edited
-        requires gone { Gone lent self heads.old bytes.old way.now kids.now steps key.now (put_value is_ghost value.now) }
-        requires room { (is_ghost ≡ true → length value.now ≡ 0) × (2 * lent.size ≤ length scratch.old) }
+    ) -> Result<Tree, Refusal>
+        requires gone { Gone lent self heads.old bytes.old way.now kids.now steps key.now (lent_value value) }
+        requires room { 2 * lent.size ≤ length scratch.old }
         ensures answer { edited_of lent.size heads.new bytes.new result
-            ≡ upsert_on (lent_of [] lent) key.now (put_value is_ghost value.now)
+            ≡ upsert_on (lent_of [] lent) key.now (lent_value value.entry)
             (way_gone lent.size self heads.old bytes.old way.now kids.now steps) }
         ensures ready { ReadyEdited lent.size lent.slots heads.new bytes.new result }
         ensures follows { Follows lent.size lent.slots self.used heads.old bytes.old heads.new bytes.new }
@@ -246,14 +228,14 @@ impl Tree {
         let f = self.found_at(heads, bytes, lent.size, lent.slots, n, key);
         let info = self.info;
         if !count_holds(f.found, info.key_count) {
-            return Edited::Refused(refusal::COUNT);
+            return Err(Refusal::Count);
         }
-        if too_large(lent.size, key.len(), value.len()) {
+        if too_large(lent.size, key.len(), value_bytes(value).len()) {
             let h = bank::live_at(heads, n);
-            return Edited::Refused(large_refusal(h.count, f.found));
+            return Err(large_refusal(h.count, f.found));
         }
         self.put_on(
-            heads, bytes, lent, way, kids, steps, n, f, key, is_ghost, value, scratch,
+            heads, bytes, lent, way, kids, steps, n, f, key, value, scratch,
         )
     }
 
@@ -265,33 +247,23 @@ impl Tree {
         bytes: &mut [u8],
         lent: Lent,
         key: &[u8],
-        is_ghost: bool,
-        value: &[u8],
+        value: Option<&[u8]>,
         scratch: &mut [u8],
-    ) -> Edited
+    ) -> Result<Tree, Refusal>
         requires trusts { Trusts image.now lent self heads.old bytes.old }
-        requires entry { (entry_fits (state_of lent.size self heads.old bytes.old) key.now (put_value is_ghost value.now) ≡ true)
-            × (is_ghost ≡ true → length value.now ≡ 0) × (2 * lent.size ≤ length scratch.old) }
+        requires entry { (entry_fits (state_of lent.size self heads.old bytes.old) key.now (lent_value value) ≡ true)
+            × (2 * lent.size ≤ length scratch.old) }
         ensures answer { edited_of lent.size heads.new bytes.new result
             ≡ upserted (lent_of image.now lent) (state_of lent.size self heads.old bytes.old)
-            key.now (put_value is_ghost value.now) }
+            key.now (lent_value value.entry) }
         ensures ready { ReadyEdited lent.size lent.slots heads.new bytes.new result }
         ensures follows { Follows lent.size lent.slots self.used heads.old bytes.old heads.new bytes.new }
     {
         let level = self.level_at(heads, bytes, lent.size, lent.slots, self.root);
-        let w = self.way(image, heads, bytes, lent, level, key);
-        let went = w.went;
-        match went {
-            Went::Refused(x) => Edited::Refused(x),
-            Went::Arrived => {
-                let t = w.tree;
-                let way = w.slots;
-                let kids = w.kids;
-                t.upsert_on(
-                    heads, bytes, lent, &way, &kids, w.steps, key, is_ghost, value, scratch,
-                )
-            }
-        }
+        let w = self.way(image, heads, bytes, lent, level, key)?;
+        w.tree.upsert_on(
+            heads, bytes, lent, &w.slots, &w.kids, w.steps, key, value, scratch,
+        )
     }
 
     // The edit, brought back where it is refused.
@@ -302,28 +274,24 @@ impl Tree {
         bytes: &mut [u8],
         lent: Lent,
         key: &[u8],
-        is_ghost: bool,
-        value: &[u8],
+        value: Option<&[u8]>,
         scratch: &mut [u8],
-    ) -> Edited
+    ) -> Result<Tree, Refusal>
         requires trusts { Trusts image.now lent self heads.old bytes.old }
-        requires entry { (entry_fits (state_of lent.size self heads.old bytes.old) key.now (put_value is_ghost value.now) ≡ true)
-            × (is_ghost ≡ true → length value.now ≡ 0) × (2 * lent.size ≤ length scratch.old) }
+        requires entry { (entry_fits (state_of lent.size self heads.old bytes.old) key.now (lent_value value) ≡ true)
+            × (2 * lent.size ≤ length scratch.old) }
         ensures answer { edited_of lent.size heads.new bytes.new result
             ≡ upserted (lent_of image.now lent) (state_of lent.size self heads.old bytes.old)
-            key.now (put_value is_ghost value.now) }
+            key.now (lent_value value.entry) }
         ensures left { EditedCalled image.now lent self heads.old bytes.old
             heads.new bytes.new result }
     {
         undo::clear_marks(heads, lent.slots, self.used);
-        let done = self.upserted(image, heads, bytes, lent, key, is_ghost, value, scratch);
-        match done {
-            Edited::Refused(x) => {
-                undo::restore(heads, bytes, lent.size, lent.slots, self.used);
-                Edited::Refused(x)
-            }
-            Edited::Done(t) => Edited::Done(t),
+        let done = self.upserted(image, heads, bytes, lent, key, value, scratch);
+        if done.is_err() {
+            undo::restore(heads, bytes, lent.size, lent.slots, self.used);
         }
+        done
     }
 
     // upsert on slots that are trusted: 12; the edit. Refused, every slot is as it was.
@@ -334,28 +302,24 @@ impl Tree {
         bytes: &mut [u8],
         lent: Lent,
         key: &[u8],
-        is_ghost: bool,
-        value: &[u8],
+        value: Option<&[u8]>,
         scratch: &mut [u8],
-    ) -> Edited
+    ) -> Result<Tree, Refusal>
         requires trusts { Trusts image.now lent self heads.old bytes.old }
         requires room { 2 * lent.size ≤ length scratch.old }
         ensures answer { edited_of lent.size heads.new bytes.new result
             ≡ upsert_in (lent_of image.now lent) (state_of lent.size self heads.old bytes.old)
-            key.now (put_value is_ghost value.now) }
+            key.now (lent_value value.entry) }
         ensures left { EditedCalled image.now lent self heads.old bytes.old
             heads.new bytes.new result }
     {
-        if !self.entry_fits(key.len(), is_ghost, value.len()) {
-            return Edited::Refused(refusal::ARGUMENT);
+        if !self.entry_fits(key, value) {
+            return Err(Refusal::Argument);
         }
-        if is_ghost {
-            return self.upsert_undone(image, heads, bytes, lent, key, true, &value[..0], scratch);
-        }
-        self.upsert_undone(image, heads, bytes, lent, key, false, value, scratch)
+        self.upsert_undone(image, heads, bytes, lent, key, value, scratch)
     }
 
-    // The entry of a key put: bytes, or a ghost, which has none.
+    // The entry of a key put: bytes, or a ghost where there are none.
     pub fn upsert(
         self,
         image: &[u8],
@@ -364,18 +328,17 @@ impl Tree {
         scratch: &mut [u8],
         lent: Lent,
         key: &[u8],
-        is_ghost: bool,
-        value: &[u8],
-    ) -> Edited
+        value: Option<&[u8]>,
+    ) -> Result<Tree, Refusal>
         ensures answer { edited_of lent.size heads.new bytes.new result
             ≡ edits lent.size lent.slots self heads.old bytes.old scratch.old
-            (λ s. upsert (lent_of image.now lent) s key.now (put_value is_ghost value.now)) }
+            (λ s. upsert (lent_of image.now lent) s key.now (lent_value value.entry)) }
         ensures left { edited_leaves lent.size lent.slots self heads.old bytes.old
             heads.new bytes.new result }
     {
         if !lent::edit_holds(self, image, heads, bytes, scratch, lent) {
-            return Edited::Refused(refusal::LENT);
+            return Err(Refusal::Lent);
         }
-        self.upsert_in(image, heads, bytes, lent, key, is_ghost, value, scratch)
+        self.upsert_in(image, heads, bytes, lent, key, value, scratch)
     }
 }

@@ -1,5 +1,5 @@
 // The way to a key: from the root down, children loaded as they are met.
-ghost use Rattle.std.specs.Prelude.{◌≡◌, ◌+◌, ◌≤◌, ◌<◌};
+ghost use Rattle.std.specs.Prelude.{◌≡◌, ◌+◌, ◌≤◌};
 ghost use Rattle.node.specs.Find.{way_index};
 ghost use Rattle.tree.specs.Lent.{lent_of};
 ghost use Rattle.tree.specs.State.{node_at};
@@ -11,23 +11,18 @@ ghost use Rattle.tree.specs.internal.Undo.{Follows};
 ghost use Rattle.tree.specs.internal.Way.{way_of, WayReady};
 
 use crate::bank;
-use crate::editor::{Bound, Bounds, Loaded, Tree};
+use crate::editor::{Tree, UNBOUNDED};
 use crate::lent::Lent;
 use node::order::Order;
-use node::slot;
+use node::refusal::Refusal;
+use node::slot::Records;
 
 // The most nodes on a way: levels 32 to 0, and one more.
 pub const STEPS: usize = 34;
 
-#[derive(Clone, Copy)]
-pub enum Went {
-    Refused(u64),
-    Arrived,
-}
-
+// A way: the tree, what was loaded on it, and so many steps, each a slot and the entry that the key goes on by.
 #[derive(Clone, Copy)]
 pub struct Way {
-    pub went: Went,
     pub tree: Tree,
     pub steps: usize,
     pub slots: [usize; STEPS],
@@ -53,11 +48,12 @@ impl Tree {
         }
         let h = bank::live_at(heads, n);
         let order = Order { code: self.order };
-        let last = slot::not_above(bank::slot_of(bytes, size, n), h.count, order, key);
-        if last.count == 0 {
-            return 0;
-        }
-        last.count - 1
+        let records = Records {
+            slot: bank::slot_of(bytes, size, n),
+            count: h.count,
+        };
+        let last = records.not_above(order, key);
+        last.count.saturating_sub(1)
     }
 
     // The way, whatever of it is loaded: children are loaded as they are met.
@@ -69,7 +65,7 @@ impl Tree {
         lent: Lent,
         level: u64,
         key: &[u8],
-    ) -> Way
+    ) -> Result<Way, Refusal>
         requires ready_2 { Ready lent.size lent.slots self.used heads.old bytes.old }
         requires level_bound { level ≤ 32 }
         ensures answer { way_of lent.size heads.new bytes.new result
@@ -77,55 +73,30 @@ impl Tree {
         ensures ready { WayReady lent.size lent.slots heads.new bytes.new result }
         ensures follows { Follows lent.size lent.slots self.used heads.old bytes.old heads.new bytes.new }
     {
-        let none = Bound {
-            some: false,
-            slot: 0,
-            index: 0,
-        };
-        let mut b = Bounds {
-            lower: none,
-            upper: none,
-        };
+        let mut b = UNBOUNDED;
         let mut t = self;
         let mut n = self.root;
-        let mut d = level;
-        let mut k: usize = 0;
         let mut way = [0usize; STEPS];
         let mut kids = [0u64; STEPS];
-        while 0 < d {
+        let last = level as usize;
+        for k in 0..last {
             let i = t.way_index(heads, bytes, lent.size, lent.slots, n, key);
             let inner = t.child_bounds(heads, bytes, lent.size, lent.slots, b, n, i);
             way[k] = n;
             kids[k] = i;
-            let got = t.load_child(image, heads, bytes, lent, b, n, i);
-            match got {
-                Loaded::Refused(x) => {
-                    return Way {
-                        went: Went::Refused(x),
-                        tree: self,
-                        steps: 0,
-                        slots: way,
-                        kids: kids,
-                    };
-                }
-                Loaded::At(t2, c) => {
-                    t = t2;
-                    n = c;
-                    b = inner;
-                    k += 1;
-                    d -= 1;
-                }
-            }
+            let (u, c) = t.load_child(image, heads, bytes, lent, b, n, i)?;
+            t = u;
+            n = c;
+            b = inner;
         }
-        way[k] = n;
-        kids[k] = 0;
-        Way {
-            went: Went::Arrived,
+        way[last] = n;
+        kids[last] = 0;
+        Ok(Way {
             tree: t,
-            steps: k + 1,
+            steps: last + 1,
             slots: way,
-            kids: kids,
-        }
+            kids,
+        })
     }
 
     // The way from the root down, so many levels; what is loaded is walked first.
@@ -137,7 +108,7 @@ impl Tree {
         lent: Lent,
         level: u64,
         key: &[u8],
-    ) -> Way
+    ) -> Result<Way, Refusal>
         requires ready_2 { Ready lent.size lent.slots self.used heads.old bytes.old }
         requires level_bound { level ≤ 32 }
         ensures answer { way_of lent.size heads.new bytes.new result
@@ -145,11 +116,9 @@ impl Tree {
         ensures ready { WayReady lent.size lent.slots heads.new bytes.new result }
         ensures follows { Follows lent.size lent.slots self.used heads.old bytes.old heads.new bytes.new }
     {
-        let quick = self.way_loaded(heads, bytes, lent.size, lent.slots, level, key);
-        let went = quick.went;
-        match went {
-            Went::Arrived => quick,
-            Went::Refused(_) => self.way_down(image, heads, bytes, lent, level, key),
+        match self.way_loaded(heads, bytes, lent.size, lent.slots, level, key) {
+            Some(way) => Ok(way),
+            None => self.way_down(image, heads, bytes, lent, level, key),
         }
     }
 }

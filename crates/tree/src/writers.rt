@@ -1,5 +1,5 @@
 // Writers of one slot's records: the slot is saved, its records change, then its words say so.
-ghost use Rattle.std.specs.Prelude.{◌≡◌, false, cond, ◌+◌, ◌*◌, ◌≤◌, ◌<◌, ◌^◌, length};
+ghost use Rattle.std.specs.Prelude.{◌≡◌, false, ◌+◌, ◌*◌, ◌≤◌, ◌<◌, ◌^◌, length};
 ghost use Rattle.node.specs.Bytes.{splice};
 ghost use Rattle.node.specs.Records.{records_length, mark_length, value_of};
 ghost use Rattle.node.specs.Slot.{head_at, head_words, insert_at, remove_at, with_key, with_value};
@@ -12,35 +12,20 @@ ghost use Rattle.tree.specs.internal.Writers.{recounted, edited};
 use crate::{bank, undo};
 use node::head::Head;
 use node::slot;
+use node::slot::Records;
 
-// The dirty mark of a slot that is written: set, or as it was.
-fn mark_of(dirty: bool, old: u64) -> u64
-    ensures { result ≡ cond dirty 1 old }
-{
-    if dirty {
-        return 1;
-    }
-    old
-}
-
-// The words of slot n for other records.
+// The words of slot n for other records; the dirty mark is set, or as it was.
 fn recount(heads: &mut [u64], n: usize, count: u64, used: u64, dirty: bool)
     requires { (n + 1) * 9 ≤ length heads.old }
     ensures { heads.new
         ≡ splice heads.old (n * 9) (head_words (recounted dirty count used (head_at heads.old n))) }
 {
     let h = Head::load(heads, n);
-    let mark = mark_of(dirty, h.dirty);
     let r = Head {
-        level: h.level,
-        count: count,
-        used: used,
-        placed: h.placed,
-        block: h.block,
-        named: h.named,
-        id: h.id,
-        dirty: mark,
-        dead: h.dead,
+        count,
+        used,
+        dirty: if dirty { 1 } else { h.dirty },
+        ..h
     };
     r.store(heads, n);
 }
@@ -61,7 +46,11 @@ pub fn offset_at(
 {
     let h = bank::live_at(heads, n);
     let part = bank::slot_of(bytes, size, n);
-    slot::offset_of(part, h.count, i)
+    Records {
+        slot: part,
+        count: h.count,
+    }
+    .offset_of(i)
 }
 
 // An entry put before entry i of slot n, which starts at byte `at`.

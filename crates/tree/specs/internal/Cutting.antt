@@ -1,7 +1,7 @@
 -- Cuts at work: the step above as the code keeps it, refusals by numbers, a child linked, a root that has no entries yet.
-use Rattle.std.specs.Prelude.{◌≡◌, List, [], ◌∷◌, Bool, false, cond, ◌||◌, ℕ, suc, ◌+◌, ◌-◌, ◌*◌, ◌^◌, ◌≤◌, ◌<◌, length, leb, eqb}
+use Rattle.std.specs.Prelude.{◌≡◌, List, [], Bool, false, cond, ◌||◌, ℕ, suc, ◌+◌, ◌-◌, ◌*◌, ◌^◌, ◌≤◌, ◌<◌, length, leb, eqb, Option, Ok, Err, option_to_list, option_map, ⊤}
+use Rattle.std.specs.Prelude as std
 use Rattle.node.specs.Result.{ok}
-use Rattle.node.specs.Refusals as refusal
 use Rattle.node.specs.Entry.{mem}
 use Rattle.node.specs.Find.{key_at}
 use Rattle.node.specs.Fit.{fits}
@@ -20,17 +20,19 @@ use Rattle.tree.specs.internal.Edits.{above_of}
 use Rattle.tree.specs.declared.editor.Tree.{Tree}
 use Rattle.tree.specs.declared.lent.Lent.{Lent}
 use Rattle.tree.specs.declared.cuts.Up.{Up}
+use Rattle.node.specs.declared.refusal.Refusal.{Refusal}
+use Rattle.node.specs.declared.refusal.Refusal.TheVariants as is
 
 -- the step above a node; none above the root
 abbrev pub step_of : Up → Step
 step_of u = record { slot = u.slot; child = u.child }
 
-unfoldable pub up_of : Up → List Step
-up_of u = cond u.some (step_of u ∷ []) []
+unfoldable pub up_of : Option Up → List Step
+up_of u = option_to_list (option_map step_of u)
 
--- 17 and 11 by the numbers: the refusal where there is no room for n nodes made, else 0
-unfoldable pub room_code : ℕ → ℕ → ℕ → ℕ → ℕ
-room_code count used slots n = cond (leb (count + n) (2 ^ 64 - 1)) (cond (leb (used + n) slots) 0 refusal.no_slot) refusal.count
+-- 17 and 11: whether count and slots have room for n nodes made
+unfoldable pub room_of : ℕ → ℕ → ℕ → ℕ → std.Result ⊤ Refusal
+room_of count used slots n = cond (leb (count + n) (2 ^ 64 - 1)) (cond (leb (used + n) slots) (Ok tt) (Err is.NoSlot)) (Err is.Count)
 
 -- a tree with so many nodes more in its node count
 unfoldable pub counted : Tree → ℕ → Tree

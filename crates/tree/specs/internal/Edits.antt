@@ -1,9 +1,11 @@
 -- Edits at work: what they leave, and the room that a cut finds.
-use Rattle.std.specs.Prelude.{◌≡◌, List, [], ◌∷◌, false, ℕ, zero, suc, ◌+◌, ◌-◌, ◌*◌, ◌≤◌, ◌<◌, length, get_or}
+use Rattle.std.specs.Prelude.{◌≡◌, List, [], ◌∷◌, false, ℕ, zero, suc, ◌+◌, ◌-◌, ◌*◌, ◌≤◌, ◌<◌, length, get_or, Bool, Ok, Err}
+use Rattle.std.specs.Prelude as std
 use Rattle.node.specs.Result.{ok}
 use Rattle.node.specs.Find.{key_at}
 use Rattle.node.specs.Fit.{Sized}
 use Rattle.node.specs.Records.{records_of}
+use Rattle.node.specs.declared.refusal.Refusal.{Refusal}
 use Rattle.tree.specs.Lent as lent
 use Rattle.tree.specs.State.{State, node_at}
 use Rattle.tree.specs.Lookup.{Step}
@@ -11,21 +13,17 @@ use Rattle.tree.specs.Edit.{cuts}
 use Rattle.tree.specs.Trusts.{Ready}
 pub use Rattle.tree.specs.Trusts.{Trusts, EditedCalled, RemovedCalled}
 use Rattle.tree.specs.internal.Index.{steps_from}
-use Rattle.tree.specs.declared.edited.Edited.{Edited}
-use Rattle.tree.specs.declared.edited.Edited.TheVariants as editing
-use Rattle.tree.specs.declared.edited.Removed.{Removed}
-use Rattle.tree.specs.declared.edited.Removed.TheVariants as taking
+use Rattle.tree.specs.declared.editor.Tree.{Tree}
 
 -- an accepted edit leaves the workspace ready
-abbrev pub ReadyEdited : ℕ → ℕ → List ℕ → List ℕ → Edited → Type 0
-ReadyEdited size slots heads bytes (editing.Refused x) = Unit {0}
-ReadyEdited size slots heads bytes (editing.Done t) = Ready size slots t.used heads bytes
+abbrev pub ReadyEdited : ℕ → ℕ → List ℕ → List ℕ → std.Result Tree Refusal → Type 0
+ReadyEdited size slots heads bytes (Err x) = Unit {0}
+ReadyEdited size slots heads bytes (Ok t) = Ready size slots t.used heads bytes
 
 -- the same of remove
-abbrev pub ReadyRemoved : ℕ → ℕ → List ℕ → List ℕ → Removed → Type 0
-ReadyRemoved size slots heads bytes (taking.Refused x) = Unit {0}
-ReadyRemoved size slots heads bytes (taking.Yes t) = Ready size slots t.used heads bytes
-ReadyRemoved size slots heads bytes (taking.No t) = Ready size slots t.used heads bytes
+abbrev pub ReadyRemoved : ℕ → ℕ → List ℕ → List ℕ → std.Result (Tree × Bool) Refusal → Type 0
+ReadyRemoved size slots heads bytes (Err x) = Unit {0}
+ReadyRemoved size slots heads bytes (Ok (t, there)) = Ready size slots t.used heads bytes
 
 -- ---- room for cuts
 

@@ -1,7 +1,9 @@
 -- Where the steps of floor end, and what they compute, of the slots.
-use Rattle.std.specs.Prelude.{◌≡◌, List, [], ◌∷◌, true, cond, ◌&&◌, not, ℕ, ◌-◌, ◌<◌, length, get_or, leb, ltb}
+use Rattle.std.specs.Prelude.{◌≡◌, List, [], ◌∷◌, cond, ◌&&◌, not, ℕ, ◌-◌, ◌<◌, length, get_or, leb, ltb, Option, Some, None, Ok, Err}
+use Rattle.std.specs.Prelude as std
 use Rattle.node.specs.Result.{Result, ok, refused, ◌>>=◌, ◌>>◌, check}
 use Rattle.node.specs.Refusals as refusal
+use Rattle.node.specs.declared.refusal.Refusal.{Refusal}
 use Rattle.node.specs.Order.{less}
 use Rattle.node.specs.Entry.{Entry, ghost}
 use Rattle.node.specs.Find.{key_at, last_not_above, last_of}
@@ -16,10 +18,7 @@ use Rattle.tree.specs.Trusts.{live, Ready}
 pub use Rattle.tree.specs.Trusts.{FloorCalled}
 use Rattle.tree.specs.declared.editor.Tree.{Tree}
 use Rattle.tree.specs.declared.floor.Last.{Last}
-use Rattle.tree.specs.declared.floor.Last.TheVariants as last
 use Rattle.tree.specs.declared.floor.Spot.{Spot}
-use Rattle.tree.specs.declared.floor.Floor.{Floor}
-use Rattle.tree.specs.declared.floor.Floor.TheVariants as flooring
 
 -- ---- where a lookup ended
 
@@ -30,10 +29,14 @@ none_in s = record { state = s; answer = [] }
 unfoldable pub entry_in : State → ℕ → ℕ → lookup.Got Entry
 entry_in s n i = record { state = s; answer = get_or (node_at s n).entries i (record { key = []; value = ghost }) ∷ [] }
 
-unfoldable pub last_means : ℕ → List ℕ → List ℕ → Last → Result (lookup.Got Entry)
-last_means size heads bytes (last.Refused x) = refused x
-last_means size heads bytes (last.None t) = ok (none_in (state_of size t heads bytes))
-last_means size heads bytes (last.At t n i) = ok (entry_in (state_of size t heads bytes) n i)
+-- an entry, if there is one
+unfoldable pub got_last : State → Option Last → lookup.Got Entry
+got_last s None = none_in s
+got_last s (Some e) = entry_in s e.slot e.index
+
+unfoldable pub last_means : ℕ → List ℕ → List ℕ → std.Result (Tree × Option Last) Refusal → Result (lookup.Got Entry)
+last_means size heads bytes (Err x) = refused (refusal.number_of x)
+last_means size heads bytes (Ok (t, e)) = ok (got_last (state_of size t heads bytes) e)
 
 -- slots that are ready, with an entry i of slot n
 pub record EntryReady (size slots : ℕ) (t : Tree) (heads bytes : List ℕ) (n i : ℕ) : Type 0 where
@@ -42,10 +45,10 @@ pub record EntryReady (size slots : ℕ) (t : Tree) (heads bytes : List ℕ) (n 
   pub entry : i < (live (head_at heads n)).count
 
 -- an accepted lookup leaves the workspace ready, and what it found is an entry
-abbrev pub LastReady : ℕ → ℕ → List ℕ → List ℕ → Last → Type 0
-LastReady size slots heads bytes (last.Refused x) = Unit {0}
-LastReady size slots heads bytes (last.None t) = Ready size slots t.used heads bytes
-LastReady size slots heads bytes (last.At t n i) = EntryReady size slots t heads bytes n i
+abbrev pub LastReady : ℕ → ℕ → List ℕ → List ℕ → std.Result (Tree × Option Last) Refusal → Type 0
+LastReady size slots heads bytes (Err x) = Unit {0}
+LastReady size slots heads bytes (Ok (t, None)) = Ready size slots t.used heads bytes
+LastReady size slots heads bytes (Ok (t, Some e)) = EntryReady size slots t heads bytes e.slot e.index
 
 -- ---- of `floor_from`
 
@@ -74,15 +77,14 @@ floored_of room g = check refusal.output (leb (length (records_of g.answer)) roo
 unfoldable pub floor_way : lent.Lent → State → ℕ → List ℕ → Result (lookup.Got Entry)
 floor_way l s room k = lookup.floor_from (node_at s s.root).level l s load.unbounded s.root k >>= floored_of room
 
--- an entry that was found lies there, and whatever is lent, floor's answer is that entry
-pub record SpotOf (size slots : ℕ) (t : Tree) (heads bytes k : List ℕ) (r : Spot) : Type 0 where
-  pub ready : r.found ≡ true → EntryReady size slots t heads bytes r.slot r.index
-  pub lies : r.found ≡ true → r.at ≡ records_length r.index (slot_bytes size bytes r.slot)
-  pub answer : r.found ≡ true → (l : lent.Lent) (room : ℕ)
-      → lookup.floor_in l (state_of size t heads bytes) room k ≡ floored_of room (entry_in (state_of size t heads bytes) r.slot r.index)
+-- an entry lies there, and whatever is lent, floor's answer is that entry
+pub record SpotIs (size slots : ℕ) (t : Tree) (heads bytes k : List ℕ) (e : Spot) : Type 0 where
+  pub ready : EntryReady size slots t heads bytes e.slot e.index
+  pub lies : e.at ≡ records_length e.index (slot_bytes size bytes e.slot)
+  pub answer : (l : lent.Lent) (room : ℕ)
+      → lookup.floor_in l (state_of size t heads bytes) room k ≡ floored_of room (entry_in (state_of size t heads bytes) e.slot e.index)
 
 -- an accepted floor leaves the workspace ready
-abbrev pub FloorReady : ℕ → ℕ → List ℕ → List ℕ → Floor → Type 0
-FloorReady size slots heads bytes (flooring.Refused x) = Unit {0}
-FloorReady size slots heads bytes (flooring.None t) = Ready size slots t.used heads bytes
-FloorReady size slots heads bytes (flooring.Record t n) = Ready size slots t.used heads bytes
+abbrev pub FloorReady : ℕ → ℕ → List ℕ → List ℕ → std.Result (Tree × Option ℕ) Refusal → Type 0
+FloorReady size slots heads bytes (Err x) = Unit {0}
+FloorReady size slots heads bytes (Ok (t, n)) = Ready size slots t.used heads bytes

@@ -1,5 +1,5 @@
 -- Loaded children: the slot that a value names, none or one.
-use Rattle.std.specs.Prelude.{List, [], ◌∷◌, cond, ℕ}
+use Rattle.std.specs.Prelude.{List, [], ◌∷◌, ℕ, option_to_list}
 use Rattle.node.specs.Entry.{Val, ghost, leaf, disk, mem}
 use Rattle.tree.specs.declared.kids.Kid.{Kid}
 
@@ -12,4 +12,4 @@ slots_of (mem c) = c ∷ []
 
 -- what a record's reader says
 unfoldable pub kid_means : Kid → List ℕ
-kid_means k = cond k.loaded (k.slot ∷ []) []
+kid_means k = option_to_list k.slot

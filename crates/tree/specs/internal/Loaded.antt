@@ -1,5 +1,5 @@
 -- A key's way where every child on it is loaded.
-use Rattle.std.specs.Prelude.{◌≡◌, List, true, ℕ, zero, suc, ◌<◌}
+use Rattle.std.specs.Prelude.{◌≡◌, List, true, ℕ, zero, suc, ◌<◌, Option, Some, Ok}
 use Rattle.node.specs.Order.{keyed}
 use Rattle.node.specs.Entry.{Entry, mem}
 use Rattle.node.specs.Find.{val_at, way_index}
@@ -12,12 +12,11 @@ use Rattle.tree.specs.internal.Way.{onto, way_of}
 use Rattle.tree.specs.declared.editor.Tree.{Tree}
 use Rattle.tree.specs.declared.loaded.Taken.{Taken}
 use Rattle.tree.specs.declared.way.Way.{Way}
-use Rattle.tree.specs.declared.way.Went.TheVariants.{Arrived}
 
--- the entry that a key goes on by: its index, and its child's slot if that is loaded
-pub record TakenOf (o : ℕ) (k : List ℕ) (es : List Entry) (r : Taken) : Type 0 where
-  pub index : r.index ≡ way_index o k es
-  pub child : r.loaded ≡ true → val_at es (way_index o k es) ≡ mem r.slot
+-- the entry that a key goes on by, if its child is loaded: its index, and the child's slot
+pub record TakenOf (o : ℕ) (k : List ℕ) (es : List Entry) (r : Option Taken) : Type 0 where
+  pub index : (t : Taken) → r ≡ Some t → t.index ≡ way_index o k es
+  pub child : (t : Taken) → r ≡ Some t → val_at es (way_index o k es) ≡ mem t.slot
 
 -- the child of slot n that a key goes on by is loaded, and P holds of its slot
 pub record OnBy (s : State) (k : List ℕ) (n : ℕ) (P : ℕ → Type 0) : Type 0 where
@@ -34,21 +33,24 @@ LeadsTo (suc d) s k m n = OnBy s k n (LeadsTo d s k m)
 pub record Leading (s : State) (level : ℕ) (k : List ℕ) (d n : ℕ) : Type 0 where
   pub on : (m : ℕ) → LeadsTo d s k m n → LeadsTo level s k m s.root
 
--- where slot r is in use, the way from the root ends in it
-pub record LeadsIn (used level : ℕ) (s : State) (k : List ℕ) (r : ℕ) : Type 0 where
-  pub leads : r < used → LeadsTo level s k r s.root
+-- a slot, if there is one, is in use, and the way from the root ends in it
+pub record LeadsIn (used level : ℕ) (s : State) (k : List ℕ) (r : Option ℕ) : Type 0 where
+  pub within : (m : ℕ) → r ≡ Some m → m < used
+  pub leads : (m : ℕ) → r ≡ Some m → LeadsTo level s k m s.root
 
 -- the same with the root's level, and the key is one of the tree's order
-pub record LeafIs (used : ℕ) (s : State) (k : List ℕ) (r : ℕ) : Type 0 where
-  pub keys : r < used → keyed s.order k ≡ true
-  pub leads : r < used → LeadsTo (node_at s s.root).level s k r s.root
+pub record LeafIs (used : ℕ) (s : State) (k : List ℕ) (r : Option ℕ) : Type 0 where
+  pub within : (m : ℕ) → r ≡ Some m → m < used
+  pub keys : (m : ℕ) → r ≡ Some m → keyed s.order k ≡ true
+  pub leads : (m : ℕ) → r ≡ Some m → LeadsTo (node_at s s.root).level s k m s.root
 
 -- whatever is lent, these steps and the way from slot n are the whole
 pub record Onward (s : State) (level : ℕ) (k : List ℕ) (xs : List Step) (d n : ℕ) : Type 0 where
   pub bounds : Bounds
   pub whole : (l : Lent) → onto xs (way_from d l s bounds n k) ≡ way_from level l s unbounded s.root k
 
--- a way that arrived is the way, whatever is lent; its tree is the tree that it began with
-pub record Walked (size : ℕ) (t : Tree) (heads bytes : List ℕ) (level : ℕ) (k : List ℕ) (w : Way) : Type 0 where
-  pub same : w.tree ≡ t
-  pub arrives : w.went ≡ Arrived → (l : Lent) → way_of size heads bytes w ≡ way_from level l (state_of size t heads bytes) unbounded t.root k
+-- a way, if there is one, is the way, whatever is lent; its tree is the tree that it began with
+pub record Walked (size : ℕ) (t : Tree) (heads bytes : List ℕ) (level : ℕ) (k : List ℕ) (r : Option Way) : Type 0 where
+  pub same : (w : Way) → r ≡ Some w → w.tree ≡ t
+  pub arrives : (w : Way) → r ≡ Some w → (l : Lent)
+      → way_of size heads bytes (Ok w) ≡ way_from level l (state_of size t heads bytes) unbounded t.root k

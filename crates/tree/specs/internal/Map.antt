@@ -1,5 +1,6 @@
 -- What the values of the object map's lookup mean, of the image.
-use Rattle.std.specs.Prelude.{◌≡◌, List, [], ◌∷◌, cond, ◌&&◌, not, ℕ, ◌+◌, ◌-◌, ◌*◌, ◌/◌, ◌≤◌, ◌<◌, length, ltb}
+use Rattle.std.specs.Prelude.{◌≡◌, List, [], ◌∷◌, cond, ◌&&◌, not, ℕ, ◌+◌, ◌-◌, ◌*◌, ◌/◌, ◌≤◌, ◌<◌, length, ltb, Option, Some, None, Ok, Err, option_to_list, option_map, IfSome}
+use Rattle.std.specs.Prelude as std
 use Rattle.node.specs.Bytes.{window}
 use Rattle.node.specs.Result.{Result, ok, refused, ◌>>=◌, ◌>>◌, check}
 use Rattle.node.specs.Refusals as refusal
@@ -9,32 +10,35 @@ use Rattle.node.specs.Find.{key_at}
 use Rattle.node.specs.Read.{OnDisk, on_disk, read_node, entry_at, entries_from}
 use Rattle.node.specs.internal.ReadSteps.{Sound}
 use Rattle.node.specs.declared.read.Place.{Place}
+use Rattle.node.specs.declared.refusal.Refusal.{Refusal}
 use Rattle.tree.specs.Lent as lent
 use Rattle.tree.specs.Load as load
 use Rattle.tree.specs.declared.map.MapNode.{MapNode}
 use Rattle.tree.specs.declared.map.Edge.{Edge}
 use Rattle.tree.specs.declared.map.Edges.{Edges}
-use Rattle.tree.specs.declared.map.MapLoaded.{MapLoaded}
-use Rattle.tree.specs.declared.map.MapLoaded.TheVariants as loaded
 use Rattle.tree.specs.declared.map.Spotted.{Spotted}
-use Rattle.tree.specs.declared.map.Spotted.TheVariants as spotted
-use Rattle.tree.specs.declared.map.Address.{Address}
-use Rattle.tree.specs.declared.map.Address.TheVariants as address
 
 -- `load_block`, of the keys of its bounds
 unfoldable pub load_at : lent.Lent → ℕ → Place → List ℕ → List ℕ → ℕ → Result OnDisk
 load_at l o p lower upper a = check refusal.address (lent.in_image l a) >> read_node o p lower upper (lent.block_at l a)
 
+-- a key that lies in the image
+abbrev pub key_of : List ℕ → Edge → List ℕ
+key_of image e = window e.at e.len image
+
 -- the key of a bound
-unfoldable pub edge_of : List ℕ → Edge → List (List ℕ)
-edge_of image e = cond e.some (window e.at e.len image ∷ []) []
+unfoldable pub edge_of : List ℕ → Option Edge → List (List ℕ)
+edge_of image b = option_to_list (option_map (key_of image) b)
 
 unfoldable pub edges_of : List ℕ → Edges → load.Bounds
 edges_of image b = record { lower = edge_of image b.lower; upper = edge_of image b.upper }
 
 -- it lies in the image
-pub record EdgeIn (image : List ℕ) (e : Edge) : Type 0 where
-  pub within : e.at + e.len ≤ length image
+abbrev pub KeyIn : List ℕ → Edge → Type 0
+KeyIn image e = e.at + e.len ≤ length image
+
+abbrev pub EdgeIn : List ℕ → Option Edge → Type 0
+EdgeIn image b = IfSome b (KeyIn image)
 
 pub record EdgesIn (image : List ℕ) (b : Edges) : Type 0 where
   pub lower : EdgeIn image b.lower
@@ -57,13 +61,13 @@ map_read image size d = on_disk d.node (window (d.at * size) size image)
 unfoldable pub map_child_at : lent.Lent → ℕ → load.Bounds → ℕ → Result OnDisk
 map_child_at l level cs a = load.load_block l pair (load.child_place 16 16 cs level a) cs a
 
-unfoldable pub map_loaded_of : List ℕ → ℕ → MapLoaded → Result OnDisk
-map_loaded_of image size (loaded.Refused x) = refused x
-map_loaded_of image size (loaded.At d) = ok (map_read image size d)
+unfoldable pub map_loaded_of : List ℕ → ℕ → std.Result MapNode Refusal → Result OnDisk
+map_loaded_of image size (Err x) = refused (refusal.number_of x)
+map_loaded_of image size (Ok d) = ok (map_read image size d)
 
-abbrev pub MapSoundAfter : List ℕ → ℕ → MapLoaded → Type 0
-MapSoundAfter image size (loaded.Refused x) = Unit {0}
-MapSoundAfter image size (loaded.At d) = MapSound image size d
+abbrev pub MapSoundAfter : List ℕ → ℕ → std.Result MapNode Refusal → Type 0
+MapSoundAfter image size (Err x) = Unit {0}
+MapSoundAfter image size (Ok d) = MapSound image size d
 
 -- of `map_floor`, where the child on the way has no entry: the last entry of the child before it
 unfoldable pub leftward : ℕ → lent.Lent → OnDisk → load.Bounds → List ℕ → ℕ → Result (List Entry)
@@ -72,20 +76,27 @@ leftward n l d bs k i =
     (load.map_child l d bs (i - 1) >>= λ c. load.map_last n l c (load.child_bounds pair bs d.entries (i - 1)))
     (ok [])
 
-unfoldable pub spotted_of : List ℕ → ℕ → Spotted → Result (List Entry)
-spotted_of image size (spotted.Refused x) = refused x
-spotted_of image size spotted.None = ok []
-spotted_of image size (spotted.At d i) = ok (entry_at d.node (window (d.at * size) size image) i ∷ [])
+-- the entry found, if there is one
+unfoldable pub found_of : List ℕ → ℕ → Option Spotted → List Entry
+found_of image size None = []
+found_of image size (Some s) = entry_at s.node.node (window (s.node.at * size) size image) s.index ∷ []
+
+unfoldable pub spotted_of : List ℕ → ℕ → std.Result (Option Spotted) Refusal → Result (List Entry)
+spotted_of image size (Err x) = refused (refusal.number_of x)
+spotted_of image size (Ok s) = ok (found_of image size s)
 
 -- an entry that is one
-abbrev pub SpottedIn : List ℕ → ℕ → Spotted → Type 0
-SpottedIn image size (spotted.Refused x) = Unit {0}
-SpottedIn image size spotted.None = Unit {0}
-SpottedIn image size (spotted.At d i) = MapSound image size d × (i < d.node.nkeys)
+abbrev pub FoundIn : List ℕ → ℕ → Option Spotted → Type 0
+FoundIn image size None = Unit {0}
+FoundIn image size (Some s) = MapSound image size s.node × (s.index < s.node.node.nkeys)
 
-unfoldable pub address_at : Address → Result ℕ
-address_at (address.Refused x) = refused x
-address_at (address.At a) = ok a
+abbrev pub SpottedIn : List ℕ → ℕ → std.Result (Option Spotted) Refusal → Type 0
+SpottedIn image size (Err x) = Unit {0}
+SpottedIn image size (Ok s) = FoundIn image size s
+
+unfoldable pub address_at : std.Result ℕ Refusal → Result ℕ
+address_at (Err x) = refused (refusal.number_of x)
+address_at (Ok a) = ok a
 
 -- an id's mapping, of what was found
 unfoldable pub mapping_in : ℕ → Result (List Entry) → Result ℕ

@@ -1,7 +1,10 @@
 -- What the steps of range compute, of the slots: nodes loaded and entries counted, then written out.
-use Rattle.std.specs.Prelude.{List, [], ◌∷◌, ◌++◌, Bool, cond, ◌&&◌, not, ℕ, zero, suc, ◌+◌, ◌^◌, length, leb}
+use Rattle.std.specs.Prelude.{List, [], ◌∷◌, ◌++◌, Bool, cond, ◌&&◌, not, ℕ, zero, suc, ◌+◌, ◌^◌, length, leb, Option, Some, None, Ok, Err}
+use Rattle.std.specs.Borrow.{Bor}
+use Rattle.std.specs.Prelude as std
 use Rattle.node.specs.Result.{Result, ok, refused, ◌>>=◌, ◌>>◌, check}
 use Rattle.node.specs.Refusals as refusal
+use Rattle.node.specs.declared.refusal.Refusal.{Refusal}
 use Rattle.node.specs.Order.{less}
 use Rattle.node.specs.Entry.{Entry, Val, ghost, leaf, disk, mem}
 use Rattle.node.specs.Find.{val_at}
@@ -15,13 +18,13 @@ use Rattle.tree.specs.Trusts.{Ready}
 pub use Rattle.tree.specs.Trusts.{RangeCalled}
 use Rattle.tree.specs.declared.range.Sum.{Sum}
 use Rattle.tree.specs.declared.range.Ranged.{Ranged}
-use Rattle.tree.specs.declared.range.Ranged.TheVariants as ranging
 
 -- ---- between two ends
 
 -- an upper end, if there is one
-unfoldable pub end_of : Bool → List ℕ → List (List ℕ)
-end_of ended hi = cond ended (hi ∷ []) []
+unfoldable pub end_of : Option (Bor (List ℕ)) → List (List ℕ)
+end_of None = []
+end_of (Some hi) = hi.now ∷ []
 
 -- whether a key lies between
 unfoldable pub lies_between : ℕ → List ℕ → List (List ℕ) → List ℕ → Bool
@@ -63,14 +66,14 @@ unfoldable pub ahead : Sum → Result Counted → Result Counted
 ahead a r = r >>= λ c. ok (record { state = c.state; sum = plus a c.sum })
 
 -- what the code answers, of the words and bytes that it leaves
-unfoldable pub ranged_of : ℕ → List ℕ → List ℕ → Ranged → Result Counted
-ranged_of size heads bytes (ranging.Refused x) = refused x
-ranged_of size heads bytes (ranging.Done t k m) = ok (record { state = state_of size t heads bytes; sum = record { count = k; length = m } })
+unfoldable pub ranged_of : ℕ → List ℕ → List ℕ → std.Result Ranged Refusal → Result Counted
+ranged_of size heads bytes (Err x) = refused (refusal.number_of x)
+ranged_of size heads bytes (Ok r) = ok (record { state = state_of size r.tree heads bytes; sum = record { count = r.count; length = r.length } })
 
 -- an accepted range leaves the workspace ready
-abbrev pub ReadyRanged : ℕ → ℕ → List ℕ → List ℕ → Ranged → Type 0
-ReadyRanged size slots heads bytes (ranging.Refused x) = Unit {0}
-ReadyRanged size slots heads bytes (ranging.Done t k m) = Ready size slots t.used heads bytes
+abbrev pub ReadyRanged : ℕ → ℕ → List ℕ → List ℕ → std.Result Ranged Refusal → Type 0
+ReadyRanged size slots heads bytes (Err x) = Unit {0}
+ReadyRanged size slots heads bytes (Ok r) = Ready size slots r.tree.used heads bytes
 
 -- of `range_kids`, child i alone: loaded and looked into if range enters it
 unfoldable pub range_child : (State → Bounds → ℕ → Result (Got Entry)) → lent.Lent → State → Bounds → ℕ → List ℕ → List (List ℕ) → ℕ

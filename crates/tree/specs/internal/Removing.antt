@@ -1,5 +1,7 @@
 -- Remove at work: nodes dropped on a way, the leaf's entry taken out by its place, the root's place handed down.
-use Rattle.std.specs.Prelude.{◌≡◌, List, [], true, ◌&&◌, ℕ, ◌-◌, ◌*◌, ◌≤◌, ◌<◌, length, get_or, leb, ltb}
+use Rattle.std.specs.Prelude.{◌≡◌, List, [], true, ◌&&◌, ℕ, ◌-◌, ◌*◌, ◌≤◌, ◌<◌, length, get_or, leb, ltb, Ok, Err}
+use Rattle.std.specs.Prelude as std
+use Rattle.node.specs.declared.refusal.Refusal.{Refusal}
 use Rattle.node.specs.Result.{Result, ok, ◌>>=◌, ◌>>◌, check}
 use Rattle.node.specs.Refusals as refusal
 use Rattle.node.specs.Find.{place_of}
@@ -18,8 +20,6 @@ use Rattle.tree.specs.internal.Room.{Roomy}
 use Rattle.tree.specs.internal.Index.{Rewritten, steps_from}
 use Rattle.tree.specs.declared.editor.Tree.{Tree}
 use Rattle.tree.specs.declared.lent.Lent.{Lent}
-use Rattle.tree.specs.declared.edited.Edited.{Edited}
-use Rattle.tree.specs.declared.edited.Edited.TheVariants as editing
 
 -- ---- nodes dropped
 
@@ -79,9 +79,9 @@ pub record OnWay (l : lent.Lent) (s : State) (ps : List Step) (i : ℕ) : Type 0
   pub place : i ≡ place_of s.order key (node_at s (leaf_of ps)).entries
 
 -- an accepted edit that takes no slot
-abbrev pub SameUsed : ℕ → Edited → Type 0
-SameUsed used (editing.Refused x) = Unit {0}
-SameUsed used (editing.Done t) = t.used ≡ used
+abbrev pub SameUsed : ℕ → std.Result Tree Refusal → Type 0
+SameUsed used (Err x) = Unit {0}
+SameUsed used (Ok t) = t.used ≡ used
 
 -- ---- the root's place
 

@@ -1,5 +1,5 @@
 -- A remove that changes an entry of its leaf and nothing else: the way stays as it is.
-use Rattle.std.specs.Prelude.{◌≡◌, List, true, false, ℕ, zero, suc, ◌<◌}
+use Rattle.std.specs.Prelude.{◌≡◌, List, true, false, ℕ, zero, suc, ◌<◌, Option, Some, None}
 use Rattle.node.specs.Result.{ok}
 use Rattle.node.specs.Order.{keyed, same_key}
 use Rattle.node.specs.Entry.{mem}
@@ -12,8 +12,6 @@ use Rattle.tree.specs.internal.Bank.{Ready}
 use Rattle.tree.specs.internal.Cutting.{stays_whole}
 use Rattle.tree.specs.declared.editor.Tree.{Tree}
 use Rattle.tree.specs.declared.loaded.Taken.{Taken}
-use Rattle.tree.specs.declared.still.Still.{Still}
-use Rattle.tree.specs.declared.still.Still.TheVariants as stilled
 
 -- a node of a way that needs no cut and, in a physical tree, no dirty mark
 pub record Settled (s : State) (n : ℕ) : Type 0 where
@@ -27,8 +25,8 @@ pub record GoesOn (s : State) (k : List ℕ) (n c : ℕ) : Type 0 where
   pub settled : Settled s n
 
 -- what is taken, if anything is, goes on so
-pub record StillOf (s : State) (k : List ℕ) (n : ℕ) (r : Taken) : Type 0 where
-  pub on : r.loaded ≡ true → GoesOn s k n r.slot
+pub record StillOf (s : State) (k : List ℕ) (n : ℕ) (r : Option Taken) : Type 0 where
+  pub on : (t : Taken) → r ≡ Some t → GoesOn s k n t.slot
 
 pub record StillBy (s : State) (k : List ℕ) (n : ℕ) (P : ℕ → Type 0) : Type 0 where
   pub slot : ℕ
@@ -44,14 +42,16 @@ StillTo (suc d) s k m n = StillBy s k n (StillTo d s k m)
 pub record Stilling (s : State) (level : ℕ) (k : List ℕ) (d n : ℕ) : Type 0 where
   pub on : (m : ℕ) → StillTo d s k m n → StillTo level s k m s.root
 
--- where slot r is in use, the way from the root ends in it
-pub record StillIn (used level : ℕ) (s : State) (k : List ℕ) (r : ℕ) : Type 0 where
-  pub leads : r < used → StillTo level s k r s.root
+-- a slot, if there is one, is in use, and the way from the root ends in it
+pub record StillIn (used level : ℕ) (s : State) (k : List ℕ) (r : Option ℕ) : Type 0 where
+  pub within : (m : ℕ) → r ≡ Some m → m < used
+  pub leads : (m : ℕ) → r ≡ Some m → StillTo level s k m s.root
 
 -- the same with the root's level, and the key is one of the tree's order
-pub record StillLeaf (used : ℕ) (s : State) (k : List ℕ) (r : ℕ) : Type 0 where
-  pub keys : r < used → keyed s.order k ≡ true
-  pub leads : r < used → StillTo (node_at s s.root).level s k r s.root
+pub record StillLeaf (used : ℕ) (s : State) (k : List ℕ) (r : Option ℕ) : Type 0 where
+  pub within : (m : ℕ) → r ≡ Some m → m < used
+  pub keys : (m : ℕ) → r ≡ Some m → keyed s.order k ≡ true
+  pub leads : (m : ℕ) → r ≡ Some m → StillTo (node_at s s.root).level s k m s.root
 
 -- entry i of leaf n can be taken out, and nothing above it changes: its first entry stays, leaf and root are dirty, a key is counted, and the root
 -- keeps its place
@@ -63,8 +63,8 @@ pub record StaysAbove (s : State) (n i : ℕ) : Type 0 where
   pub more : has_only_child s ≡ false
 
 -- a remove that was made so is the remove, whatever is lent; one that was not wrote nothing
-abbrev pub StillRemoved : ℕ → ℕ → Tree → List ℕ → List ℕ → List ℕ → List ℕ → List ℕ → Still → Type 0
-StillRemoved size slots t heads bytes heads' bytes' k stilled.Not = (heads' ≡ heads) × (bytes' ≡ bytes)
-StillRemoved size slots t heads bytes heads' bytes' k (stilled.Yes u) =
+abbrev pub StillRemoved : ℕ → ℕ → Tree → List ℕ → List ℕ → List ℕ → List ℕ → List ℕ → Option Tree → Type 0
+StillRemoved size slots t heads bytes heads' bytes' k None = (heads' ≡ heads) × (bytes' ≡ bytes)
+StillRemoved size slots t heads bytes heads' bytes' k (Some u) =
     ((l : lent.Lent) → ok (record { state = state_of size u heads' bytes'; present = true }) ≡ removed l (state_of size t heads bytes) k)
     × (keyed t.order k ≡ true) × Ready size slots u.used heads' bytes'

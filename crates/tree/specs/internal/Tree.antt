@@ -1,5 +1,6 @@
 -- What the values of the code mean, of a bank.
-use Rattle.std.specs.Prelude.{◌≡◌, List, [], ◌∷◌, true, cond, ℕ, ◌<◌}
+use Rattle.std.specs.Prelude.{List, [], ◌∷◌, ℕ, ◌<◌, Option, Some, None, Ok, Err, IfSome}
+use Rattle.std.specs.Prelude as std
 use Rattle.node.specs.Result.{Result, ok, refused, ◌>>=◌}
 use Rattle.node.specs.Entry.{Val, ghost, leaf, disk, mem}
 use Rattle.node.specs.Find.{key_at}
@@ -11,27 +12,29 @@ use Rattle.tree.specs.Load as load
 use Rattle.tree.specs.internal.Brought.{brought}
 use Rattle.tree.specs.internal.Bank.{Ready}
 use Rattle.tree.specs.declared.editor.Bound.{Bound}
+use Rattle.tree.specs.declared.editor.Tree.{Tree}
+use Rattle.node.specs.Refusals.{number_of}
+use Rattle.node.specs.declared.refusal.Refusal.{Refusal}
+use Rattle.node.specs.declared.val.Child.{Child}
+use Rattle.node.specs.declared.val.Child.TheVariants as child
 use Rattle.tree.specs.declared.editor.Bounds.{Bounds}
-use Rattle.tree.specs.declared.editor.ChildAt.{ChildAt}
-use Rattle.tree.specs.declared.editor.ChildAt.TheVariants.{None, Disk, Mem}
-use Rattle.tree.specs.declared.editor.Loaded.{Loaded}
-use Rattle.tree.specs.declared.editor.Loaded.TheVariants.{Refused, At}
 
-unfoldable pub child_of : Val → ChildAt
+unfoldable pub child_of : Val → Option Child
 child_of ghost = None
 child_of (leaf v) = None
-child_of (disk r) = Disk r
-child_of (mem c) = Mem c
+child_of (disk r) = Some (child.Disk r)
+child_of (mem c) = Some (child.Mem c)
 
-unfoldable pub bound_of : State → Bound → List (List ℕ)
-bound_of s b = cond b.some (key_at (node_at s b.slot).entries b.index ∷ []) []
+unfoldable pub bound_of : State → Option Bound → List (List ℕ)
+bound_of s None = []
+bound_of s (Some b) = key_at (node_at s b.slot).entries b.index ∷ []
 
 unfoldable pub bounds_of : State → Bounds → load.Bounds
 bounds_of s b = record { lower = bound_of s b.lower; upper = bound_of s b.upper }
 
 -- a bound, if it is one, is of a slot in use
-pub record BoundIn (used : ℕ) (b : Bound) : Type 0 where
-  pub slot : b.some ≡ true → b.slot < used
+abbrev pub BoundIn : ℕ → Option Bound → Type 0
+BoundIn used b = IfSome b (λ x. x.slot < used)
 
 pub record BoundsIn (used : ℕ) (b : Bounds) : Type 0 where
   pub lower : BoundIn used b.lower
@@ -46,11 +49,11 @@ read_child l s cs n r a =
 unfoldable pub fetched_at : lent.Lent → State → load.Bounds → ℕ → ℕ → ℕ → ℕ → Result load.At
 fetched_at l s cs n i r a = read_child l s cs n r a >>= λ d. ok (brought s n i d a)
 
-unfoldable pub loaded_of : ℕ → List ℕ → List ℕ → Loaded → Result load.At
-loaded_of size heads bytes (Refused x) = refused x
-loaded_of size heads bytes (At t c) = ok (record { state = state_of size t heads bytes; slot = c })
+unfoldable pub loaded_of : ℕ → List ℕ → List ℕ → std.Result (Tree × ℕ) Refusal → Result load.At
+loaded_of size heads bytes (Err x) = refused (number_of x)
+loaded_of size heads bytes (Ok (t, c)) = ok (record { state = state_of size t heads bytes; slot = c })
 
 -- an accepted call leaves the bank ready
-abbrev pub ReadyAfter : ℕ → ℕ → List ℕ → List ℕ → Loaded → Type 0
-ReadyAfter size slots heads bytes (Refused x) = Unit {0}
-ReadyAfter size slots heads bytes (At t c) = Ready size slots t.used heads bytes
+abbrev pub ReadyAfter : ℕ → ℕ → List ℕ → List ℕ → std.Result (Tree × ℕ) Refusal → Type 0
+ReadyAfter size slots heads bytes (Err x) = Unit {0}
+ReadyAfter size slots heads bytes (Ok (t, c)) = Ready size slots t.used heads bytes

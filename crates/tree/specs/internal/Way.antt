@@ -1,13 +1,14 @@
 -- The way as the code keeps it: the slots and the children taken, in two arrays.
-use Rattle.std.specs.Prelude.{◌≡◌, List, [], ◌∷◌, ◌++◌, ℕ, zero, suc, ◌≤◌, ◌<◌, length, get_or}
+use Rattle.std.specs.Prelude.{◌≡◌, List, [], ◌∷◌, ◌++◌, ℕ, zero, suc, ◌≤◌, ◌<◌, length, get_or, Ok, Err}
+use Rattle.std.specs.Prelude as std
 use Rattle.node.specs.Result.{Result, ok, refused, ◌>>=◌}
+use Rattle.node.specs.Refusals.{number_of}
+use Rattle.node.specs.declared.refusal.Refusal.{Refusal}
 use Rattle.tree.specs.Lookup as lookup
 use Rattle.tree.specs.Edit as edit
 use Rattle.tree.specs.internal.Bank.{Ready}
 use Rattle.tree.specs.internal.Undo.{Follows}
 use Rattle.tree.specs.Workspace.{state_of}
-use Rattle.tree.specs.declared.way.Went.{Went}
-use Rattle.tree.specs.declared.way.Went.TheVariants.{Refused, Arrived}
 use Rattle.tree.specs.declared.way.Way.{Way}
 use Rattle.tree.specs.declared.editor.Tree.{Tree}
 
@@ -16,23 +17,22 @@ unfoldable pub steps_of : List ℕ → List ℕ → ℕ → List lookup.Step
 steps_of slots kids zero = []
 steps_of slots kids (suc k) = steps_of slots kids k ++ record { slot = get_or slots k 0; child = get_or kids k 0 } ∷ []
 
-unfoldable pub went_of : Went → lookup.Way → Result lookup.Way
-went_of (Refused x) w = refused x
-went_of Arrived w = ok w
+-- a way that the code walked
+unfoldable pub walked_of : ℕ → List ℕ → List ℕ → Way → lookup.Way
+walked_of size heads bytes w = record { state = state_of size w.tree heads bytes; steps = steps_of w.slots w.kids w.steps }
 
-unfoldable pub way_of : ℕ → List ℕ → List ℕ → Way → Result lookup.Way
-way_of size heads bytes w = went_of w.went (record { state = state_of size w.tree heads bytes; steps = steps_of w.slots w.kids w.steps })
+unfoldable pub way_of : ℕ → List ℕ → List ℕ → std.Result Way Refusal → Result lookup.Way
+way_of size heads bytes (Err x) = refused (number_of x)
+way_of size heads bytes (Ok w) = ok (walked_of size heads bytes w)
 
 -- steps put before a way
 unfoldable pub onto : List lookup.Step → Result lookup.Way → Result lookup.Way
 onto xs r = r >>= λ w. ok (record { state = w.state; steps = xs ++ w.steps })
 
-abbrev pub WayReady : ℕ → ℕ → List ℕ → List ℕ → Way → Type 0
-WayReady size slots heads bytes w = ready w.went
-  where
-    ready : Went → Type 0
-    ready (Refused x) = Unit {0}
-    ready Arrived = Ready size slots w.tree.used heads bytes
+-- an accepted walk leaves the workspace ready
+abbrev pub WayReady : ℕ → ℕ → List ℕ → List ℕ → std.Result Way Refusal → Type 0
+WayReady size slots heads bytes (Err x) = Unit {0}
+WayReady size slots heads bytes (Ok w) = Ready size slots w.tree.used heads bytes
 
 -- the slots of a way are in use
 pub record WayIn (used : ℕ) (way : List ℕ) (steps : ℕ) : Type 0 where

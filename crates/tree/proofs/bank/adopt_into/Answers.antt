@@ -1,7 +1,6 @@
 use mathlib.Core.Path.{◌≡◌, refl}
 use Prim.Native.Nat.{◌+◌, ◌-◌, ◌*◌}
 use native.Mathlib.Omega.{arith}
-use Rattle.node.specs.laws.base.Bytes.{bytes_known}
 use Rattle.tree.specs.laws.slots.OneSlot.{adopt_put}
 use borrow.Author.Rules.{rules}
 use Rattle.tree.proofs.bank.adopt_into.Goals as goal
@@ -12,4 +11,4 @@ returns c =
     let p = c.requires in
     let k = a.c * (4 * a.size) + 4 * a.size - a.c * (4 * a.size) in
     let ek : k ≡ 4 * a.size = omega arith in
-    adopt_put _ _ _ _ _ _ _ _ _ _ _ _ k ek (bytes_known _ c.type_inv.block) p.block_len.0 p.sound p.nkeys_bound p.block_len.3 p.block_len.4 c.adopt-used.ensures.bytes.0 c.adopt-used.ensures.bytes.1 _ c.head_of-h.ensures (search rules) refl c.store.ensures
+    adopt_put _ _ _ _ _ _ _ _ _ _ _ _ k ek c.args.read.bytes p.room.0 c.args.read.sound p.few p.room.3 p.room.4 c.adopt-used.ensures.bytes.0 c.adopt-used.ensures.bytes.1 _ c.head_of-h.ensures (search rules) refl c.store.ensures

@@ -4,17 +4,14 @@ use Rattle.tree.proofs.get.held_in.Goals as goal
 
 ruleset laws = (rules, held_none, held_lies, held_ghost, held_value, held_within)
 
-pub below-f-requires : goal.below-f-requires
-below-f-requires c = search laws
-
 pub returns-then-not-f : goal.returns-then-not-f
 returns-then-not-f c = search laws
-
-pub record_at-r-requires : goal.record_at-r-requires
-record_at-r-requires c = search laws
 
 pub returns-then-r-eq-GHOST : goal.returns-then-r-eq-GHOST
 returns-then-r-eq-GHOST c = search laws
 
 pub returns : goal.returns
 returns c = search laws
+
+pub invariant_of-parts : goal.invariant_of-parts
+invariant_of-parts c = record { lies = search laws }

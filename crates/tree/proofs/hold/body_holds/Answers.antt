@@ -19,12 +19,6 @@ returns-then-not-count_holds c = search laws
 pub check-checked-requires : goal.check-checked-requires
 check-checked-requires c = search laws
 
-pub enum_told-1 : goal.enum_told-1
-enum_told-1 c = search laws
-
-pub enum_known-checked : goal.enum_known-checked
-enum_known-checked c = search laws
-
 pub overflow_add-s : goal.overflow_add-s
 overflow_add-s c =
     omega (
@@ -34,15 +28,15 @@ overflow_add-s c =
           c.if-h-gt-MOST_LEVEL.false _
           c.count_holds.ensures
           (ap not c.if-not-count_holds.false) _ c.check-checked.ensures _
-          c.in-Held.is
+          c.in-Some.is
           c.requires.1,
     )
 
 pub place_holds-requires : goal.place_holds-requires
 place_holds-requires c = search laws
 
-pub returns-in-Not : goal.returns-in-Not
-returns-in-Not c = search laws
+pub returns-in-None : goal.returns-in-None
+returns-in-None c = search laws
 
-pub returns-in-Held : goal.returns-in-Held
-returns-in-Held c = search laws
+pub returns-in-Some : goal.returns-in-Some
+returns-in-Some c = search laws

@@ -35,11 +35,10 @@ pub returns-then-h-eq0 : goal.returns-then-h-eq0
 returns-then-h-eq0 c = search laws
 
 pub link_entries-requires : goal.link_entries-requires
-link_entries-requires c = (
-  search laws,
-  c.requires.sized.2,
-  search laws,
-)
+link_entries-requires c = (c.requires.sized.2, search laws)
+
+pub invariant_of-records : goal.invariant_of-records
+invariant_of-records c = record { within = search laws }
 
 pub shape_of-marks : goal.shape_of-marks
 shape_of-marks c = search laws

@@ -9,24 +9,6 @@ ruleset laws = (rules, links_start, links_no, links_next, links_end, at_start, a
 pub loop-i-init : goal.loop-i-init
 loop-i-init c = search laws
 
-pub link_value-linked-requires : goal.link_value-linked-requires
-link_value-linked-requires c = search laws
-
-pub shape_of-marks-then-not-linked : goal.shape_of-marks-then-not-linked
-shape_of-marks-then-not-linked c = search laws
-
-pub returns-then-not-linked : goal.returns-then-not-linked
-returns-then-not-linked c = search laws
-
-pub next-at-requires : goal.next-at-requires
-next-at-requires c = search laws
-
-pub overflow_add-i : goal.overflow_add-i
-overflow_add-i c = search laws
-
-pub loop-i-smaller : goal.loop-i-smaller
-loop-i-smaller c = search laws
-
 pub loop-i-preserved : goal.loop-i-preserved
 loop-i-preserved c = search laws
 
@@ -35,3 +17,15 @@ shape_of-marks c = search laws
 
 pub returns : goal.returns
 returns c = search laws
+
+pub invariant_of-r : goal.invariant_of-r
+invariant_of-r c = record { lies = at_lies _ _ _ _ c.args.records.within c.loop-i-test.true c.loop-i.invariant.0 }
+
+pub link_value-requires : goal.link_value-requires
+link_value-requires c = search laws
+
+pub shape_of-marks-then-not-link_value : goal.shape_of-marks-then-not-link_value
+shape_of-marks-then-not-link_value c = search laws
+
+pub returns-then-not-link_value : goal.returns-then-not-link_value
+returns-then-not-link_value c = search laws

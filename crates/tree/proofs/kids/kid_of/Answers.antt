@@ -4,20 +4,14 @@ use Rattle.tree.proofs.kids.kid_of.Goals as goal
 
 ruleset laws = (rules, kid_ghost, kid_leaf, kid_disk, kid_mem)
 
-pub next-next-requires : goal.next-next-requires
-next-next-requires c = search laws
-
-pub value_of-v-requires : goal.value_of-v-requires
-value_of-v-requires c = search laws
+pub invariant_of-r : goal.invariant_of-r
+invariant_of-r c = record { lies = search laws }
 
 pub enum_told-1 : goal.enum_told-1
 enum_told-1 c = search laws
 
 pub enum_told-in-Leaf : goal.enum_told-in-Leaf
 enum_told-in-Leaf c = search laws
-
-pub enum_known-v : goal.enum_known-v
-enum_known-v c = search laws
 
 pub enum_told-in-Disk : goal.enum_told-in-Disk
 enum_told-in-Disk c = search laws

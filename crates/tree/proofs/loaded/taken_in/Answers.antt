@@ -4,11 +4,11 @@ use Rattle.tree.proofs.loaded.taken_in.Goals as goal
 
 ruleset laws = (rules, taken_none, taken_lies, taken_is)
 
-pub returns-then-n-eq0 : goal.returns-then-n-eq0
-returns-then-n-eq0 c = search laws
-
 pub kid_of-kid-requires : goal.kid_of-kid-requires
 kid_of-kid-requires c = search laws
 
 pub returns : goal.returns
 returns c = search laws
+
+pub returns-then-records-eq0 : goal.returns-then-records-eq0
+returns-then-records-eq0 c = search laws

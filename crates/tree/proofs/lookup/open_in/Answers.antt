@@ -1,3 +1,4 @@
+use Rattle.tree.specs.laws.base.Refused.{handed_on}
 use Rattle.node.specs.laws.base.Bytes.{bytes_known}
 use Rattle.tree.specs.laws.load.Open.{open_sizes, open_least, open_most, open_some, open_many, open_order, open_unmapped, open_found, opened_trusts}
 use borrow.Author.Rules.{rules}
@@ -17,21 +18,9 @@ known-requires c = search laws
 pub returns-then-not-known : goal.returns-then-not-known
 returns-then-not-known c = search laws
 
-pub address_of-found-requires : goal.address_of-found-requires
-address_of-found-requires c = (search laws, search laws)
-
-pub enum_known-found : goal.enum_known-found
-enum_known-found c = search laws
-
-pub enum_known-found-in-At-1 : goal.enum_known-found-in-At-1
-enum_known-found-in-At-1 c = search laws
-
 pub open_at-requires : goal.open_at-requires
 open_at-requires c =
     record { le_size = (search laws, search laws, search laws, search laws); heads_len = (search laws, search laws) }
-
-pub returns-in-Refused : goal.returns-in-Refused
-returns-in-Refused c = search laws
 
 pub shape_of-heads : goal.shape_of-heads
 shape_of-heads c = search laws
@@ -39,8 +28,19 @@ shape_of-heads c = search laws
 pub shape_of-bytes : goal.shape_of-bytes
 shape_of-bytes c = search laws
 
-pub returns-in-At : goal.returns-in-At
-returns-in-At c =
+pub address_of-requires : goal.address_of-requires
+address_of-requires c = search laws
+
+pub returns-in_err-a-clause-answer : goal.returns-in_err-a-clause-answer
+returns-in_err-a-clause-answer c =
+    rw (handed_on c.from_residual.result _ c.from_residual.ensures.1) (search (laws, c.in_err-a.was))
+
+pub returns-clause-answer : goal.returns-clause-answer
+returns-clause-answer c =
+    search (laws, c.in_ok-a.was)
+
+pub returns-clause-trusts : goal.returns-clause-trusts
+returns-clause-trusts c =
     let a = c.args in
     let g = c.open_at in
-    record { answer = search laws; trusts = opened_trusts a.image.now a.lent a.r a.order a.xid _ _ g.result (bytes_known _ c.type_inv.image) g.ensures.ready (search laws) }
+    opened_trusts a.image.now a.lent a.r a.order a.xid _ _ g.result (bytes_known _ c.type_inv.image) g.ensures.ready (search (laws, c.in_ok-a.was))

@@ -1,20 +1,19 @@
-use Rattle.tree.specs.laws.load.MapNode.{edge_past, edge_past_in, map_laid, edge_room, edge_found, edge_found_in}
+use Rattle.node.specs.laws.base.Bytes.{bytes_known}
+use Rattle.tree.specs.laws.load.MapNode.{block_known}
+use Rattle.tree.specs.laws.load.MapNode.{edge_past, edge_past_in, map_sound, edge_room, edge_found, edge_found_in}
 use borrow.Author.Rules.{rules}
 use Prim.Native.Nat.{◌+◌, ◌*◌, ◌≤◌}
 use native.Mathlib.Omega.{arith}
 use lib.ListN.{length}
 use Rattle.tree.proofs.map.edge_at.Goals as goal
 
-ruleset laws = (rules, edge_past, edge_past_in, map_laid, edge_room, edge_found, edge_found_in)
+ruleset laws = (rules, edge_past, edge_past_in, map_sound, edge_room, edge_found, edge_found_in)
 
 pub returns-then-v-i : goal.returns-then-v-i
 returns-then-v-i c = search laws
 
-pub block_of-requires : goal.block_of-requires
-block_of-requires c = search laws
-
-pub span_at-s-requires : goal.span_at-s-requires
-span_at-s-requires c = search laws
+pub block_of-block-requires : goal.block_of-block-requires
+block_of-block-requires c = search laws
 
 pub overflow_mul-result : goal.overflow_mul-result
 overflow_mul-result c =
@@ -30,3 +29,6 @@ overflow_add-result c =
 
 pub returns : goal.returns
 returns c = search laws
+
+pub invariant_of-span_at : goal.invariant_of-span_at
+invariant_of-span_at c = record { bytes = block_known _ _ _ _ (bytes_known _ c.type_inv.image) c.block_of-block.ensures; sound = search laws }

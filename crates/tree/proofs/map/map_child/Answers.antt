@@ -1,3 +1,4 @@
+use Rattle.tree.specs.laws.base.Refused.{handed_on}
 use Rattle.tree.specs.laws.load.MapFloor.{child_refused, child_loaded, child_sound}
 use borrow.Author.Rules.{rules}
 use Rattle.tree.proofs.map.map_child.Goals as goal
@@ -13,17 +14,14 @@ edge_key-lo-requires c = search laws
 pub edge_key-up-requires : goal.edge_key-up-requires
 edge_key-up-requires c = search laws
 
-pub load_block-read-requires : goal.load_block-read-requires
-load_block-read-requires c = search laws
+pub returns-in_err-node-clause-answer : goal.returns-in_err-node-clause-answer
+returns-in_err-node-clause-answer c =
+    rw (handed_on c.from_residual.result _ c.from_residual.ensures.1) (search (laws, c.in_err-node.was))
 
-pub enum_known-read : goal.enum_known-read
-enum_known-read c = search laws
+pub returns-clause-answer : goal.returns-clause-answer
+returns-clause-answer c =
+    search (laws, c.in_ok-node.was)
 
-pub enum_known-read-in-Loaded-1 : goal.enum_known-read-in-Loaded-1
-enum_known-read-in-Loaded-1 c = search laws
-
-pub returns-in-Refused : goal.returns-in-Refused
-returns-in-Refused c = search laws
-
-pub returns-in-Loaded : goal.returns-in-Loaded
-returns-in-Loaded c = record { answer = search laws; sound = search laws }
+pub returns-clause-sound : goal.returns-clause-sound
+returns-clause-sound c =
+    search (laws, c.in_ok-node.was)

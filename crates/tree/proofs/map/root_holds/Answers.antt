@@ -11,9 +11,6 @@ block_of-requires c = search laws
 pub parse-info-requires : goal.parse-info-requires
 parse-info-requires c = search laws
 
-pub one_if-class-requires : goal.one_if-class-requires
-one_if-class-requires c = search laws
-
 pub returns-then-v-class : goal.returns-then-v-class
 returns-then-v-class c = search laws
 

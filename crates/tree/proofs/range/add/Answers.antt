@@ -4,9 +4,6 @@ use Rattle.tree.proofs.range.add.Goals as goal
 
 ruleset laws = (rules, add_most, add_both)
 
-pub overflow_add-c : goal.overflow_add-c
-overflow_add-c c = search laws
-
 pub returns-then-c-gt-MOST : goal.returns-then-c-gt-MOST
 returns-then-c-gt-MOST c = search laws
 

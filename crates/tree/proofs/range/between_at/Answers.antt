@@ -4,17 +4,8 @@ use Rattle.tree.proofs.range.between_at.Goals as goal
 
 ruleset laws = (rules, lies_below, lies_above)
 
-pub key_of-key-requires : goal.key_of-key-requires
-key_of-key-requires c = search laws
-
-pub less-requires : goal.less-requires
-less-requires c = search laws
-
 pub returns-then-less : goal.returns-then-less
 returns-then-less c = search laws
-
-pub ends_above-requires : goal.ends_above-requires
-ends_above-requires c = search laws
 
 pub returns : goal.returns
 returns c = search laws

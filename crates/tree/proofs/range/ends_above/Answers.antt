@@ -1,14 +1,8 @@
 use Rattle.tree.specs.laws.lookup.Between.{ends_none, ends_some}
-use borrow.Author.Rules.{rules}
 use Rattle.tree.proofs.range.ends_above.Goals as goal
 
-ruleset laws = (rules, ends_none, ends_some)
+pub returns-in-Some : goal.returns-in-Some
+returns-in-Some c = ends_some _ _ _ _ c.in-Some.is _ c.less.ensures
 
-pub returns-then-not-ended : goal.returns-then-not-ended
-returns-then-not-ended c = search laws
-
-pub less-requires : goal.less-requires
-less-requires c = search laws
-
-pub returns : goal.returns
-returns c = search laws
+pub returns-in-None : goal.returns-in-None
+returns-in-None c = ends_none _ _ _ c.in-None.is

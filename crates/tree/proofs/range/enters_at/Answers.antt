@@ -5,29 +5,17 @@ use Rattle.tree.proofs.range.enters_at.Goals as goal
 
 ruleset laws = (rules, next_room, at_above, at_last, at_more, at_lies)
 
-pub key_of-key-requires : goal.key_of-key-requires
-key_of-key-requires c = search laws
-
-pub ends_above-requires : goal.ends_above-requires
-ends_above-requires c = search laws
-
 pub returns-then-not-ends_above : goal.returns-then-not-ends_above
 returns-then-not-ends_above c = search laws
 
-pub overflow_add-i : goal.overflow_add-i
-overflow_add-i c = search laws
-
-pub returns-then-n-i : goal.returns-then-n-i
-returns-then-n-i c = search laws
-
-pub next-next-requires : goal.next-next-requires
-next-next-requires c = search laws
-
-pub key_of-requires : goal.key_of-requires
-key_of-requires c = search laws
-
-pub less-requires : goal.less-requires
-less-requires c = search laws
-
 pub returns : goal.returns
 returns c = search laws
+
+pub invariant_of-r : goal.invariant_of-r
+invariant_of-r c = record { lies = at_lies _ _ _ _ c.args.records.within c.requires.0 c.requires.1 }
+
+pub returns-then-records-i : goal.returns-then-records-i
+returns-then-records-i c = search laws
+
+pub invariant_of-next : goal.invariant_of-next
+invariant_of-next c = record { lies = search laws }

@@ -4,20 +4,14 @@ use Rattle.tree.proofs.undo.restore.Goals as goal
 
 ruleset laws = (rules, back_start, back_shadowed, back_next, back_end)
 
-pub loop-i-init : goal.loop-i-init
-loop-i-init c = search laws
+pub loop-n-init : goal.loop-n-init
+loop-n-init c = search laws
 
 pub bring_back-requires : goal.bring_back-requires
 bring_back-requires c = search laws
 
-pub overflow_add-i : goal.overflow_add-i
-overflow_add-i c = search laws
-
-pub loop-i-smaller : goal.loop-i-smaller
-loop-i-smaller c = search laws
-
-pub loop-i-preserved : goal.loop-i-preserved
-loop-i-preserved c = search laws
+pub loop-n-preserved : goal.loop-n-preserved
+loop-n-preserved c = search laws
 
 pub shape_of-heads : goal.shape_of-heads
 shape_of-heads c = search laws

@@ -16,3 +16,6 @@ offset_of-requires c = search laws
 
 pub returns : goal.returns
 returns c = search laws
+
+pub invariant_of-offset_of : goal.invariant_of-offset_of
+invariant_of-offset_of c = record { within = search laws }

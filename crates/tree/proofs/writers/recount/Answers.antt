@@ -7,9 +7,6 @@ ruleset laws = (rules, recount_words)
 pub load-h-requires : goal.load-h-requires
 load-h-requires c = search laws
 
-pub mark_of-mark-requires : goal.mark_of-mark-requires
-mark_of-mark-requires c = search laws
-
 pub store-requires : goal.store-requires
 store-requires c = search laws
 

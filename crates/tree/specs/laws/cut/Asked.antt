@@ -1,5 +1,6 @@
 -- Laws of what a cut asks first: the step above, room for nodes made, whether a slot fits. Assumes nothing.
-use Rattle.std.specs.Prelude.{◌≡◌, refl, List, [], Bool, true, length, get_or, eqb}
+use Rattle.std.specs.Prelude.{◌≡◌, refl, List, [], Bool, true, length, get_or, eqb, ⊤, Some, None, Ok, Err}
+use Rattle.std.specs.Prelude as std
 use Rattle.std.proofs.Math.Path.{sym}
 use Rattle.std.proofs.Common.{ap, ◌∙◌, arith}
 use Rattle.std.proofs.Math.Bool.{false}
@@ -11,14 +12,17 @@ use Rattle.node.specs.Result.{ok, refused}
 use Rattle.node.specs.Records.{records_length, entries_of}
 use Rattle.node.specs.Fit.{fits}
 use Rattle.node.specs.Slot.{head_at, node_of}
+use Rattle.node.specs.Refusals.{number_of}
 use Rattle.node.specs.declared.head.Head.{Head}
+use Rattle.node.specs.declared.refusal.Refusal.{Refusal}
+use Rattle.node.specs.declared.refusal.Refusal.TheVariants as is
 use Rattle.tree.specs.Lent.{lent_of}
 use Rattle.tree.specs.State.{node_at, with_info}
 use Rattle.tree.specs.Edit.{more_nodes, room_for}
 use Rattle.tree.specs.Workspace.{slot_bytes, state_of}
 use Rattle.tree.specs.internal.Bank.{node_in, live, Ready}
 use Rattle.tree.specs.internal.Edits.{step_at, above_of}
-use Rattle.tree.specs.internal.Cutting.{up_of, room_code, counted, stays_whole}
+use Rattle.tree.specs.internal.Cutting.{up_of, room_of, counted, stays_whole}
 use Rattle.tree.specs.laws.slots.Bank.{live_entries, live_same}
 use Rattle.tree.specs.laws.slots.OneSlot.{slot_long, slot_room, slot_used}
 use Rattle.tree.specs.laws.slots.Tree.{node_in_lem, used_nodes}
@@ -28,74 +32,80 @@ use Rattle.tree.specs.declared.lent.Lent.{Lent}
 -- ---- the step above
 
 module _ (way kids : List ℕ) (j : ℕ) where
-  pub above_none : j ≡ 0 → up_of (record { some = false; slot = 0; child = 0 }) ≡ above_of way kids j
+  pub above_none : j ≡ 0 → up_of None ≡ above_of way kids j
   unfolding up_of above_of
   above_none e = rw e
 
-  pub above_some : (j ≡ 0 → ⊥) → up_of (record { some = true; slot = get_or way (j - 1) 0; child = get_or kids (j - 1) 0 }) ≡ above_of way kids j
+  pub above_some : (j ≡ 0 → ⊥) → up_of (Some (record { slot = get_or way (j - 1) 0; child = get_or kids (j - 1) 0 })) ≡ above_of way kids j
   unfolding up_of above_of step_at
   above_some d = let z : j ≡ suc (j - 1) = omega (arith, d) in sym (ap (above_of way kids) z)
 
 -- ---- room for nodes made
 
 module _ (count used slots n : ℕ) (few : n ≤ 2) where
-  pub code_count : 18446744073709551615 - n < count → 17 ≡ room_code count used slots n
-  unfolding room_code
-  code_count h = let z : leb (count + n) (2 ^ 64 - 1) ≡ false = lt-leb (count + n) (2 ^ 64 - 1) (omega arith) in rw z
+  pub no_count : 18446744073709551615 - n < count → Err is.Count ≡ room_of count used slots n
+  unfolding room_of
+  no_count h = let z : leb (count + n) (2 ^ 64 - 1) ≡ false = lt-leb (count + n) (2 ^ 64 - 1) (omega arith) in rw z
 
   module _ (h : count ≤ 18446744073709551615 - n) where
     counts : leb (count + n) (2 ^ 64 - 1) ≡ true
     counts = le-leb (count + n) (2 ^ 64 - 1) (omega arith)
 
-    pub code_slots : slots < used + n → 11 ≡ room_code count used slots n
-    unfolding room_code
-    code_slots k = rw (counts, lt-leb (used + n) slots k)
+    pub no_slots : slots < used + n → Err is.NoSlot ≡ room_of count used slots n
+    unfolding room_of
+    no_slots k = rw (counts, lt-leb (used + n) slots k)
 
-    pub code_none : used + n ≤ slots → 0 ≡ room_code count used slots n
-    unfolding room_code
-    code_none k = rw (counts, le-leb (used + n) slots k)
+    pub has_room : used + n ≤ slots → Ok tt ≡ room_of count used slots n
+    unfolding room_of
+    has_room k = rw (counts, le-leb (used + n) slots k)
 
-module _ (count used slots n room : ℕ) (e : room ≡ room_code count used slots n) (z : room ≡ 0) where
+-- there is room
+module _ (count used slots n : ℕ) (u : ⊤) (e : Ok u ≡ room_of count used slots n) where
+  room_not : (x : Refusal) → room_of count used slots n ≡ Err x → ⊥
+  room_not x f = let z : ◌≡◌ {A = std.Result ⊤ Refusal} (Ok u) (Err x) = e ∙ f in cc
+
   pub room_count : count + n < 2 ^ 64
-  unfolding room_code
+  unfolding room_of
   room_count =
       by_test (leb (count + n) (2 ^ 64 - 1))
       (λ a. omega (arith, leb-true (count + n) (2 ^ 64 - 1) a))
-      (λ a. absurd (let y : 17 ≡ 0 = sym (e ∙ rw a) ∙ z in omega arith))
+      (λ a. absurd (room_not is.Count (rw a)))
 
   pub room_slots : used + n ≤ slots
-  unfolding room_code
+  unfolding room_of
   room_slots =
       by_test (leb (count + n) (2 ^ 64 - 1))
       (λ a. by_test (leb (used + n) slots)
       (λ b. leb-true (used + n) slots b)
-      (λ b. absurd (let y : 11 ≡ 0 = sym (e ∙ rw (a, b)) ∙ z in omega arith)))
-      (λ a. absurd (let y : 17 ≡ 0 = sym (e ∙ rw a) ∙ z in omega arith))
+      (λ b. absurd (room_not is.NoSlot (rw (a, b)))))
+      (λ a. absurd (room_not is.Count (rw a)))
 
 -- the numbers of a tree say the same of its state
-module _ (l : Lent) (t : Tree) (heads bytes : List ℕ) (n room : ℕ) (e : room ≡ room_code t.info.node_count t.used l.slots n) where
+module _ (l : Lent) (t : Tree) (heads bytes : List ℕ) (n : ℕ) where
   nodes : length (state_of l.size t heads bytes).nodes ≡ t.used
   nodes = used_nodes l.size t heads bytes
 
   -- no room
-  pub room_none : (room ≡ 0 → ⊥) → room_for (lent_of [] l) (state_of l.size t heads bytes) n ≡ refused room
-  unfolding room_for lent_of room_code state_of
-  room_none d =
+  pub room_none : (x : Refusal) → Err x ≡ room_of t.info.node_count t.used l.slots n
+      → room_for (lent_of [] l) (state_of l.size t heads bytes) n ≡ refused (number_of x)
+  unfolding room_for lent_of room_of state_of
+  room_none x e =
       by_test (leb (t.info.node_count + n) (2 ^ 64 - 1))
       (λ a. by_test (leb (t.used + n) l.slots)
-      (λ b. absurd (d (e ∙ rw (a, b))))
-      (λ b. rw (a, nodes, b) (ap refused (sym (e ∙ rw (a, b))))))
-      (λ a. rw a (ap refused (sym (e ∙ rw a))))
+      (λ b. absurd (let z : ◌≡◌ {A = std.Result ⊤ Refusal} (Err x) (Ok tt) = e ∙ rw (a, b) in cc))
+      (λ b. let z : ◌≡◌ {A = std.Result ⊤ Refusal} (Err x) (Err is.NoSlot) = e ∙ rw (a, b) in let y : x ≡ is.NoSlot = cc in rw (a, nodes, b, y)))
+      (λ a. let z : ◌≡◌ {A = std.Result ⊤ Refusal} (Err x) (Err is.Count) = e ∙ rw a in let y : x ≡ is.Count = cc in rw (a, y))
 
   -- room
-  pub room_found : room ≡ 0 → room_for (lent_of [] l) (state_of l.size t heads bytes) n ≡ ok tt
-  unfolding room_for lent_of room_code state_of
-  room_found z =
-      by_test (leb (t.info.node_count + n) (2 ^ 64 - 1))
-      (λ a. by_test (leb (t.used + n) l.slots)
-      (λ b. rw (a, nodes, b))
-      (λ b. absurd (let y : 11 ≡ 0 = sym (e ∙ rw (a, b)) ∙ z in omega arith)))
-      (λ a. absurd (let y : 17 ≡ 0 = sym (e ∙ rw a) ∙ z in omega arith))
+  pub room_found : (u : ⊤) → Ok u ≡ room_of t.info.node_count t.used l.slots n
+      → room_for (lent_of [] l) (state_of l.size t heads bytes) n ≡ ok tt
+  unfolding room_for lent_of state_of
+  room_found u e =
+      rw (
+        le-leb (t.info.node_count + n) (2 ^ 64 - 1) (omega (arith, room_count t.info.node_count t.used l.slots n u e)),
+        nodes,
+        le-leb (t.used + n) l.slots (room_slots t.info.node_count t.used l.slots n u e),
+      )
 
 pub counted_state : (size n : ℕ) (t : Tree) (heads bytes : List ℕ)
     → state_of size (counted t n) heads bytes ≡ more_nodes (state_of size t heads bytes) n

@@ -1,5 +1,5 @@
 -- Laws of a slot cut after so many entries: what both parts ask, its right part linked, a root grown above both. Assumes nothing.
-use Rattle.std.specs.Prelude.{◌≡◌, refl, List, [], ◌∷◌, Bool, false, not, ℕ, suc, ◌+◌, ◌-◌, ◌^◌, ◌≤◌, ◌<◌, take, drop}
+use Rattle.std.specs.Prelude.{◌≡◌, refl, List, [], ◌∷◌, Bool, false, not, ℕ, suc, ◌+◌, ◌-◌, ◌^◌, ◌≤◌, ◌<◌, take, drop, ⊤, Some, Ok, Err}
 use Rattle.std.proofs.Common.{sym, ◌∙◌, add-one, arith, length-take, length-drop}
 use Rattle.std.proofs.Math.Path.{ap, ap₂}
 use Rattle.std.proofs.Math.Bool.{true}
@@ -22,7 +22,7 @@ use Rattle.tree.specs.Answers.{edited_of}
 use Rattle.tree.specs.internal.Bank.{live, Ready}
 use Rattle.tree.specs.internal.Index.{Rewritten}
 use Rattle.tree.specs.internal.Edits.{ParentFits, CutFits}
-use Rattle.tree.specs.internal.Cutting.{step_of, up_of, room_code, counted, first_length, child_put, ChildFits, RootFits, CutIs}
+use Rattle.tree.specs.internal.Cutting.{step_of, up_of, room_of, counted, first_length, child_put, ChildFits, RootFits, CutIs}
 use Rattle.tree.specs.laws.state.Edit.{parted_left, parted_right, parted_other, parted_count}
 use Rattle.tree.specs.laws.room.Edit.{link_room, part_room}
 use Rattle.tree.specs.laws.room.Weight.{weight_key_at}
@@ -31,8 +31,9 @@ use Rattle.tree.specs.laws.load.Fetch.{count_is, count_few}
 use Rattle.tree.specs.laws.cut.Asked.{room_none, room_found, room_count, counted_state}
 use Rattle.tree.specs.declared.editor.Tree.{Tree}
 use Rattle.tree.specs.declared.lent.Lent.{Lent}
-use Rattle.tree.specs.declared.edited.Edited.TheVariants as editing
 use Rattle.tree.specs.declared.cuts.Up.{Up}
+use Rattle.node.specs.declared.refusal.Refusal.{Refusal}
+use Rattle.node.specs.declared.refusal.Refusal.TheVariants as is
 
 -- ---- the parts
 
@@ -139,7 +140,7 @@ module _ (l : Lent) (t : Tree) (heads bytes : List ℕ) (n place : ℕ) (b : Boo
   holds_is = ap (new_root_holds (parted (state_of l.size t heads bytes) n place) n) (used_nodes l.size t heads bytes) ∙ sym eb
 
   -- 15
-  pub top_not : not b ≡ true → edited_of l.size heads bytes (editing.Refused 15) ≡ cut_at (lent_of [] l) [] n place (state_of l.size t heads bytes)
+  pub top_not : not b ≡ true → edited_of l.size heads bytes (Err is.NewRoot) ≡ cut_at (lent_of [] l) [] n place (state_of l.size t heads bytes)
   unfolding edited_of cut_at
   top_not q = rw (holds_is, not-true b q)
 
@@ -157,45 +158,45 @@ module _ (l : Lent) (t : Tree) (heads bytes : List ℕ) (n place : ℕ) (b : Boo
         omega (arith, leb-true (suc (node_at (parted (state_of l.size t heads bytes) n place) n).level) 32 z)
 
     -- 17, 11
-    pub top_full : (room : ℕ) → room ≡ room_code t.info.node_count t.used l.slots 2 → (room ≡ 0 → ⊥)
-        → edited_of l.size heads bytes (editing.Refused room) ≡ cut_at (lent_of [] l) [] n place (state_of l.size t heads bytes)
+    pub top_full : (x : Refusal) → Err x ≡ room_of t.info.node_count t.used l.slots 2
+        → edited_of l.size heads bytes (Err x) ≡ cut_at (lent_of [] l) [] n place (state_of l.size t heads bytes)
     unfolding edited_of cut_at
-    top_full room e d = rw (holds_is, not-false b q, room_none l t heads bytes 2 room e d)
+    top_full x e = rw (holds_is, not-false b q, room_none l t heads bytes 2 x e)
 
-    module _ (room : ℕ) (e : room ≡ room_code t.info.node_count t.used l.slots 2) (z : room ≡ 0) where
+    module _ (u : ⊤) (e : Ok u ≡ room_of t.info.node_count t.used l.slots 2) where
       pub top_done : (t' v : Tree) (h1 b1 h2 b2 : List ℕ) (w : Tree) → state_of l.size t' h1 b1 ≡ parted (state_of l.size t heads bytes) n place
           → state_of l.size v h2 b2 ≡ grow_root (state_of l.size t' h1 b1) n t.used → w ≡ counted v 2
-          → edited_of l.size h2 b2 (editing.Done w) ≡ cut_at (lent_of [] l) [] n place (state_of l.size t heads bytes)
+          → edited_of l.size h2 b2 (Ok w) ≡ cut_at (lent_of [] l) [] n place (state_of l.size t heads bytes)
       unfolding edited_of cut_at
       top_done t' v h1 b1 h2 b2 w a g c =
-          rw (holds_is, not-false b q, room_found l t heads bytes 2 room e z)
+          rw (holds_is, not-false b q, room_found l t heads bytes 2 u e)
           (ap ok (ap (λ (x : Tree). state_of l.size x h2 b2) c ∙ counted_state l.size 2 v h2 b2
           ∙ ap (λ (x : State). more_nodes x 2) (g ∙ ap₂ (λ (x : State) (i : ℕ). grow_root x n i) a (sym (used_nodes l.size t heads bytes)))))
 
 -- the new root's tree has room in its node count
-pub top_count : (l : Lent) (t t' v : Tree) (heads bytes h1 b1 h2 b2 : List ℕ) (n place room : ℕ)
-    → room ≡ room_code t.info.node_count t.used l.slots 2 → room ≡ 0
+pub top_count : (l : Lent) (t t' v : Tree) (heads bytes h1 b1 h2 b2 : List ℕ) (n place : ℕ) (u : ⊤)
+    → Ok u ≡ room_of t.info.node_count t.used l.slots 2
     → state_of l.size t' h1 b1 ≡ parted (state_of l.size t heads bytes) n place
     → state_of l.size v h2 b2 ≡ grow_root (state_of l.size t' h1 b1) n t.used → v.info.node_count + 2 < 2 ^ 64
 unfolding state_of parted grow_root with_root add_node put_node with_nodes
-top_count l t t' v heads bytes h1 b1 h2 b2 n place room e z a g =
+top_count l t t' v heads bytes h1 b1 h2 b2 n place u e a g =
     let x : v.info.node_count ≡ t'.info.node_count = ap (λ (s : State). s.info.node_count) g in
     let y : t'.info.node_count ≡ t.info.node_count = ap (λ (s : State). s.info.node_count) a in
-    omega (arith, room_count t.info.node_count t.used l.slots 2 room e z)
+    omega (arith, room_count t.info.node_count t.used l.slots 2 u e)
 
 -- ---- a child cut
 
-up_is : (up : Up) → up.some ≡ true → up_of up ≡ step_of up ∷ []
+up_is : (up : Up) → up_of (Some up) ≡ step_of up ∷ []
 unfolding up_of
-up_is up e = rw e
+up_is up = refl
 
-module _ (l : Lent) (t : Tree) (heads bytes : List ℕ) (up : Up) (n place at : ℕ) (es : up.some ≡ true) where
+module _ (l : Lent) (t : Tree) (heads bytes : List ℕ) (up : Up) (n place at : ℕ) where
   -- its parent
-  pub child_parent : CutFits l.size (state_of l.size t heads bytes) (up_of up) n → CutIs l.size t heads bytes n place at
+  pub child_parent : CutFits l.size (state_of l.size t heads bytes) (up_of (Some up)) n → CutIs l.size t heads bytes n place at
       → ParentFits l.size (state_of l.size t heads bytes) (step_of up) n
-  child_parent f k = f.parent (step_of up) (up_is up es) k.alive
+  child_parent f k = f.parent (step_of up) (up_is up) k.alive
 
-  pub child_next : Ready l.size l.slots t.used heads bytes → CutFits l.size (state_of l.size t heads bytes) (up_of up) n
+  pub child_next : Ready l.size l.slots t.used heads bytes → CutFits l.size (state_of l.size t heads bytes) (up_of (Some up)) n
       → CutIs l.size t heads bytes n place at → up.child + 1 < 2 ^ 64
   child_next r f k =
       let p : ParentFits l.size (state_of l.size t heads bytes) (step_of up) n = child_parent f k in
@@ -207,24 +208,24 @@ module _ (l : Lent) (t : Tree) (heads bytes : List ℕ) (up : Up) (n place at : 
         count_few l.size t heads bytes up.slot h (live (head_at heads up.slot)) refl l.slots r,
       )
 
-  module _ (room : ℕ) (e : room ≡ room_code t.info.node_count t.used l.slots 1) where
-    -- 17, 11
-    pub child_full : (room ≡ 0 → ⊥)
-        → edited_of l.size heads bytes (editing.Refused room) ≡ cut_at (lent_of [] l) (up_of up) n place (state_of l.size t heads bytes)
-    unfolding edited_of cut_at
-    child_full d = rw (up_is up es, room_none l t heads bytes 1 room e d)
+  -- 17, 11
+  pub child_full : (x : Refusal) → Err x ≡ room_of t.info.node_count t.used l.slots 1
+      → edited_of l.size heads bytes (Err x) ≡ cut_at (lent_of [] l) (up_of (Some up)) n place (state_of l.size t heads bytes)
+  unfolding edited_of cut_at
+  child_full x e = rw (up_is up, room_none l t heads bytes 1 x e)
 
-    pub child_done : room ≡ 0 → (t' v : Tree) (h1 b1 h2 b2 : List ℕ) → state_of l.size t' h1 b1 ≡ parted (state_of l.size t heads bytes) n place
-        → Rewritten l.size l.slots t' h1 b1 h2 b2 (child_put (state_of l.size t' h1 b1) up.slot (up.child + 1) t.used)
-        → v ≡ counted t' 1
-        → edited_of l.size h2 b2 (editing.Done v) ≡ cut_at (lent_of [] l) (up_of up) n place (state_of l.size t heads bytes)
-    unfolding edited_of cut_at link_right
-    child_done z t' v h1 b1 h2 b2 a w c =
-        rw (up_is up es, room_found l t heads bytes 1 room e z)
-        (ap ok (ap (λ (x : Tree). state_of l.size x h2 b2) c ∙ counted_state l.size 1 t' h2 b2
-        ∙ ap (λ (x : State). more_nodes x 1) (w.state ∙ ap (λ (x : State). child_put x up.slot (up.child + 1) t.used) a
-        ∙ ap₂ (λ (i k : ℕ). child_put (parted (state_of l.size t heads bytes) n place) up.slot i k) (add-one up.child)
-        (sym (used_nodes l.size t heads bytes)))))
+  pub child_done : (u : ⊤) → Ok u ≡ room_of t.info.node_count t.used l.slots 1 → (t' v : Tree) (h1 b1 h2 b2 : List ℕ)
+      → state_of l.size t' h1 b1 ≡ parted (state_of l.size t heads bytes) n place
+      → Rewritten l.size l.slots t' h1 b1 h2 b2 (child_put (state_of l.size t' h1 b1) up.slot (up.child + 1) t.used)
+      → v ≡ counted t' 1
+      → edited_of l.size h2 b2 (Ok v) ≡ cut_at (lent_of [] l) (up_of (Some up)) n place (state_of l.size t heads bytes)
+  unfolding edited_of cut_at link_right
+  child_done u e t' v h1 b1 h2 b2 a w c =
+      rw (up_is up, room_found l t heads bytes 1 u e)
+      (ap ok (ap (λ (x : Tree). state_of l.size x h2 b2) c ∙ counted_state l.size 1 t' h2 b2
+      ∙ ap (λ (x : State). more_nodes x 1) (w.state ∙ ap (λ (x : State). child_put x up.slot (up.child + 1) t.used) a
+      ∙ ap₂ (λ (i k : ℕ). child_put (parted (state_of l.size t heads bytes) n place) up.slot i k) (add-one up.child)
+      (sym (used_nodes l.size t heads bytes)))))
 
 -- ---- what both leave
 

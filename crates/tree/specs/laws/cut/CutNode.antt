@@ -1,17 +1,18 @@
 -- Laws of a slot that is cut if it does not fit: 13, 14, or the place of the cut. Assumes nothing.
-use Rattle.std.specs.Prelude.{◌≡◌, List, [], Bool, true, false, ℕ, ◌^◌, ◌≤◌, ◌<◌, length}
-use Rattle.std.proofs.Math.Path.{sym, ap}
+use Rattle.std.specs.Prelude.{◌≡◌, List, [], Bool, true, false, ℕ, ◌^◌, ◌≤◌, ◌<◌, length, Option, Some, None, Ok, Err, IfOk}
+use Rattle.std.proofs.Math.Path.{sym, ap, subst}
 use Rattle.std.proofs.Common.{◌∙◌, arith}
+use Rattle.std.proofs.lemmas.Result.{IfOk-at_ok}
 use Rattle.node.specs.Records.{records_length, entries_of}
 use Rattle.node.specs.Fit.{Sized}
 use Rattle.node.specs.Cut.{cut, cut_means}
-use Rattle.node.specs.internal.CutSteps.{answer_place, answer_start}
+use Rattle.node.specs.declared.cut.CutAt.{CutAt}
 use Rattle.node.specs.Slot.{head_at}
 use Rattle.node.specs.declared.head.Head.{Head}
-use Rattle.node.specs.declared.cut.Answer.{Answer}
-use Rattle.node.specs.declared.cut.Answer.TheVariants.{TooLarge, Nowhere, After}
 use Rattle.tree.specs.Lent.{lent_of}
-use Rattle.tree.specs.State.{node_at}
+use Rattle.node.specs.Result.{Result}
+use Rattle.tree.specs.State.{State, node_at}
+use Rattle.tree.specs.Lookup.{Step}
 use Rattle.tree.specs.Edit.{cut_at, cut_node}
 use Rattle.tree.specs.Workspace.{slot_bytes, state_of}
 use Rattle.tree.specs.Answers.{edited_of}
@@ -22,12 +23,12 @@ use Rattle.tree.specs.laws.slots.Tree.{used_nodes}
 use Rattle.tree.specs.laws.cut.Asked.{unfit_alive, whole_room, whole_long, alive_node, alive_entries, alive_level}
 use Rattle.tree.specs.declared.editor.Tree.{Tree}
 use Rattle.tree.specs.declared.lent.Lent.{Lent}
-use Rattle.tree.specs.declared.edited.Edited.{Edited}
-use Rattle.tree.specs.declared.edited.Edited.TheVariants as editing
 use Rattle.tree.specs.declared.cuts.Up.{Up}
+use Rattle.std.specs.Prelude as std
+use Rattle.node.specs.declared.refusal.Refusal.{Refusal}
 
-module _ (l : Lent) (t : Tree) (heads bytes : List ℕ) (up : Up) (n : ℕ) (r : Ready l.size l.slots t.used heads bytes)
-    (f : CutFits l.size (state_of l.size t heads bytes) (up_of up) n) where
+module _ (l : Lent) (t : Tree) (heads bytes : List ℕ) (up : List Step) (n : ℕ) (r : Ready l.size l.slots t.used heads bytes)
+    (f : CutFits l.size (state_of l.size t heads bytes) up n) where
   pub node_used : n < t.used
   node_used = omega (arith, f.used, used_nodes l.size t heads bytes)
 
@@ -37,7 +38,7 @@ module _ (l : Lent) (t : Tree) (heads bytes : List ℕ) (up : Up) (n : ℕ) (r :
 
   module _ (b : Bool) (eb : b ≡ stays_whole (state_of l.size t heads bytes) n) where
     -- no cut
-    pub node_whole : b ≡ true → edited_of l.size heads bytes (editing.Done t) ≡ cut_node (lent_of [] l) (up_of up) n (state_of l.size t heads bytes)
+    pub node_whole : b ≡ true → edited_of l.size heads bytes (Ok t) ≡ cut_node (lent_of [] l) up n (state_of l.size t heads bytes)
     unfolding edited_of cut_node
     node_whole q = rw (← eb, q)
 
@@ -51,7 +52,7 @@ module _ (l : Lent) (t : Tree) (heads bytes : List ℕ) (up : Up) (n : ℕ) (r :
       pub node_long : length p ≤ 2 ^ 20
       node_long = whole_long l.size l.slots n t heads bytes r node_used h eh lives p ep
 
-      module _ (x : Answer) (ex : cut_means x ≡ cut t.info h.level (entries_of h.count p)) where
+      module _ (x : std.Result CutAt Refusal) (ex : cut_means x ≡ cut t.info h.level (entries_of h.count p)) where
         cut_is : cut t.info (node_at (state_of l.size t heads bytes) n).level (node_at (state_of l.size t heads bytes) n).entries ≡ cut_means x
         cut_is =
             rw (
@@ -59,44 +60,45 @@ module _ (l : Lent) (t : Tree) (heads bytes : List ℕ) (up : Up) (n : ℕ) (r :
               alive_entries l.size l.slots n t heads bytes r node_used h eh lives p ep,
             ) (sym ex)
 
-        -- 13
-        pub node_single : x ≡ TooLarge
-            → edited_of l.size heads bytes (editing.Refused 13) ≡ cut_node (lent_of [] l) (up_of up) n (state_of l.size t heads bytes)
+        -- 13, 14
+        pub node_uncut : (y : Refusal) → x ≡ Err y
+            → edited_of l.size heads bytes (Err y) ≡ cut_node (lent_of [] l) up n (state_of l.size t heads bytes)
         unfolding edited_of cut_node cut_means state_of
-        node_single e = rw (← eb, q, cut_is, e)
+        node_uncut y e = rw (← eb, q, cut_is, e)
 
-        -- 14
-        pub node_nowhere : x ≡ Nowhere
-            → edited_of l.size heads bytes (editing.Refused 14) ≡ cut_node (lent_of [] l) (up_of up) n (state_of l.size t heads bytes)
-        unfolding edited_of cut_node cut_means state_of
-        node_nowhere e = rw (← eb, q, cut_is, e)
-
-        module _ (place at : ℕ) (e : x ≡ After place at) where
-          pub node_cut : answer_start x ≡ records_length (answer_place x) p → CutIs l.size t heads bytes n place at
-          unfolding cut_means answer_start answer_place
+        module _ (c : CutAt) (e : x ≡ Ok c) where
+          pub node_cut : IfOk x (λ c. c.at ≡ records_length c.place p) → CutIs l.size t heads bytes n c.place c.at
+          unfolding cut_means
           node_cut s =
               record {
                 alive = alive_node l.size l.slots n t heads bytes r node_used h eh lives p ep;
                 found = cut_is ∙ ap cut_means e;
-                start = sym (ap answer_start e) ∙ s ∙ ap (λ (y : Answer). records_length (answer_place y) p) e ∙ ap (records_length place) ep;
+                start = IfOk-at_ok (λ (c : CutAt). c.at ≡ records_length c.place p) e s ∙ ap (records_length c.place) ep;
               }
 
-          pub node_after : (h1 b1 : List ℕ) (y : Edited)
-              → edited_of l.size h1 b1 y ≡ cut_at (lent_of [] l) (up_of up) n place (state_of l.size t heads bytes)
-              → edited_of l.size h1 b1 y ≡ cut_node (lent_of [] l) (up_of up) n (state_of l.size t heads bytes)
+          pub node_after : (h1 b1 : List ℕ) (y : std.Result Tree Refusal)
+              → edited_of l.size h1 b1 y ≡ cut_at (lent_of [] l) up n c.place (state_of l.size t heads bytes)
+              → edited_of l.size h1 b1 y ≡ cut_node (lent_of [] l) up n (state_of l.size t heads bytes)
           unfolding cut_node cut_means state_of
           node_after h1 b1 y a = a ∙ sym (rw (← eb, q, cut_is, e))
 
-  -- at the root
-  module _ (z : up.some ≡ false) where
-    none_above : up_of up ≡ []
-    unfolding up_of
-    none_above = rw z
+-- ---- the step above, if there is one
 
-    pub top_fits : CutFits l.size (state_of l.size t heads bytes) [] n
-    top_fits = rw (← none_above) f
+module _ (l : Lent) (s : State) (n : ℕ) (o : Option Up) where
+  none_above : o ≡ None → up_of o ≡ []
+  unfolding up_of
+  none_above e = rw e
 
-    pub top_answer : (place : ℕ) (h1 b1 : List ℕ) (y : Edited)
-        → edited_of l.size h1 b1 y ≡ cut_at (lent_of [] l) [] n place (state_of l.size t heads bytes)
-        → edited_of l.size h1 b1 y ≡ cut_at (lent_of [] l) (up_of up) n place (state_of l.size t heads bytes)
-    top_answer place h1 b1 y a = rw none_above a
+  pub top_fits : o ≡ None → CutFits l.size s (up_of o) n → CutFits l.size s [] n
+  top_fits e f = subst (λ (x : List Step). CutFits l.size s x n) (none_above e) f
+
+  pub child_fits : (up : Up) → o ≡ Some up → CutFits l.size s (up_of o) n → CutFits l.size s (up_of (Some up)) n
+  child_fits up e f = rw e at f
+
+  module _ (place : ℕ) (r : Result State) where
+    pub top_answer : o ≡ None → r ≡ cut_at (lent_of [] l) [] n place s → r ≡ cut_at (lent_of [] l) (up_of o) n place s
+    top_answer e a = a ∙ ap (λ (x : List Step). cut_at (lent_of [] l) x n place s) (sym (none_above e))
+
+    pub child_answer : (up : Up) → o ≡ Some up → r ≡ cut_at (lent_of [] l) (up_of (Some up)) n place s
+        → r ≡ cut_at (lent_of [] l) (up_of o) n place s
+    child_answer up e a = rw e a

@@ -5,7 +5,6 @@ use Rattle.std.proofs.Common.{◌∙◌}
 use mathlib.Core.List.{List, [], ◌∷◌}
 use Prim.Native.Nat.{ℕ, zero, suc, ◌-◌, ◌≤◌, ◌<◌}
 use native.Mathlib.Omega.{arith}
-use Rattle.node.specs.laws.base.Tests.{by_test}
 use Rattle.node.specs.laws.base.Results.{Holds}
 use Rattle.node.specs.Result.{Result, ok, refused, ◌>>=◌}
 use Rattle.tree.specs.Lent as lent
@@ -27,9 +26,11 @@ use Rattle.tree.specs.laws.slots.Undo.{follows_same, follows_on}
 use Rattle.tree.specs.laws.slots.Tree.{used_nodes}
 use Rattle.tree.specs.declared.editor.Tree.{Tree}
 use Rattle.tree.specs.declared.lent.Lent.{Lent}
-use Rattle.tree.specs.declared.edited.Edited.{Edited}
-use Rattle.tree.specs.declared.edited.Edited.TheVariants as editing
 use Rattle.tree.specs.declared.cuts.Up.{Up}
+use Rattle.std.specs.Prelude as std
+use Rattle.std.specs.Prelude.{Option, Some, None, Ok, Err}
+use Rattle.node.specs.Refusals.{number_of}
+use Rattle.node.specs.declared.refusal.Refusal.{Refusal}
 
 -- ---- a cut takes no slot away
 
@@ -45,17 +46,17 @@ grow_count : (s : State) (n r : ℕ) → length (grow_root s n r).nodes ≡ suc 
 unfolding grow_root with_root
 grow_count s n r = add_count _ _ ∙ ap suc (put_count s n _)
 
-longer : (l : lent.Lent) (up : Up) (n : ℕ) (s : State) → n < length s.nodes
+longer : (l : lent.Lent) (up : Option Up) (n : ℕ) (s : State) → n < length s.nodes
     → Holds (λ (u : State). length s.nodes ≤ length u.nodes) (cut_node l (up_of up) n s)
 unfolding up_of
-longer l up n s h =
-    by_test up.some
-    (λ z. rw z (by_cut (λ (u : State). length s.nodes ≤ length u.nodes) l (step_of up) n s (λ t. omega arith)
+longer l (Some up) n s h =
+    by_cut (λ (u : State). length s.nodes ≤ length u.nodes) l (step_of up) n s (λ t. omega arith)
     (λ c live ps room. let x : State = link_right (parted s n c) up.slot up.child (length s.nodes) in
-    omega (arith, more_count x 1, link_count (parted s n c) up.slot up.child (length s.nodes), parted_count s n c h))))
-    (λ z. rw z (by_top (λ (u : State). length s.nodes ≤ length u.nodes) l n s (λ t. omega arith)
+    omega (arith, more_count x 1, link_count (parted s n c) up.slot up.child (length s.nodes), parted_count s n c h))
+longer l None n s h =
+    by_top (λ (u : State). length s.nodes ≤ length u.nodes) l n s (λ t. omega arith)
     (λ c live ps holds room. let x : State = grow_root (parted s n c) n (length s.nodes) in
-    omega (arith, more_count x 2, grow_count (parted s n c) n (length s.nodes), parted_count s n c h))))
+    omega (arith, more_count x 2, grow_count (parted s n c) n (length s.nodes), parted_count s n c h))
 
 -- ---- the definition, from step j on
 
@@ -88,7 +89,7 @@ module _ (l : Lent) (t : Tree) (way kids : List ℕ) (steps : ℕ) (h0 b0 : List
       record { state = rw z; more = omega arith; ready = r; follows = follows_same l.size l.slots t.used h0 b0 }
 
   module _ (j : ℕ) (u : Tree) (h b : List ℕ) (d : CutFrom l t way kids steps j h0 b0 u h b) where
-    pub from_all : j ≤ 0 → edited_of l.size h b (editing.Done u) ≡ cuts (lent_of [] l) [] (steps_from way kids 0 steps) (state_of l.size t h0 b0)
+    pub from_all : j ≤ 0 → edited_of l.size h b (Ok u) ≡ cuts (lent_of [] l) [] (steps_from way kids 0 steps) (state_of l.size t h0 b0)
     unfolding edited_of above_of
     from_all q =
         let z : j ≡ 0 = omega arith in
@@ -106,13 +107,13 @@ module _ (l : Lent) (t : Tree) (way kids : List ℕ) (steps : ℕ) (h0 b0 : List
       unfolding above_of
       below = ap (λ (i : ℕ). cuts (lent_of [] l) (above_of way kids i) (steps_from way kids i (steps - i)) s) again ∙ d.state
 
-      module _ (up : Up) (eu : up_of up ≡ above_of way kids (j - 1)) where
+      module _ (up : Option Up) (eu : up_of up ≡ above_of way kids (j - 1)) where
         pub from_fits : CutsFit (lent_of [] l) (state_of l.size t h0 b0) way kids steps
             → CutFits l.size (state_of l.size u h b) (up_of up) (get_or way (j - 1) 0)
         unfolding lent_of
         from_fits f = rw eu (f.turn (j - 1) (omega arith) (state_of l.size u h b) below)
 
-        module _ (h' b' : List ℕ) (y : Edited)
+        module _ (h' b' : List ℕ) (y : std.Result Tree Refusal)
             (ey : edited_of l.size h' b' y ≡ cut_node (lent_of [] l) (up_of up) (get_or way (j - 1) 0) (state_of l.size u h b)) where
           next : cuts (lent_of [] l) (above_of way kids (j - 1)) (steps_from way kids (j - 1) (steps - (j - 1))) (state_of l.size t h0 b0)
               ≡ edited_of l.size h' b' y
@@ -121,15 +122,16 @@ module _ (l : Lent) (t : Tree) (way kids : List ℕ) (steps : ℕ) (h0 b0 : List
               ∙ ap (λ (r : Result State). r >>= cut_node (lent_of [] l) (above_of way kids (j - 1)) (get_or way (j - 1) 0)) below
               ∙ ap (λ (x : List Step). cut_node (lent_of [] l) x (get_or way (j - 1) 0) (state_of l.size u h b)) (sym eu) ∙ sym ey
 
-          pub from_refused : (x : ℕ) → y ≡ editing.Refused x
-              → edited_of l.size h' b' (editing.Refused x) ≡ cuts (lent_of [] l) [] (steps_from way kids 0 steps) (state_of l.size t h0 b0)
+          pub from_refused : (x : Refusal) → y ≡ Err x
+              → edited_of l.size h' b' (Err x) ≡ cuts (lent_of [] l) [] (steps_from way kids 0 steps) (state_of l.size t h0 b0)
           unfolding edited_of
-          from_refused x e = sym (cuts_refused (lent_of [] l) way kids steps s (j - 1) x (omega arith) (next ∙ ap (edited_of l.size h' b') e))
+          from_refused x e = sym (cuts_refused (lent_of [] l) way kids steps s (j - 1) (number_of x) (omega arith)
+              (next ∙ ap (edited_of l.size h' b') e))
 
           pub from_behind : Follows l.size l.slots u.used h b h' b' → Follows l.size l.slots t.used h0 b0 h' b'
           from_behind g = follows_on l.size l.slots t.used u.used h0 b0 h b h' b' d.follows g d.more
 
-          pub from_next : (v : Tree) → y ≡ editing.Done v → CutsFit (lent_of [] l) (state_of l.size t h0 b0) way kids steps
+          pub from_next : (v : Tree) → y ≡ Ok v → CutsFit (lent_of [] l) (state_of l.size t h0 b0) way kids steps
               → ReadyEdited l.size l.slots h' b' y → Follows l.size l.slots u.used h b h' b'
               → CutFrom l t way kids steps (j - 1) h0 b0 v h' b'
           unfolding edited_of

@@ -21,7 +21,7 @@ use Rattle.tree.specs.Workspace.{slot_bytes, nodes_of, state_of}
 use Rattle.tree.specs.State.{with_nodes, node_at, put_node, add_node, changed, made}
 use Rattle.tree.specs.Edit.{parted}
 use Rattle.tree.specs.internal.Bank.{node_in, live, Lies, Ready, Wrote, number_holds, words_hold}
-use Rattle.tree.specs.laws.slots.Bank.{slots_below, live_entries, live_again, part_same, part_other, length_nodes, put_set, put_add, put_ready, add_ready, live_words, dirty_words}
+use Rattle.tree.specs.laws.slots.Bank.{live_entries, live_again, part_same, part_other, length_nodes, put_set, put_add, put_ready, add_ready, live_words, dirty_words}
 use Rattle.tree.specs.laws.slots.OneSlot.{ready_part, part_long, next_part, next_words, word_after, inner}
 use Rattle.tree.specs.internal.Undo.{saved_at, Follows}
 use Rattle.tree.specs.laws.slots.Undo.{put_of, wrote_mark, follows_on, follows_next, follows_marked}
@@ -81,9 +81,6 @@ module _ (size slots n i at : ℕ) (t : Tree) (h : Head) (heads bytes : List ℕ
 
   pub part_target : t.used * (4 * size) + (h.used - at) ≤ length bytes
   part_target = omega (arith, used_small, next_part size slots t.used heads bytes r hs)
-
-  pub part_order : n * (4 * size) + at ≤ t.used * (4 * size)
-  part_order = omega (arith, at_below, used_small, slots_below (4 * size) n t.used hn)
 
 module _ (size slots n i at rest : ℕ) (t t' : Tree) (h : Head) (heads h1 h2 bytes b1 : List ℕ)
     (r : Ready size slots t.used heads bytes) (hs : t.used < slots) (hn : n < t.used) (eh : h ≡ live (head_at heads n))

@@ -1,13 +1,13 @@
 -- Laws of a child read and brought. Assumes nothing.
 use Rattle.std.proofs.Math.Path.{◌≡◌, refl, sym, ap}
 use Rattle.std.proofs.Common.{◌∙◌}
-use Rattle.std.specs.Prelude.{List, [], Bool, not, eqb}
+use Rattle.std.specs.Prelude.{List, [], Bool, eqb}
 use Rattle.std.proofs.Math.Bool.{true, false}
 use Prim.Native.Nat.{ℕ, suc, ◌+◌, ◌*◌, ◌/◌, ◌^◌, ◌≤◌, ◌<◌}
 use native.Mathlib.Omega.{arith}
 use Rattle.std.proofs.Math.ListN.{length}
 use Rattle.std.proofs.Math.Dec.{ltb}
-use borrow.Author.Tests.{le-ltb, lt-ltb, not-true, not-false}
+use borrow.Author.Tests.{le-ltb, lt-ltb}
 use Rattle.node.specs.Bytes.{window}
 use Rattle.node.specs.Result.{Result, ok, ◌>>=◌}
 use Rattle.node.specs.laws.base.Tests.{never}
@@ -23,8 +23,6 @@ use Rattle.node.specs.Slot.{head_at, node_of, is_child}
 use Rattle.node.specs.declared.head.Head.{Head}
 use Rattle.node.specs.declared.read.Node.{Node}
 use Rattle.node.specs.declared.read.Place.{Place}
-use Rattle.node.specs.declared.read.Read.{Read}
-use Rattle.node.specs.declared.read.Read.TheVariants as read
 use Rattle.tree.specs.Lent as lent
 use Rattle.tree.specs.Lent.{lent_of}
 use Rattle.tree.specs.Workspace.{slot_bytes, state_of}
@@ -43,12 +41,13 @@ use Rattle.tree.specs.laws.slots.Tree.{node_in_lem, node_out, used_nodes}
 use Rattle.tree.specs.declared.editor.Tree.{Tree}
 use Rattle.tree.specs.declared.editor.Bound.{Bound}
 use Rattle.tree.specs.declared.editor.Bounds.{Bounds}
-use Rattle.tree.specs.declared.editor.ChildAt.{ChildAt}
-use Rattle.tree.specs.declared.editor.ChildAt.TheVariants as child
-use Rattle.tree.specs.declared.editor.Loaded.TheVariants as loaded
 use Rattle.tree.specs.declared.lent.Lent.{Lent}
-use Rattle.tree.specs.declared.map.Address.{Address}
-use Rattle.tree.specs.declared.map.Address.TheVariants as address
+use Rattle.std.specs.Prelude as std
+use Rattle.node.specs.declared.val.Child.{Child}
+use Rattle.std.specs.Prelude.{Ok, Err, Some, None, Option, is_some}
+use Rattle.node.specs.declared.refusal.Refusal.{Refusal}
+use Rattle.node.specs.declared.refusal.Refusal.TheVariants as is
+use Rattle.node.specs.declared.val.Child.TheVariants as child
 
 -- ---- a slot's count and level
 
@@ -79,59 +78,54 @@ module _ (size : ℕ) (t : Tree) (heads bytes : List ℕ) where
 
 -- ---- bounds
 
-module _ (s : State) (b : Bound) where
-  pub bound_none : not b.some ≡ true → [] ≡ bound_key (bound_of s b)
+module _ (s : State) (b : Option Bound) where
+  pub bound_none : b ≡ None → [] ≡ bound_key (bound_of s b)
   unfolding bound_key bound_of
-  bound_none h = rw (not-true b.some h)
+  bound_none h = rw h
 
-  pub bound_some : (k : List ℕ) → not b.some ≡ false → k ≡ key_at (node_at s b.slot).entries b.index → k ≡ bound_key (bound_of s b)
+  pub bound_some : (x : Bound) (k : List ℕ) → b ≡ Some x → k ≡ key_at (node_at s x.slot).entries x.index → k ≡ bound_key (bound_of s b)
   unfolding bound_key bound_of
-  bound_some k h e = rw (not-false b.some h) e
+  bound_some x k h e = rw h e
 
   module _ (o n i : ℕ) where
-    pub tighter_first : not b.some ≡ true → bound_of s (record { some = true; slot = n; index = i }) ≡ tighter_lower o (bound_of s b)
-        (key_at (node_at s n).entries i)
+    pub tighter_first : b ≡ None → bound_of s (Some (record { slot = n; index = i }))
+        ≡ tighter_lower o (bound_of s b) (key_at (node_at s n).entries i)
     unfolding bound_of tighter_lower
-    tighter_first h = rw (not-true b.some h)
+    tighter_first h = rw h
 
-    module _ (old key : List ℕ) (t : Bool) (h : not b.some ≡ false) (eo : old ≡ key_at (node_at s b.slot).entries b.index)
-        (ek : key ≡ key_at (node_at s n).entries i) (et : t ≡ less o old key) where
-      pub tighter_new : t ≡ true → bound_of s (record { some = true; slot = n; index = i }) ≡ tighter_lower o (bound_of s b)
-          (key_at (node_at s n).entries i)
-      unfolding bound_of tighter_lower
-      tighter_new q =
-          let z : less o (key_at (node_at s b.slot).entries b.index) (key_at (node_at s n).entries i) ≡ true = rw (← eo, ← ek) (sym et ∙ q) in
-          rw (not-false b.some h, z)
-
-      pub tighter_old : t ≡ false → bound_of s b ≡ tighter_lower o (bound_of s b) (key_at (node_at s n).entries i)
-      unfolding bound_of tighter_lower
-      tighter_old q =
-          let z : less o (key_at (node_at s b.slot).entries b.index) (key_at (node_at s n).entries i) ≡ false = rw (← eo, ← ek) (sym et ∙ q) in
-          rw (not-false b.some h, z)
-
-module _ (s : State) (b : Bound) where
-  module _ (o n i : ℕ) where
-    pub upper_first : not b.some ≡ true → bound_of s (record { some = true; slot = n; index = i }) ≡ tighter_upper o (bound_of s b)
-        (key_at (node_at s n).entries i)
+    pub upper_first : b ≡ None → bound_of s (Some (record { slot = n; index = i })) ≡ tighter_upper o (bound_of s b) (key_at (node_at s n).entries i)
     unfolding bound_of tighter_upper
-    upper_first h = rw (not-true b.some h)
+    upper_first h = rw h
 
-    module _ (old key : List ℕ) (t : Bool) (h : not b.some ≡ false) (eo : old ≡ key_at (node_at s b.slot).entries b.index)
-        (ek : key ≡ key_at (node_at s n).entries i) (et : t ≡ less o key old) where
-      pub upper_new : t ≡ true → bound_of s (record { some = true; slot = n; index = i }) ≡ tighter_upper o (bound_of s b)
+    module _ (x : Bound) (h : b ≡ Some x) (old key : List ℕ) (t : Bool) (eo : old ≡ key_at (node_at s x.slot).entries x.index)
+        (ek : key ≡ key_at (node_at s n).entries i) where
+      pub tighter_new : t ≡ less o old key → t ≡ true → bound_of s (Some (record { slot = n; index = i })) ≡ tighter_lower o (bound_of s b)
+          (key_at (node_at s n).entries i)
+      unfolding bound_of tighter_lower
+      tighter_new et q =
+          let z : less o (key_at (node_at s x.slot).entries x.index) (key_at (node_at s n).entries i) ≡ true = rw (← eo, ← ek) (sym et ∙ q) in
+          rw (h, z)
+
+      pub tighter_old : t ≡ less o old key → t ≡ false → bound_of s b ≡ tighter_lower o (bound_of s b) (key_at (node_at s n).entries i)
+      unfolding bound_of tighter_lower
+      tighter_old et q =
+          let z : less o (key_at (node_at s x.slot).entries x.index) (key_at (node_at s n).entries i) ≡ false = rw (← eo, ← ek) (sym et ∙ q) in
+          rw (h, z)
+
+      pub upper_new : t ≡ less o key old → t ≡ true → bound_of s (Some (record { slot = n; index = i })) ≡ tighter_upper o (bound_of s b)
           (key_at (node_at s n).entries i)
       unfolding bound_of tighter_upper
-      upper_new q =
-          let z : less o (key_at (node_at s n).entries i) (key_at (node_at s b.slot).entries b.index) ≡ true = rw (← eo, ← ek) (sym et ∙ q) in
-          rw (not-false b.some h, z)
+      upper_new et q =
+          let z : less o (key_at (node_at s n).entries i) (key_at (node_at s x.slot).entries x.index) ≡ true = rw (← eo, ← ek) (sym et ∙ q) in
+          rw (h, z)
 
-      pub upper_old : t ≡ false → bound_of s b ≡ tighter_upper o (bound_of s b) (key_at (node_at s n).entries i)
+      pub upper_old : t ≡ less o key old → t ≡ false → bound_of s b ≡ tighter_upper o (bound_of s b) (key_at (node_at s n).entries i)
       unfolding bound_of tighter_upper
-      upper_old q =
-          let z : less o (key_at (node_at s n).entries i) (key_at (node_at s b.slot).entries b.index) ≡ false = rw (← eo, ← ek) (sym et ∙ q) in
-          rw (not-false b.some h, z)
+      upper_old et q =
+          let z : less o (key_at (node_at s n).entries i) (key_at (node_at s x.slot).entries x.index) ≡ false = rw (← eo, ← ek) (sym et ∙ q) in
+          rw (h, z)
 
-module _ (s : State) (b : Bounds) (o n i count : ℕ) (lower : Bound) (ec : count ≡ length (node_at s n).entries)
+module _ (s : State) (b : Bounds) (o n i count : ℕ) (lower : Option Bound) (ec : count ≡ length (node_at s n).entries)
     (el : bound_of s lower ≡ tighter_lower o (bound_of s b.lower) (key_at (node_at s n).entries i)) where
   pub bounds_past : count ≤ i → bounds_of s (record { lower = lower; upper = b.upper }) ≡ child_bounds o (bounds_of s b) (node_at s n).entries i
   unfolding bounds_of child_bounds
@@ -141,7 +135,8 @@ module _ (s : State) (b : Bounds) (o n i count : ℕ) (lower : Bound) (ec : coun
   unfolding bounds_of child_bounds
   bounds_last h = rw (el, le-ltb (suc i) (length (node_at s n).entries) (omega arith))
 
-  pub bounds_inner : (upper : Bound) → i + 1 < count → bound_of s upper ≡ tighter_upper o (bound_of s b.upper) (key_at (node_at s n).entries (i + 1))
+  pub bounds_inner : (upper : Option Bound) → i + 1 < count → bound_of s upper
+      ≡ tighter_upper o (bound_of s b.upper) (key_at (node_at s n).entries (i + 1))
       → bounds_of s (record { lower = lower; upper = upper }) ≡ child_bounds o (bounds_of s b) (node_at s n).entries i
   unfolding bounds_of child_bounds
   bounds_inner upper h eu =
@@ -150,24 +145,25 @@ module _ (s : State) (b : Bounds) (o n i count : ℕ) (lower : Bound) (ec : coun
 
 -- ---- a block read
 
-bounded_is : (s : State) (b : Bound) (t : Bool) → b.some ≡ t → t ≡ eqb (length (bound_of s b)) 1
+bounded_is : (s : State) (b : Option Bound) → is_some b ≡ eqb (length (bound_of s b)) 1
 unfolding bound_of
-bounded_is s b true e = rw e
-bounded_is s b false e = rw e
+bounded_is s None = refl
+bounded_is s (Some x) = refl
 
 abbrev placed : State → ℕ → ℕ → Bool → Place
 placed s r level z = record { root = false; oid = r; parent = level; ksize = s.info.key_size; vsize = s.info.val_size; bounded = z }
 
-pub place_is : (s : State) (b : Bounds) (r level : ℕ)
-    → record { root = false; oid = r; parent = level; ksize = s.info.key_size; vsize = s.info.val_size; bounded = b.upper.some }
+pub place_is : (s : State) (b : Bounds) (r level : ℕ) (bounded : Bool) → bounded ≡ is_some b.upper
+    → record { root = false; oid = r; parent = level; ksize = s.info.key_size; vsize = s.info.val_size; bounded = bounded }
     ≡ child_place s.info.key_size s.info.val_size (bounds_of s b) level r
 unfolding child_place bounds_of
-place_is s b r level = ap (placed s r level) (bounded_is s b.upper b.upper.some refl)
+place_is s b r level bounded e = ap (placed s r level) (e ∙ bounded_is s b.upper)
 
-module _ (image : List ℕ) (l : Lent) (t : Tree) (heads bytes : List ℕ) (b : Bounds) (n r a level : ℕ) (x : Read) (lo up : List ℕ)
+module _ (image : List ℕ) (l : Lent) (t : Tree) (heads bytes : List ℕ) (b : Bounds) (n r a level : ℕ) (bounded : Bool) (x : std.Result Node Refusal)
+    (lo up : List ℕ)
     (ev : level ≡ (node_at (state_of l.size t heads bytes) n).level)
     (el : lo ≡ bound_key (bound_of (state_of l.size t heads bytes) b.lower))
-    (eu : up ≡ bound_key (bound_of (state_of l.size t heads bytes) b.upper))
+    (eu : up ≡ bound_key (bound_of (state_of l.size t heads bytes) b.upper)) (eo : bounded ≡ is_some b.upper)
     (e : read_of (lent.block_at (lent_of image l) a) x ≡ load_at (lent_of image l) t.order
     (record {
       root = false;
@@ -175,18 +171,18 @@ module _ (image : List ℕ) (l : Lent) (t : Tree) (heads bytes : List ℕ) (b : 
       parent = level;
       ksize = t.info.key_size;
       vsize = t.info.val_size;
-      bounded = b.upper.some;
+      bounded = bounded;
     }) lo up a) where
   pub read_child_lem : read_of (lent.block_at (lent_of image l) a) x ≡ read_child (lent_of image l) (state_of l.size t heads bytes)
       (bounds_of (state_of l.size t heads bytes) b) n r a
   unfolding read_child load_block load_at bounds_of state_of
   read_child_lem =
       rw (← ev, ← el, ← eu) (e ∙ ap (λ (p : Place). load_at (lent_of image l) t.order p lo up a)
-      (place_is (state_of l.size t heads bytes) b r level))
+      (place_is (state_of l.size t heads bytes) b r level bounded eo))
 
 -- ---- a child that is on disk
 
-by_child : (v : Val) (r : ℕ) → child_of v ≡ child.Disk r → v ≡ disk r
+by_child : (v : Val) (r : ℕ) → child_of v ≡ Some (child.Disk r) → v ≡ disk r
 unfolding child_of
 by_child ghost r e = let z : ◌≡◌ {A = ℕ} 0 1 = cc in absurd (omega arith)
 by_child (leaf v) r e = let z : ◌≡◌ {A = ℕ} 0 1 = cc in absurd (omega arith)
@@ -197,7 +193,7 @@ disk_some : (r : ℕ) → disk r ≡ ghost → ⊥
 disk_some r e = let z : ◌≡◌ {A = ℕ} 0 1 = cc in omega arith
 
 module _ (size : ℕ) (t : Tree) (heads bytes : List ℕ) (n i r : ℕ)
-    (e : child_of (val_at (node_at (state_of size t heads bytes) n).entries i) ≡ child.Disk r) where
+    (e : child_of (val_at (node_at (state_of size t heads bytes) n).entries i) ≡ Some (child.Disk r)) where
   is_disk_lem : val_at (node_at (state_of size t heads bytes) n).entries i ≡ disk r
   is_disk_lem = by_child (val_at (node_at (state_of size t heads bytes) n).entries i) r e
 
@@ -217,7 +213,7 @@ module _ (size : ℕ) (t : Tree) (heads bytes : List ℕ) (n i r : ℕ)
 
 -- ---- read, then brought
 
-module _ (image : List ℕ) (l : Lent) (t : Tree) (heads bytes : List ℕ) (b : Bounds) (n i r a : ℕ) (x : Read)
+module _ (image : List ℕ) (l : Lent) (t : Tree) (heads bytes : List ℕ) (b : Bounds) (n i r a : ℕ) (x : std.Result Node Refusal)
     (e : read_of (lent.block_at (lent_of image l) a) x ≡ read_child (lent_of image l) (state_of l.size t heads bytes)
     (bounds_of (state_of l.size t heads bytes) b) n r a) where
   abbrev s : State
@@ -230,12 +226,12 @@ module _ (image : List ℕ) (l : Lent) (t : Tree) (heads bytes : List ℕ) (b : 
   unfolding fetched_at
   fetched_is = ap (λ (y : Result OnDisk). y >>= λ d. ok (brought s n i d a)) (sym e)
 
-  pub fetch_refused : (k : ℕ) → x ≡ read.Refused k → loaded_of l.size heads bytes (loaded.Refused k) ≡ fetched_at (lent_of image l)
+  pub fetch_refused : (k : Refusal) → x ≡ Err k → loaded_of l.size heads bytes (Err k) ≡ fetched_at (lent_of image l)
       (state_of l.size t heads bytes) (bounds_of (state_of l.size t heads bytes) b) n i r a
   unfolding loaded_of read_of
   fetch_refused k ex = sym (fetched_is ∙ rw ex)
 
-  module _ (v : Node) (ex : x ≡ read.Loaded v) where
+  module _ (v : Node) (ex : x ≡ Ok v) where
     abbrev place : Place
     place = child_place s.info.key_size s.info.val_size cs (node_at s n).level r
 
@@ -262,7 +258,7 @@ module _ (image : List ℕ) (l : Lent) (t : Tree) (heads bytes : List ℕ) (b : 
 
       pub fetch_loaded : (t' : Tree) (c : ℕ) (heads' bytes' : List ℕ) → state_of l.size t' heads' bytes' ≡ (brought
           (state_of l.size t heads bytes) n i (on_disk v block) a).state → c ≡ t.used
-          → loaded_of l.size heads' bytes' (loaded.At t' c) ≡ fetched_at (lent_of image l) (state_of l.size t heads bytes)
+          → loaded_of l.size heads' bytes' (Ok (t', c)) ≡ fetched_at (lent_of image l) (state_of l.size t heads bytes)
           (bounds_of (state_of l.size t heads bytes) b) n i r a
       unfolding loaded_of read_of
       fetch_loaded t' c heads' bytes' es ec =
@@ -272,7 +268,7 @@ module _ (image : List ℕ) (l : Lent) (t : Tree) (heads bytes : List ℕ) (b : 
 
 -- ---- a child loaded
 
-module _ (image : List ℕ) (l : Lent) (t : Tree) (heads bytes : List ℕ) (b : Bounds) (n i : ℕ) (x : ChildAt)
+module _ (image : List ℕ) (l : Lent) (t : Tree) (heads bytes : List ℕ) (b : Bounds) (n i : ℕ) (x : Option Child)
     (e : x ≡ child_of (val_at (node_at (state_of l.size t heads bytes) n).entries i)) where
   abbrev st : State
   st = state_of l.size t heads bytes
@@ -280,21 +276,21 @@ module _ (image : List ℕ) (l : Lent) (t : Tree) (heads bytes : List ℕ) (b : 
   abbrev bs : load.Bounds
   bs = bounds_of (state_of l.size t heads bytes) b
 
-  none_val : (v : Val) → child_of v ≡ child.None → is_child v ≡ false
+  none_val : (v : Val) → child_of v ≡ None → is_child v ≡ false
   unfolding child_of is_child
   none_val ghost q = refl
   none_val (leaf v) q = refl
   none_val (disk r) q = let z : ◌≡◌ {A = ℕ} 0 1 = cc in absurd (omega arith)
   none_val (mem c) q = let z : ◌≡◌ {A = ℕ} 0 1 = cc in absurd (omega arith)
 
-  mem_val : (v : Val) (c : ℕ) → child_of v ≡ child.Mem c → v ≡ mem c
+  mem_val : (v : Val) (c : ℕ) → child_of v ≡ Some (child.Mem c) → v ≡ mem c
   unfolding child_of
   mem_val ghost c q = let z : ◌≡◌ {A = ℕ} 0 1 = cc in absurd (omega arith)
   mem_val (leaf v) c q = let z : ◌≡◌ {A = ℕ} 0 1 = cc in absurd (omega arith)
   mem_val (disk r) c q = let z : ◌≡◌ {A = ℕ} 0 1 = cc in absurd (omega arith)
   mem_val (mem d) c q = cc
 
-  pub load_none : x ≡ child.None → loaded_of l.size heads bytes (loaded.Refused 1) ≡ load_child (lent_of image l) (state_of l.size t heads bytes)
+  pub load_none : x ≡ None → loaded_of l.size heads bytes (Err is.Lent) ≡ load_child (lent_of image l) (state_of l.size t heads bytes)
       (bounds_of (state_of l.size t heads bytes) b) n i
   unfolding load_child loaded_of is_child
   load_none q =
@@ -305,19 +301,19 @@ module _ (image : List ℕ) (l : Lent) (t : Tree) (heads bytes : List ℕ) (b : 
       (λ r y. let g : is_child (disk r) ≡ false = ap is_child (sym y) ∙ f in never refl g)
       (λ c y. let g : is_child (mem c) ≡ false = ap is_child (sym y) ∙ f in never refl g)
 
-  pub load_mem : (c : ℕ) → x ≡ child.Mem c → loaded_of l.size heads bytes (loaded.At t c) ≡ load_child (lent_of image l)
+  pub load_mem : (c : ℕ) → x ≡ Some (child.Mem c) → loaded_of l.size heads bytes (Ok (t, c)) ≡ load_child (lent_of image l)
       (state_of l.size t heads bytes) (bounds_of (state_of l.size t heads bytes) b) n i
   unfolding loaded_of
   load_mem c q = sym (load_there (lent_of image l) st bs n i c (mem_val (val_at (node_at st n).entries i) c (sym e ∙ q)))
 
-  module _ (r : ℕ) (q : x ≡ child.Disk r) where
-    pub load_disk : child_of (val_at (node_at (state_of l.size t heads bytes) n).entries i) ≡ child.Disk r
+  module _ (r : ℕ) (q : x ≡ Some (child.Disk r)) where
+    pub load_disk : child_of (val_at (node_at (state_of l.size t heads bytes) n).entries i) ≡ Some (child.Disk r)
     load_disk = sym e ∙ q
 
     is_there_lem : val_at (node_at st n).entries i ≡ disk r
     is_there_lem = by_child (val_at (node_at st n).entries i) r load_disk
 
-    pub load_full : l.slots ≤ t.used → loaded_of l.size heads bytes (loaded.Refused 11) ≡ load_child (lent_of image l)
+    pub load_full : l.slots ≤ t.used → loaded_of l.size heads bytes (Err is.NoSlot) ≡ load_child (lent_of image l)
         (state_of l.size t heads bytes) (bounds_of (state_of l.size t heads bytes) b) n i
     unfolding load_child loaded_of lent_of
     load_full h =
@@ -325,7 +321,7 @@ module _ (image : List ℕ) (l : Lent) (t : Tree) (heads bytes : List ℕ) (b : 
         (omega (arith, used_nodes l.size t heads bytes)) in
         sym (rw (is_there_lem, z))
 
-    module _ (h : t.used < l.slots) (f : Address) (ef : address_at f ≡ address_of (lent_of image l) t.xid r) where
+    module _ (h : t.used < l.slots) (f : std.Result ℕ Refusal) (ef : address_at f ≡ address_of (lent_of image l) t.xid r) where
       free : ltb (length st.nodes) (lent_of image l).slots ≡ true
       unfolding lent_of
       free = lt-ltb (length st.nodes) l.slots (omega (arith, used_nodes l.size t heads bytes))
@@ -339,12 +335,12 @@ module _ (image : List ℕ) (l : Lent) (t : Tree) (heads bytes : List ℕ) (b : 
       unfolding state_of
       order_is inner ei = ei
 
-      pub load_unmapped : (k : ℕ) → f ≡ address.Refused k → loaded_of l.size heads bytes (loaded.Refused k) ≡ load_child (lent_of image l)
+      pub load_unmapped : (k : Refusal) → f ≡ Err k → loaded_of l.size heads bytes (Err k) ≡ load_child (lent_of image l)
           (state_of l.size t heads bytes) (bounds_of (state_of l.size t heads bytes) b) n i
       unfolding load_child loaded_of address_at
       load_unmapped k g = sym (rw (is_there_lem, free, found, g))
 
-      pub load_fetched : (a : ℕ) (inner : Bounds) → f ≡ address.At a → bounds_of (state_of l.size t heads bytes) inner ≡ child_bounds t.order
+      pub load_fetched : (a : ℕ) (inner : Bounds) → f ≡ Ok a → bounds_of (state_of l.size t heads bytes) inner ≡ child_bounds t.order
           (bounds_of (state_of l.size t heads bytes) b) (node_at (state_of l.size t heads bytes) n).entries i
           → (y : Result At) → y ≡ fetched_at (lent_of image l) (state_of l.size t heads bytes)
           (bounds_of (state_of l.size t heads bytes) inner) n i r a

@@ -1,5 +1,5 @@
 -- Laws of a way whose children are loaded: where it ends, and that load leaves the state as it was on it. Assumes nothing.
-use Rattle.std.specs.Prelude.{◌≡◌, Bool, true, false, not, length, set, drop}
+use Rattle.std.specs.Prelude.{◌≡◌, Bool, false, not, length, set, drop}
 use Rattle.std.proofs.Math.Path.{refl, sym, ap}
 use Rattle.std.proofs.Common.{subst, ◌∙◌, get_or-drop}
 use mathlib.Core.List.{List, [], ◌∷◌}
@@ -7,11 +7,10 @@ use Prim.Native.Nat.{ℕ, zero, suc, ◌+◌, ◌-◌, ◌≤◌, ◌<◌}
 use native.Mathlib.Omega.{arith}
 use Rattle.std.proofs.Math.ListN.{get_or}
 use borrow.Author.Tests.{not-false}
-use Rattle.node.specs.laws.base.Tests.{never}
 use Rattle.node.specs.Result.{Result, ok, ◌>>=◌}
 use Rattle.node.specs.Order.{keyed_length, keyed}
 use Rattle.node.specs.Entry.{Entry, Val, ghost, leaf, disk, mem}
-use Rattle.node.specs.Find.{val_at, not_above, way_index, last_not_above}
+use Rattle.node.specs.Find.{val_at, way_index, last_not_above}
 use Rattle.node.specs.Records.{record_length, records_length, entry_of, entries_of}
 use Rattle.node.specs.Slot.{head_at}
 use Rattle.node.specs.internal.SlotSteps.{last_in}
@@ -21,21 +20,22 @@ use Rattle.node.specs.laws.slot.Slot.{at_lies}
 use Rattle.node.specs.declared.head.Head.{Head}
 use Rattle.node.specs.declared.slot.Last.{Last}
 use Rattle.tree.specs.Lent.{Lent}
-use Rattle.tree.specs.State.{State, no_node, node_at}
+use Rattle.tree.specs.State.{State, node_at}
 use Rattle.tree.specs.Workspace.{slot_bytes, state_of}
 use Rattle.tree.specs.Load as load
 use Rattle.tree.specs.Lookup as lookup
 use Rattle.tree.specs.internal.Bank.{node_in, live}
 use Rattle.tree.specs.internal.Kids.{slots_of, kid_means}
-use Rattle.tree.specs.internal.Way.{steps_of, onto}
+use Rattle.tree.specs.internal.Way.{steps_of, onto, way_of}
 use Rattle.tree.specs.internal.Loaded.{TakenOf, LeadsTo, Leading, LeadsIn, LeafIs, Onward, Walked}
 use Rattle.tree.specs.laws.slots.Bank.{live_entries}
-use Rattle.tree.specs.laws.slots.Tree.{node_in_lem, node_out}
+use Rattle.tree.specs.laws.slots.Tree.{node_in_lem}
 use Rattle.tree.specs.laws.load.Way.{onto_above, onto_none, steps_next, way_end}
 use Rattle.tree.specs.declared.editor.Tree.{Tree}
 use Rattle.tree.specs.declared.kids.Kid.{Kid}
 use Rattle.tree.specs.declared.loaded.Taken.{Taken}
-use Rattle.tree.specs.declared.way.Went.TheVariants as went
+use Rattle.std.specs.Prelude.{Ok, Some, None, Option}
+use Rattle.tree.specs.declared.way.Way.{Way}
 
 -- ---- the entry taken
 
@@ -46,14 +46,20 @@ one_slot (leaf v) c e = let y : ◌≡◌ {A = ℕ} 1 0 = ap length e in absurd 
 one_slot (disk r) c e = let y : ◌≡◌ {A = ℕ} 1 0 = ap length e in absurd (omega arith)
 one_slot (mem x) c e = ap mem (sym (ap (λ (y : List ℕ). get_or y 0 0) e))
 
-kid_slot : (kid : Kid) (v : Val) → kid_means kid ≡ slots_of v → kid.loaded ≡ true → v ≡ mem kid.slot
+kid_slot : (kid : Kid) (c : ℕ) (v : Val) → kid_means kid ≡ slots_of v → kid.slot ≡ Some c → v ≡ mem c
 unfolding kid_means
-kid_slot kid v e h = one_slot v kid.slot (sym (rw h) ∙ e)
+kid_slot kid c v e h = one_slot v c (sym (rw h) ∙ e)
+
+-- nothing is no value, and a value is the value that it is
+no_value : {A : Type 0} (x : A) → None ≡ Some x → ⊥
+no_value x e = let y : ◌≡◌ {A = ℕ} 0 1 = cc in omega arith
+
+one_value : {A : Type 0} (x y : A) → Some x ≡ Some y → x ≡ y
+one_value x y e = cc
 
 module _ (o : ℕ) (k l : List ℕ) (n : ℕ) where
-  pub taken_none : n ≡ 0 → TakenOf o k (entries_of n l) (record { loaded = false; index = 0; slot = 0 })
-  unfolding entries_of way_index not_above
-  taken_none z = record { index = sym (rw z); child = λ q. never q refl }
+  pub taken_none : TakenOf o k (entries_of n l) None
+  taken_none = record { index = λ t q. absurd (no_value t q); child = λ t q. absurd (no_value t q) }
 
   module _ (hr : records_length n l ≤ length l) (z : n ≡ 0 → ⊥) (x : Last) (ex : x ≡ last_in o k n l) where
     taken_at : x.at ≡ records_length (way_index o k (entries_of n l)) l
@@ -78,17 +84,19 @@ module _ (o : ℕ) (k l : List ℕ) (n : ℕ) where
         ∙ ap (λ (y : List Entry). get_or y 0 b) (entries_head i n x.at l inside taken_at))
 
     pub taken_is : (i : ℕ) → i ≡ x.count - 1 → (kid : Kid) → kid_means kid ≡ slots_of (entry_of (drop x.at l)).value
-        → TakenOf o k (entries_of n l) (record { loaded = kid.loaded; index = i; slot = kid.slot })
+        → (c : ℕ) → kid.slot ≡ Some c → TakenOf o k (entries_of n l) (Some (record { index = i; slot = c }))
     unfolding last_in way_index
-    taken_is i ei kid ek = record { index = ei ∙ rw ex; child = λ q. value_is ∙ kid_slot kid (entry_of (drop x.at l)).value ek q }
+    taken_is i ei kid ek c ec =
+        record {
+          index = λ t q. ap (λ (y : Taken). y.index) (sym (one_value _ _ q)) ∙ ei ∙ rw ex;
+          child = λ t q. value_is ∙ kid_slot kid c (entry_of (drop x.at l)).value ek ec ∙ ap (λ (y : Taken). mem y.slot) (one_value _ _ q);
+        }
 
 module _ (size : ℕ) (t : Tree) (heads bytes key : List ℕ) (n : ℕ) where
-  pub taken_out : t.used ≤ n
-      → TakenOf t.order key (node_at (state_of size t heads bytes) n).entries (record { loaded = false; index = 0; slot = 0 })
-  unfolding no_node way_index not_above
-  taken_out h = record { index = sym (rw (node_out size t heads bytes n h)); child = λ q. never q refl }
+  pub taken_out : TakenOf t.order key (node_at (state_of size t heads bytes) n).entries None
+  taken_out = record { index = λ u q. absurd (no_value u q); child = λ u q. absurd (no_value u q) }
 
-  pub taken_of : n < t.used → (h : Head) → h ≡ live (head_at heads n) → (l : List ℕ) → l ≡ slot_bytes size bytes n → (r : Taken)
+  pub taken_of : n < t.used → (h : Head) → h ≡ live (head_at heads n) → (l : List ℕ) → l ≡ slot_bytes size bytes n → (r : Option Taken)
       → TakenOf t.order key (entries_of h.count l) r → TakenOf t.order key (node_at (state_of size t heads bytes) n).entries r
   unfolding node_in
   taken_of hn h eh l el r q =
@@ -100,37 +108,43 @@ module _ (size : ℕ) (t : Tree) (heads bytes : List ℕ) (level : ℕ) (key : L
   abbrev s : State
   s = state_of size t heads bytes
 
-  pub leading_start : Leading (state_of size t heads bytes) level key level t.root
+  pub leading_start : Leading (state_of size t heads bytes) level key (level - 0) t.root
   unfolding state_of
-  leading_start = record { on = λ m h. h }
+  leading_start =
+      let e : level - 0 ≡ level = omega arith in
+      record { on = λ m h. subst (λ (j : ℕ). LeadsTo j s key m s.root) e h }
 
-  pub leading_turn : (d n : ℕ) → 0 < d → Leading (state_of size t heads bytes) level key d n → (r : Taken)
-      → TakenOf t.order key (node_at (state_of size t heads bytes) n).entries r → not r.loaded ≡ false
-      → Leading (state_of size t heads bytes) level key (d - 1) r.slot
+  pub leading_turn : (i n : ℕ) → i < level → Leading (state_of size t heads bytes) level key (level - i) n → (r : Option Taken)
+      → TakenOf t.order key (node_at (state_of size t heads bytes) n).entries r → (x : Taken) → r ≡ Some x
+      → Leading (state_of size t heads bytes) level key (level - (i + 1)) x.slot
   unfolding state_of
-  leading_turn d n hd g r q u =
-      let e : suc (d - 1) ≡ d = omega arith in
+  leading_turn i n hi g r q x u =
+      let e : suc (level - (i + 1)) ≡ level - i = omega arith in
       record {
-        on = λ m h. g.on m (subst (λ (j : ℕ). LeadsTo j s key m n) e
-            (record { slot = r.slot; child = q.child (not-false r.loaded u); below = h }));
+        on = λ m h. g.on m (subst (λ (j : ℕ). LeadsTo j s key m n) e (record { slot = x.slot; child = q.child x u; below = h }));
       }
 
-  pub leads_none : LeadsIn t.used level (state_of size t heads bytes) key t.used
-  leads_none = record { leads = λ h. absurd (omega arith) }
+  pub leads_none : LeadsIn t.used level (state_of size t heads bytes) key None
+  leads_none = record { within = λ m q. absurd (no_value m q); leads = λ m q. absurd (no_value m q) }
 
-  pub leads_end : (d n : ℕ) → d ≤ 0 → Leading (state_of size t heads bytes) level key d n → LeadsIn t.used level (state_of size t heads bytes) key n
-  leads_end d n hd g =
-      let e : 0 ≡ d = omega arith in
-      record { leads = λ h. g.on n (subst (λ (j : ℕ). LeadsTo j s key n n) e refl) }
+  pub leads_end : (i n : ℕ) → level ≤ i → Leading (state_of size t heads bytes) level key (level - i) n → n < t.used
+      → LeadsIn t.used level (state_of size t heads bytes) key (Some n)
+  leads_end i n hi g hn =
+      let e : 0 ≡ level - i = omega arith in
+      let on : LeadsTo level s key n s.root = g.on n (subst (λ (j : ℕ). LeadsTo j s key n n) e refl) in
+      record {
+        within = λ m q. let z : n ≡ m = one_value n m q in omega arith;
+        leads = λ m q. subst (λ (j : ℕ). LeadsTo level s key j s.root) (one_value n m q) on;
+      }
 
 module _ (size : ℕ) (t : Tree) (heads bytes key : List ℕ) (k : Bool) (ek : k ≡ keyed_length t.order (length key)) where
-  pub leaf_none : LeafIs t.used (state_of size t heads bytes) key t.used
-  leaf_none = record { keys = λ h. absurd (omega arith); leads = λ h. absurd (omega arith) }
+  pub leaf_none : LeafIs t.used (state_of size t heads bytes) key None
+  leaf_none = record { within = λ m q. absurd (no_value m q); keys = λ m q. absurd (no_value m q); leads = λ m q. absurd (no_value m q) }
 
-  pub leaf_is : not k ≡ false → (level : ℕ) → level ≡ (node_at (state_of size t heads bytes) t.root).level → (r : ℕ)
+  pub leaf_is : not k ≡ false → (level : ℕ) → level ≡ (node_at (state_of size t heads bytes) t.root).level → (r : Option ℕ)
       → LeadsIn t.used level (state_of size t heads bytes) key r → LeafIs t.used (state_of size t heads bytes) key r
   unfolding state_of keyed
-  leaf_is u level ev r q = record { keys = λ h. sym ek ∙ not-false k u; leads = λ h. rw (← ev) (q.leads h) }
+  leaf_is u level ev r q = record { within = q.within; keys = λ m h. sym ek ∙ not-false k u; leads = λ m h. rw (← ev) (q.leads m h) }
 
 -- ---- load on it
 
@@ -183,42 +197,54 @@ leads_floor (suc d) l s bs k m n e h q =
 -- ---- the way
 
 module _ (size : ℕ) (t : Tree) (heads bytes : List ℕ) (level : ℕ) (key : List ℕ) where
-  pub onward_start : (way kids : List ℕ) → Onward (state_of size t heads bytes) level key (steps_of way kids 0) level t.root
+  pub onward_start : (way kids : List ℕ) → Onward (state_of size t heads bytes) level key (steps_of way kids 0) (level - 0) t.root
   unfolding steps_of state_of
-  onward_start way kids = record {
-    bounds = load.unbounded;
-    whole = λ l. onto_none (lookup.way_from level l (state_of size t heads bytes) load.unbounded
-        t.root key);
-  }
+  onward_start way kids =
+      let e : level - 0 ≡ level = omega arith in
+      record {
+        bounds = load.unbounded;
+        whole = λ l. rw e (onto_none (lookup.way_from level l (state_of size t heads bytes) load.unbounded
+            t.root key));
+      }
 
-  module _ (way kids : List ℕ) (j d n : ℕ) (g : Onward (state_of size t heads bytes) level key (steps_of way kids j) d n)
+  module _ (way kids : List ℕ) (j n : ℕ) (g : Onward (state_of size t heads bytes) level key (steps_of way kids j) (level - j) n)
       (hw : j < length way) (hk : j < length kids) where
-    pub onward_turn : 0 < d → (r : Taken) → TakenOf t.order key (node_at (state_of size t heads bytes) n).entries r → not r.loaded ≡ false
-        → Onward (state_of size t heads bytes) level key (steps_of (set way j n) (set kids j r.index) (j + 1)) (d - 1) r.slot
+    pub onward_turn : j < level → (r : Option Taken) → TakenOf t.order key (node_at (state_of size t heads bytes) n).entries r
+        → (x : Taken) → r ≡ Some x
+        → Onward (state_of size t heads bytes) level key (steps_of (set way j n) (set kids j x.index) (j + 1)) (level - (j + 1)) x.slot
     unfolding state_of
-    onward_turn hd r q u =
+    onward_turn hj r q x u =
         let s : State = state_of size t heads bytes in
-        let e : d ≡ suc (d - 1) = omega arith in
+        let d : ℕ = level - (j + 1) in
+        let e : level - j ≡ suc (level - (j + 1)) = omega arith in
         let i : ℕ = way_index s.order key (node_at s n).entries in
         let cs : load.Bounds = load.child_bounds s.order g.bounds (node_at s n).entries i in
         record {
           bounds = cs;
-          whole = λ l. rw (steps_next way kids j n r.index hw hk, q.index)
-              (sym (onto_above (steps_of way kids j) n i (lookup.way_from (d - 1) l s cs r.slot key))
-              ∙ ap (onto (steps_of way kids j)) (sym (loaded_down (d - 1) l s g.bounds n r.slot key (q.child (not-false r.loaded u))))
+          whole = λ l. rw (steps_next way kids j n x.index hw hk, q.index x u)
+              (sym (onto_above (steps_of way kids j) n i (lookup.way_from d l s cs x.slot key))
+              ∙ ap (onto (steps_of way kids j)) (sym (loaded_down d l s g.bounds n x.slot key (q.child x u)))
               ∙ ap (λ (m : ℕ). onto (steps_of way kids j) (lookup.way_from m l s g.bounds n key)) (sym e) ∙ g.whole l);
         }
 
-    pub walked_end : d ≤ 0 → Walked size t heads bytes level key
-        (record { went = went.Arrived; tree = t; steps = j + 1; slots = set way j n; kids = set kids j 0 })
-    unfolding state_of
-    walked_end hd =
-        record {
-          same = refl;
-          arrives = λ q l. way_end l size t heads bytes g.bounds n d j key way kids
-              (lookup.way_from level l (state_of size t heads bytes) load.unbounded t.root key) hd hw hk (g.whole l);
-        }
+  pub walked_end : (way kids : List ℕ) (j n : ℕ) → j ≡ level
+      → Onward (state_of size t heads bytes) level key (steps_of way kids j) (level - j) n → level < length way → level < length kids
+      → Walked size t heads bytes level key
+      (Some (record { tree = t; steps = level + 1; slots = set way level n; kids = set kids level 0 }))
+  unfolding state_of
+  walked_end way kids j n z g₀ hw hk =
+      let g : Onward (state_of size t heads bytes) level key (steps_of way kids level) (level - level) n = rw z at g₀ in
+      let hd : level - level ≤ 0 = omega arith in
+      let w : Way = record { tree = t; steps = level + 1; slots = set way level n; kids = set kids level 0 } in
+      let arrived : (l : Lent) → way_of size heads bytes (Ok w)
+      ≡ lookup.way_from level l (state_of size t heads bytes) load.unbounded t.root key =
+      λ l. way_end l size t heads bytes g.bounds n (level - level) level key way kids
+      (lookup.way_from level l (state_of size t heads bytes) load.unbounded t.root key) hd hw hk (g.whole l) in
+      record {
+        same = λ v q. ap (λ (y : Way). y.tree) (sym (one_value _ _ q));
+        arrives = λ v q l. subst (λ (y : Way). way_of size heads bytes (Ok y) ≡ lookup.way_from level l (state_of size t heads bytes)
+            load.unbounded t.root key) (one_value _ _ q) (arrived l);
+      }
 
-  pub walked_not : (way kids : List ℕ)
-      → Walked size t heads bytes level key (record { went = went.Refused 0; tree = t; steps = 0; slots = way; kids = kids })
-  walked_not way kids = record { same = refl; arrives = λ q. let y : ◌≡◌ {A = ℕ} 0 1 = cc in absurd (omega arith) }
+  pub walked_not : Walked size t heads bytes level key None
+  walked_not = record { same = λ w q. absurd (no_value w q); arrives = λ w q. absurd (no_value w q) }

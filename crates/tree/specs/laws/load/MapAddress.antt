@@ -1,4 +1,5 @@
 -- Laws of an id's address in the object map. Assumes nothing.
+use Rattle.std.specs.Int.{from_bool}
 use Rattle.std.proofs.Math.Path.{◌≡◌, sym, ap}
 use Rattle.std.proofs.Common.{ap₂, ◌∙◌, length-append, length-take, length-drop}
 use mathlib.Core.List.{List, [], ◌∷◌, ◌++◌, append-nil}
@@ -13,7 +14,7 @@ use Rattle.node.specs.laws.base.Seal.{window_window, length_bytes_of}
 use Rattle.node.specs.laws.base.Tests.{by_test, and_split}
 use Rattle.node.specs.Result.{Result, ◌>>=◌, ◌>>◌, check}
 use Rattle.node.specs.Order.{pair, pair_key}
-use Rattle.node.specs.Entry.{ghost, leaf, disk, value_length}
+use Rattle.node.specs.Entry.{ghost, leaf, disk, mem, value_length}
 use Rattle.node.specs.Fit.{flag}
 use Rattle.node.specs.Read.{on_disk, parsed, info_at, is_fixed, is_ghost, span_at, value_at, entry_at, read_of}
 use Rattle.node.specs.internal.ReadSteps.{Sound}
@@ -24,8 +25,6 @@ use Rattle.node.specs.laws.read.Accepted.{Accepted}
 use Rattle.node.specs.declared.info.BTreeInfo.{BTreeInfo}
 use Rattle.node.specs.declared.read.Node.{Node}
 use Rattle.node.specs.declared.read.Span.{Span}
-use Rattle.node.specs.declared.read.Read.{Read}
-use Rattle.node.specs.declared.read.Read.TheVariants as read
 use Rattle.node.specs.declared.val.Val as Held
 use Rattle.node.specs.declared.val.Val.TheVariants as held
 use Rattle.node.specs.declared.val.Child as Child
@@ -35,19 +34,20 @@ use Rattle.tree.specs.Lent.{lent_of}
 use Rattle.tree.specs.Load.{unbounded, bound_key, load_block, root_place, storage_class, root_holds, map_floor, mapping, map_root_holds, map_address, address_of}
 use Rattle.tree.specs.laws.load.MapNode.{map_sound}
 use Rattle.tree.specs.laws.load.MapFloor.{load_inside, load_accepts}
-use Rattle.tree.specs.internal.Map.{load_at, edge_of, edges_of, EdgesIn, MapSound, map_read, spotted_of, address_at, mapping_in, looked_up}
+use Rattle.tree.specs.internal.Map.{load_at, edge_of, edges_of, EdgesIn, MapSound, map_read, found_of, spotted_of, address_at, mapping_in, looked_up}
 use Rattle.tree.specs.declared.lent.Lent.{Lent}
 use Rattle.tree.specs.declared.map.MapNode.{MapNode}
-use Rattle.tree.specs.declared.map.Edges.{Edges}
 use Rattle.tree.specs.declared.map.Spotted.{Spotted}
-use Rattle.tree.specs.declared.map.Spotted.TheVariants as spotted
-use Rattle.tree.specs.declared.map.Address.{Address}
-use Rattle.tree.specs.declared.map.Address.TheVariants as address
+use Rattle.std.specs.Prelude as std
+use Rattle.std.specs.Prelude.{refl, Ok, Err, Some, None, Option}
+use Rattle.node.specs.declared.refusal.Refusal.{Refusal}
+use Rattle.node.specs.declared.refusal.Refusal.TheVariants as is
+use Rattle.node.specs.declared.val.Child.TheVariants as child
 
 -- ---- roots
 
 module _ (image : List ℕ) (l : Lent) (a : ℕ) (virtual : Bool) (v : Node) (b : List ℕ) (info : BTreeInfo) (class : ℕ)
-    (eb : b ≡ window (a * l.size) l.size image) (ei : info ≡ info_at b) (ec : class ≡ cond (not virtual) 1 0) where
+    (eb : b ≡ window (a * l.size) l.size image) (ei : info ≡ info_at b) (ec : class ≡ from_bool (not virtual)) where
   wanted : class ≡ cond virtual 0 1
   wanted = by_test virtual (λ t. rw t (ec ∙ rw t)) (λ t. rw t (ec ∙ rw t))
 
@@ -114,25 +114,25 @@ module _ (image : List ℕ) (size : ℕ) (d : MapNode) (i id : ℕ) (b : List �
   whole = mapping id (entry_at d.node (window (d.at * size) size image) i ∷ [])
 
   module _ (y : ℕ) (ey : y ≡ u64_at b s.key) where
-    pub target_other : (y ≡ id → ⊥) → address_at (address.Refused 18) ≡ mapping id (entry_at d.node (window (d.at * size) size image) i ∷ [])
+    pub target_other : (y ≡ id → ⊥) → address_at (Err is.Unmapped) ≡ mapping id (entry_at d.node (window (d.at * size) size image) i ∷ [])
     unfolding address_at mapping
     target_other n = rw (← eb, id_is, ← ey, ne_eqb y id n)
 
     module _ (e : y ≡ id) (x : Held.Val) (ev : value_means b x ≡ (entry_at d.node b i).value) where
-      pub target_ghost : x ≡ held.Ghost → address_at (address.Refused 18) ≡ mapping id (entry_at d.node (window (d.at * size) size image) i ∷ [])
-      unfolding address_at mapping value_means
-      target_ghost q = let z : (entry_at d.node b i).value ≡ ghost = sym ev ∙ ap (value_means b) q in rw (← eb, id_is, ← ey, eq-eqb y id e, z)
-
-      of_child : (c : Child.Child) → (entry_at d.node b i).value ≡ child_means c → address_at (address.Refused 18) ≡ mapping id
+      bare : (z : Held.Val) → z ≡ x → ((at n : ℕ) → x ≡ held.Leaf at n → ⊥) → address_at (Err is.Unmapped) ≡ mapping id
           (entry_at d.node (window (d.at * size) size image) i ∷ [])
-      unfolding address_at mapping child_means
-      of_child (child.Disk r) z = rw (← eb, id_is, ← ey, eq-eqb y id e, z)
-      of_child (child.Mem r) z = rw (← eb, id_is, ← ey, eq-eqb y id e, z)
+      unfolding address_at mapping value_means child_means
+      bare held.Ghost q h = let z : (entry_at d.node b i).value ≡ ghost = sym ev ∙ ap (value_means b) (sym q) in
+          rw (← eb, id_is, ← ey, eq-eqb y id e, z)
+      bare (held.Leaf at n) q h = absurd (h at n (sym q))
+      bare (held.Child (child.Disk r)) q h = let z : (entry_at d.node b i).value ≡ disk r = sym ev ∙ ap (value_means b) (sym q) in
+          rw (← eb, id_is, ← ey, eq-eqb y id e, z)
+      bare (held.Child (child.Mem c)) q h = let z : (entry_at d.node b i).value ≡ mem c = sym ev ∙ ap (value_means b) (sym q) in
+          rw (← eb, id_is, ← ey, eq-eqb y id e, z)
 
-      pub target_child : (c : Child.Child) → x ≡ held.Child c → address_at (address.Refused 18) ≡ mapping id
+      pub target_bare : ((at n : ℕ) → x ≡ held.Leaf at n → ⊥) → address_at (Err is.Unmapped) ≡ mapping id
           (entry_at d.node (window (d.at * size) size image) i ∷ [])
-      unfolding value_means
-      target_child c q = of_child c (sym ev ∙ ap (value_means b) q)
+      target_bare h = bare x refl h
 
       module _ (at n : ℕ) (q : x ≡ held.Leaf at n) where
         is_leaf : (entry_at d.node b i).value ≡ leaf (window at n b)
@@ -177,12 +177,12 @@ module _ (image : List ℕ) (size : ℕ) (d : MapNode) (i id : ℕ) (b : List �
           flags_are : u32_at (window at n b) 0 ≡ w
           flags_are = let z : at + 0 ≡ at = omega arith in field_in 4 b at n 0 (omega (arith, sizes.1)) ∙ ap (u32_at b) z ∙ sym ew
 
-          pub target_encrypted : w / 4 % 2 ≡ 1 → address_at (address.Refused 19) ≡ mapping id
+          pub target_encrypted : w / 4 % 2 ≡ 1 → address_at (Err is.Encrypted) ≡ mapping id
               (entry_at d.node (window (d.at * size) size image) i ∷ [])
           unfolding address_at mapping flag
           target_encrypted h = rw (← eb, id_is, ← ey, eq-eqb y id e, is_leaf, flags_are, eq-eqb (w / 4 % 2) 1 h)
 
-          pub target_address : (w / 4 % 2 ≡ 1 → ⊥) → (a : ℕ) → a ≡ u64_at b (at + 8) → address_at (address.At a) ≡ mapping id
+          pub target_address : (w / 4 % 2 ≡ 1 → ⊥) → (a : ℕ) → a ≡ u64_at b (at + 8) → address_at (Ok a) ≡ mapping id
               (entry_at d.node (window (d.at * size) size image) i ∷ [])
           unfolding address_at mapping flag
           target_address h a ea =
@@ -191,19 +191,16 @@ module _ (image : List ℕ) (size : ℕ) (d : MapNode) (i id : ℕ) (b : List �
 
 -- ---- of what was found
 
-module _ (image : List ℕ) (size id : ℕ) (s : Spotted) where
-  pub mapping_refused : (x : ℕ) → s ≡ spotted.Refused x → address_at (address.Refused x) ≡ mapping_in id (spotted_of image size s)
-  unfolding address_at mapping_in spotted_of
-  mapping_refused x e = sym (rw e)
-
-  pub mapping_none : s ≡ spotted.None → address_at (address.Refused 18) ≡ mapping_in id (spotted_of image size s)
-  unfolding address_at mapping_in spotted_of mapping
+module _ (image : List ℕ) (size id : ℕ) (s : Option Spotted) where
+  pub mapping_none : s ≡ None → address_at (Err is.Unmapped) ≡ mapping_in id (spotted_of image size (Ok s))
+  unfolding address_at mapping_in spotted_of found_of mapping
   mapping_none e = sym (rw e)
 
-  pub mapping_found : (d : MapNode) (i : ℕ) (r : Address) → s ≡ spotted.At d i
-      → address_at r ≡ mapping id (entry_at d.node (window (d.at * size) size image) i ∷ []) → address_at r ≡ mapping_in id (spotted_of image size s)
-  unfolding mapping_in spotted_of
-  mapping_found d i r e f = sym (rw e (sym f))
+  pub mapping_found : (d : Spotted) (r : std.Result ℕ Refusal) → s ≡ Some d
+      → address_at r ≡ mapping id (entry_at d.node.node (window (d.node.at * size) size image) d.index ∷ [])
+      → address_at r ≡ mapping_in id (spotted_of image size (Ok s))
+  unfolding mapping_in spotted_of found_of
+  mapping_found d r e f = sym (rw e (sym f))
 
 -- ---- from the root on
 
@@ -216,20 +213,27 @@ key_is key id xid e =
     e ∙ ap (λ (k : ℕ). (bytes_of 8 id ++ bytes_of 8 xid) ++ drop (0 + k) (replicate 16 0)) (length_pair id xid)
     ∙ append-nil (bytes_of 8 id ++ bytes_of 8 xid)
 
-pub no_edges : (image : List ℕ) (b : Edges) → b.lower.at + b.lower.len ≡ 0 → b.upper.at + b.upper.len ≡ 0 → EdgesIn image b
-no_edges image b e f = record { lower = record { within = omega arith }; upper = record { within = omega arith } }
+pub no_edges : (image : List ℕ) → EdgesIn image (record { lower = None; upper = None })
+no_edges image = record { lower = tt; upper = tt }
 
-pub looked_up_lem : (image : List ℕ) (l : Lent) (d : MapNode) (b : Edges) (xid id : ℕ) (key : List ℕ) (s : Spotted) (r : Address)
-    → b.lower.some ≡ false → b.upper.some ≡ false
-    → key ≡ splice (replicate 16 0) 0 (pair_key id xid)
-    → spotted_of image l.size s ≡ map_floor d.node.level (lent_of image l) (map_read image l.size d) (edges_of image b) key
-    → address_at r ≡ mapping_in id (spotted_of image l.size s) → address_at r ≡ looked_up (lent_of image l) (map_read image l.size d) xid id
-unfolding mapping_in looked_up edges_of edge_of unbounded map_read on_disk
-looked_up_lem image l d b xid id key s r e f ek es er =
-    let u : edges_of image b ≡ unbounded = rw (e, f) in
-    er ∙ ap (λ x. x >>= mapping id) (es ∙ ap₂ (map_floor d.node.level (lent_of image l) (map_read image l.size d)) u (key_is key id xid ek))
+module _ (image : List ℕ) (l : Lent) (d : MapNode) (xid id : ℕ) (key : List ℕ) (s : std.Result (Option Spotted) Refusal)
+    (ek : key ≡ splice (replicate 16 0) 0 (pair_key id xid))
+    (es : spotted_of image l.size s ≡ map_floor d.node.level (lent_of image l) (map_read image l.size d)
+    (edges_of image (record { lower = None; upper = None })) key) where
+  looked_in : mapping_in id (spotted_of image l.size s) ≡ looked_up (lent_of image l) (map_read image l.size d) xid id
+  unfolding mapping_in looked_up edges_of edge_of unbounded map_read on_disk
+  looked_in = ap (λ x. x >>= mapping id) (es ∙ ap (map_floor d.node.level (lent_of image l) (map_read image l.size d) unbounded)
+      (key_is key id xid ek))
 
-module _ (image : List ℕ) (l : Lent) (xid id m : ℕ) (x : Read)
+  pub looked_refused : (x : Refusal) → s ≡ Err x → address_at (Err x) ≡ looked_up (lent_of image l) (map_read image l.size d) xid id
+  unfolding address_at mapping_in spotted_of
+  looked_refused x e = sym (rw e) ∙ looked_in
+
+  pub looked_found : (f : Option Spotted) (r : std.Result ℕ Refusal) → s ≡ Ok f → address_at r ≡ mapping_in id (spotted_of image l.size (Ok f))
+      → address_at r ≡ looked_up (lent_of image l) (map_read image l.size d) xid id
+  looked_found f r e q = q ∙ ap (λ y. mapping_in id (spotted_of image l.size y)) (sym e) ∙ looked_in
+
+module _ (image : List ℕ) (l : Lent) (xid id m : ℕ) (x : std.Result Node Refusal)
     (e : read_of (lent.block_at (lent_of image l) m) x ≡ load_at (lent_of image l) pair
     (record { root = true; oid = m; parent = 0; ksize = 0; vsize = 0; bounded = false }) [] [] m) where
   address_is : map_address (lent_of image l) xid id m ≡
@@ -237,16 +241,16 @@ module _ (image : List ℕ) (l : Lent) (xid id m : ℕ) (x : Read)
   unfolding map_address looked_up load_block load_at root_place unbounded bound_key
   address_is = rw e
 
-  pub address_refused : (k : ℕ) → x ≡ read.Refused k → address_at (address.Refused k) ≡ map_address (lent_of image l) xid id m
+  pub address_refused : (k : Refusal) → x ≡ Err k → address_at (Err k) ≡ map_address (lent_of image l) xid id m
   unfolding address_at read_of
   address_refused k ex = sym (address_is ∙ rw ex)
 
-  module _ (v : Node) (ex : x ≡ read.Loaded v) where
+  module _ (v : Node) (ex : x ≡ Ok v) where
     pub address_inside : m < length image / l.size
     address_inside = load_inside image l pair m _ [] [] x v e ex
 
     module _ (t : Bool) (et : t ≡ map_root_holds (lent_of image l) m (on_disk v (lent.block_at (lent_of image l) m))) where
-      pub address_root : not t ≡ true → address_at (address.Refused 10) ≡ map_address (lent_of image l) xid id m
+      pub address_root : not t ≡ true → address_at (Err is.Root) ≡ map_address (lent_of image l) xid id m
       unfolding address_at read_of
       address_root h = let z : map_root_holds (lent_of image l) m (on_disk v (lent.block_at (lent_of image l) m)) ≡ false = sym et
           ∙ not-true t h in sym (address_is ∙ rw (ex, z))
@@ -255,7 +259,8 @@ module _ (image : List ℕ) (l : Lent) (xid id m : ℕ) (x : Read)
         passes : map_root_holds (lent_of image l) m (on_disk v (lent.block_at (lent_of image l) m)) ≡ true
         passes = sym et ∙ not-false t h
 
-        pub address_found : (r : Address) → address_at r ≡ looked_up (lent_of image l) (map_read image l.size (record { at = m; node = v })) xid id
+        pub address_found : (r : std.Result ℕ Refusal) → address_at r
+            ≡ looked_up (lent_of image l) (map_read image l.size (record { at = m; node = v })) xid id
             → address_at r ≡ map_address (lent_of image l) xid id m
         unfolding read_of map_read lent.block_at lent_of
         address_found r f = sym (address_is ∙ rw (ex, passes) (sym f))
@@ -277,18 +282,18 @@ module _ (image : List ℕ) (l : Lent) (xid id m : ℕ) (x : Read)
             }
 
 module _ (image : List ℕ) (l : Lent) (xid r : ℕ) where
-  pub address_itself : not l.mapped ≡ true → address_at (address.At r) ≡ address_of (lent_of image l) xid r
+  pub address_itself : l.map ≡ None → address_at (Ok r) ≡ address_of (lent_of image l) xid r
   unfolding address_at address_of lent_of
-  address_itself h = sym (rw (not-true l.mapped h))
+  address_itself h = sym (rw h)
 
-  map_is : not l.mapped ≡ false → (lent_of image l).map ≡ l.map ∷ []
+  map_is : (m : ℕ) → l.map ≡ Some m → (lent_of image l).map ≡ m ∷ []
   unfolding lent_of
-  map_is h = rw (not-false l.mapped h)
+  map_is m h = rw h
 
   through_map : (k : lent.Lent) (a : ℕ) → k.map ≡ a ∷ [] → address_of k xid r ≡ map_address k xid r a
   unfolding address_of
   through_map k a q = rw q
 
-  pub address_mapped : not l.mapped ≡ false → (x : Address) → address_at x ≡ map_address (lent_of image l) xid r l.map
+  pub address_mapped : (m : ℕ) → l.map ≡ Some m → (x : std.Result ℕ Refusal) → address_at x ≡ map_address (lent_of image l) xid r m
       → address_at x ≡ address_of (lent_of image l) xid r
-  address_mapped h x e = e ∙ sym (through_map (lent_of image l) l.map (map_is h))
+  address_mapped m h x e = e ∙ sym (through_map (lent_of image l) m (map_is m h))

@@ -21,27 +21,25 @@ use Rattle.node.specs.laws.order.Found.{above_le}
 use Rattle.node.specs.laws.read.Accepted.{Accepted, loaded_accepts, at_from}
 use Rattle.node.specs.declared.read.Node.{Node}
 use Rattle.node.specs.declared.read.Place.{Place}
-use Rattle.node.specs.declared.read.Read.{Read}
-use Rattle.node.specs.declared.read.Read.TheVariants as read
 use Rattle.node.specs.laws.read.Loaded.{entries_length}
 use Rattle.tree.specs.Lent as lent
 use Rattle.tree.specs.Lent.{lent_of}
 use Rattle.tree.specs.Load.{bound_key, disk_number, child_bounds, child_place, load_block, map_child, map_last, map_floor, or_else}
 use Rattle.tree.specs.laws.load.MapNode.{block_long}
-use Rattle.tree.specs.internal.Map.{load_at, edge_of, edges_of, MapSound, map_entries, map_read, map_child_at, map_loaded_of, MapSoundAfter, leftward, spotted_of, SpottedIn}
+use Rattle.tree.specs.internal.Map.{load_at, edge_of, edges_of, MapSound, map_entries, map_read, map_child_at, map_loaded_of, MapSoundAfter, leftward, found_of, FoundIn, spotted_of, SpottedIn, key_of}
 use Rattle.tree.specs.declared.lent.Lent.{Lent}
 use Rattle.tree.specs.declared.map.MapNode.{MapNode}
 use Rattle.tree.specs.declared.map.Edge.{Edge}
 use Rattle.tree.specs.declared.map.Edges.{Edges}
-use Rattle.tree.specs.declared.map.MapLoaded.{MapLoaded}
-use Rattle.tree.specs.declared.map.MapLoaded.TheVariants as loaded
 use Rattle.tree.specs.declared.map.Spotted.{Spotted}
-use Rattle.tree.specs.declared.map.Spotted.TheVariants as spotted
+use Rattle.std.specs.Prelude as std
+use Rattle.std.specs.Prelude.{Ok, Err, Some, None, Option, is_some}
+use Rattle.node.specs.declared.refusal.Refusal.{Refusal}
 
 -- ---- a block that was read
 
-module _ (image : List ℕ) (l : Lent) (o a : ℕ) (p : Place) (lower upper : List ℕ) (x : Read) (v : Node)
-    (e : read_of (lent.block_at (lent_of image l) a) x ≡ load_at (lent_of image l) o p lower upper a) (ex : x ≡ read.Loaded v) where
+module _ (image : List ℕ) (l : Lent) (o a : ℕ) (p : Place) (lower upper : List ℕ) (x : std.Result Node Refusal) (v : Node)
+    (e : read_of (lent.block_at (lent_of image l) a) x ≡ load_at (lent_of image l) o p lower upper a) (ex : x ≡ Ok v) where
   parts : (lent.in_image (lent_of image l) a ≡ true) × (read_node o p lower upper (lent.block_at (lent_of image l) a) ≡ ok
       (on_disk v (lent.block_at (lent_of image l) a)))
   unfolding load_at read_of
@@ -59,31 +57,31 @@ module _ (image : List ℕ) (l : Lent) (o a : ℕ) (p : Place) (lower upper : Li
 
 -- ---- a child
 
-bounded_is : (image : List ℕ) (e : Edge) (t : Bool) → e.some ≡ t → t ≡ eqb (length (edge_of image e)) 1
+bounded_is : (image : List ℕ) (b : Option Edge) → is_some b ≡ eqb (length (edge_of image b)) 1
 unfolding edge_of
-bounded_is image e true h = rw h
-bounded_is image e false h = rw h
+bounded_is image None = refl
+bounded_is image (Some e) = refl
 
-module _ (image : List ℕ) (l : Lent) (b : Edges) (level a w : ℕ) (lo up : List ℕ) (x : Read)
-    (el : lo ≡ bound_key (edge_of image b.lower)) (eu : up ≡ bound_key (edge_of image b.upper)) (ew : a ≡ w)
+module _ (image : List ℕ) (l : Lent) (b : Edges) (level a w : ℕ) (lo up : List ℕ) (bounded : Bool) (x : std.Result Node Refusal)
+    (el : lo ≡ bound_key (edge_of image b.lower)) (eu : up ≡ bound_key (edge_of image b.upper)) (ew : a ≡ w) (eo : bounded ≡ is_some b.upper)
     (e : read_of (lent.block_at (lent_of image l) a) x ≡ load_at (lent_of image l) pair
-    (record { root = false; oid = a; parent = level; ksize = 16; vsize = 16; bounded = b.upper.some }) lo up a) where
-  place_is : record { root = false; oid = a; parent = level; ksize = 16; vsize = 16; bounded = b.upper.some } ≡ child_place 16 16
+    (record { root = false; oid = a; parent = level; ksize = 16; vsize = 16; bounded = bounded }) lo up a) where
+  place_is : record { root = false; oid = a; parent = level; ksize = 16; vsize = 16; bounded = bounded } ≡ child_place 16 16
       (edges_of image b) level a
   unfolding child_place edges_of
-  place_is = rw (← bounded_is image b.upper b.upper.some refl)
+  place_is = rw (← bounded_is image b.upper, ← eo)
 
   child_is : map_child_at (lent_of image l) level (edges_of image b) w ≡ read_of (lent.block_at (lent_of image l) a) x
   unfolding map_child_at load_block load_at edges_of
   child_is = rw (← ew, ← el, ← eu) (sym (e ∙ ap (λ (p : Place). load_at (lent_of image l) pair p lo up a) place_is))
 
-  pub child_refused : (k : ℕ) → x ≡ read.Refused k → map_loaded_of image l.size (loaded.Refused k) ≡ map_child_at (lent_of image l) level
+  pub child_refused : (k : Refusal) → x ≡ Err k → map_loaded_of image l.size (Err k) ≡ map_child_at (lent_of image l) level
       (edges_of image b) w
   unfolding map_loaded_of read_of
   child_refused k ex = sym (child_is ∙ rw ex)
 
-  module _ (v : Node) (ex : x ≡ read.Loaded v) where
-    pub child_loaded : map_loaded_of image l.size (loaded.At (record { at = a; node = v }))
+  module _ (v : Node) (ex : x ≡ Ok v) where
+    pub child_loaded : map_loaded_of image l.size (Ok (record { at = a; node = v }))
         ≡ map_child_at (lent_of image l) level (edges_of image b) w
     unfolding map_loaded_of read_of map_read lent.block_at lent_of
     child_loaded = sym (child_is ∙ rw ex)
@@ -91,7 +89,7 @@ module _ (image : List ℕ) (l : Lent) (b : Edges) (level a w : ℕ) (lo up : Li
     pub child_sound : l.size ≤ 65536 → MapSound image l.size (record { at = a; node = v })
     unfolding parsed
     child_sound m =
-        let p : Place = record { root = false; oid = a; parent = level; ksize = 16; vsize = 16; bounded = b.upper.some } in
+        let p : Place = record { root = false; oid = a; parent = level; ksize = 16; vsize = 16; bounded = bounded } in
         let g : Accepted pair p lo up (window (a * l.size) l.size image) v = load_accepts image l pair a p lo up x v e ex m in
         record {
           inside = load_inside image l pair a p lo up x v e ex;
@@ -100,14 +98,19 @@ module _ (image : List ℕ) (l : Lent) (b : Edges) (level a w : ℕ) (lo up : Li
           vsize = ap (λ (n : Node). n.vsize) g.is;
         }
 
-pub sound_at : (image : List ℕ) (size : ℕ) (x : MapLoaded) (d : MapNode) → x ≡ loaded.At d → MapSoundAfter image size x → MapSound image size d
+pub sound_at : (image : List ℕ) (size : ℕ) (x : std.Result MapNode Refusal) (d : MapNode) → x ≡ Ok d → MapSoundAfter image size x
+    → MapSound image size d
 sound_at image size x d q r = subst (MapSoundAfter image size) q r
 
-pub spot_sound : (image : List ℕ) (size : ℕ) (x : Spotted) (d : MapNode) (i : ℕ) → x ≡ spotted.At d i → SpottedIn image size x → MapSound image size d
-spot_sound image size x d i q r = (subst (SpottedIn image size) q r).0
+pub found_in : (image : List ℕ) (size : ℕ) (x : std.Result (Option Spotted) Refusal) (s : Option Spotted) → x ≡ Ok s → SpottedIn image size x
+    → FoundIn image size s
+found_in image size x s q r = subst (SpottedIn image size) q r
 
-pub spot_index : (image : List ℕ) (size : ℕ) (x : Spotted) (d : MapNode) (i : ℕ) → x ≡ spotted.At d i → SpottedIn image size x → i < d.node.nkeys
-spot_index image size x d i q r = (subst (SpottedIn image size) q r).1
+pub spot_sound : (image : List ℕ) (size : ℕ) (x : Option Spotted) (s : Spotted) → x ≡ Some s → FoundIn image size x → MapSound image size s.node
+spot_sound image size x s q r = (subst (FoundIn image size) q r).0
+
+pub spot_index : (image : List ℕ) (size : ℕ) (x : Option Spotted) (s : Spotted) → x ≡ Some s → FoundIn image size x → s.index < s.node.node.nkeys
+spot_index image size x s q r = (subst (FoundIn image size) q r).1
 
 -- ---- one entry of a node
 
@@ -135,18 +138,19 @@ module _ (image : List ℕ) (l : Lent) (d : MapNode) (b : Edges) (level i : ℕ)
   pub last_index : (d.node.nkeys ≡ 0 → ⊥) → i < d.node.nkeys
   last_index h = omega arith
 
-  pub last_none : level ≡ 0 → d.node.nkeys ≡ 0 → spotted_of image l.size spotted.None ≡ map_last level (lent_of image l)
+  pub last_none : level ≡ 0 → d.node.nkeys ≡ 0 → spotted_of image l.size (Ok None) ≡ map_last level (lent_of image l)
       (map_read image l.size d) (edges_of image b)
-  unfolding spotted_of map_last last_of
+  unfolding spotted_of found_of map_last last_of
   last_none z h =
       let c : length (map_entries image l.size d) ≤ length (map_entries image l.size d) - 1 = omega (arith, counts image l.size d) in
       let g : drop (length (map_entries image l.size d) - 1) (map_entries image l.size d) ≡ [] = drop_of_length-le
       (map_entries image l.size d) c in
       rw (z, entries_of_lem image l.size d, g)
 
-  pub last_here : level ≡ 0 → (d.node.nkeys ≡ 0 → ⊥) → spotted_of image l.size (spotted.At d i) ≡ map_last level (lent_of image l)
+  pub last_here : level ≡ 0 → (d.node.nkeys ≡ 0 → ⊥) → spotted_of image l.size (Ok (Some (record { node = d; index = i })))
+      ≡ map_last level (lent_of image l)
       (map_read image l.size d) (edges_of image b)
-  unfolding spotted_of map_last last_of
+  unfolding spotted_of found_of map_last last_of
   last_here z h =
       let c : length (map_entries image l.size d) ≡ d.node.nkeys = counts image l.size d in
       let j : length (map_entries image l.size d) - 1 ≡ i = omega arith in
@@ -154,7 +158,7 @@ module _ (image : List ℕ) (l : Lent) (d : MapNode) (b : Edges) (level i : ℕ)
       one_of (map_entries image l.size d) i (record { key = []; value = ghost }) (omega arith) (omega arith) in
       rw (z, entries_of_lem image l.size d, j, g, entry_of image l.size d i (last_index h))
 
-  module _ (hl : level ≡ 0 → ⊥) (inner : Edges) (got : MapLoaded)
+  module _ (hl : level ≡ 0 → ⊥) (inner : Edges) (got : std.Result MapNode Refusal)
       (en : edges_of image inner ≡ child_bounds pair (edges_of image b) (map_entries image l.size d) i)
       (eg : map_loaded_of image l.size got ≡ map_child_at (lent_of image l) d.node.level (edges_of image inner)
       (disk_number (val_at (map_entries image l.size d) i))) where
@@ -166,12 +170,13 @@ module _ (image : List ℕ) (l : Lent) (d : MapNode) (b : Edges) (level i : ℕ)
         let j : length (map_entries image l.size d) - 1 ≡ i = omega (arith, counts image l.size d) in
         ap (λ (n : ℕ). map_last n (lent_of image l) (map_read image l.size d) (edges_of image b)) z ∙ rw (j, eg, en)
 
-    pub last_refused : (x : ℕ) → got ≡ loaded.Refused x → spotted_of image l.size (spotted.Refused x) ≡ map_last level (lent_of image l)
+    pub last_refused : (x : Refusal) → got ≡ Err x → spotted_of image l.size (Err x) ≡ map_last level (lent_of image l)
         (map_read image l.size d) (edges_of image b)
-    unfolding spotted_of map_loaded_of
+    unfolding spotted_of found_of map_loaded_of
     last_refused x q = sym (last_step ∙ rw q)
 
-    pub last_down : (c : MapNode) (r : Spotted) → got ≡ loaded.At c → spotted_of image l.size r ≡ map_last (level - 1) (lent_of image l)
+    pub last_down : (c : MapNode) (r : std.Result (Option Spotted) Refusal) → got ≡ Ok c
+        → spotted_of image l.size r ≡ map_last (level - 1) (lent_of image l)
         (map_read image l.size c) (edges_of image inner)
         → spotted_of image l.size r ≡ map_last level (lent_of image l) (map_read image l.size d) (edges_of image b)
     unfolding map_loaded_of
@@ -180,26 +185,25 @@ module _ (image : List ℕ) (l : Lent) (d : MapNode) (b : Edges) (level i : ℕ)
 -- ---- leftward
 
 module _ (image : List ℕ) (l : Lent) (d : MapNode) (b : Edges) (key : List ℕ) (i level : ℕ) where
-  pub left_first : i ≡ 0 → spotted_of image l.size spotted.None ≡ leftward level (lent_of image l) (map_read image l.size d)
+  pub left_first : i ≡ 0 → spotted_of image l.size (Ok None) ≡ leftward level (lent_of image l) (map_read image l.size d)
       (edges_of image b) key i
-  unfolding spotted_of leftward
+  unfolding spotted_of found_of leftward
   left_first z = sym (rw z)
 
-  module _ (here : Edge) (k : List ℕ) (t : Bool) (h : i ≡ 0 → ⊥) (eh : edge_of image here ≡ key_at (map_entries image l.size d) i ∷ [])
-      (ek : k ≡ bound_key (edge_of image here)) (et : t ≡ less pair key k) where
+  module _ (here : Edge) (k : List ℕ) (t : Bool) (h : i ≡ 0 → ⊥) (eh : key_of image here ≡ key_at (map_entries image l.size d) i)
+      (ek : k ≡ key_of image here) (et : t ≡ less pair key k) where
     before : t ≡ less pair key (key_at (map_read image l.size d).entries i)
-    unfolding bound_key
-    before = rw (entries_of_lem image l.size d) (et ∙ ap (less pair key) (ek ∙ ap bound_key eh))
+    before = rw (entries_of_lem image l.size d) (et ∙ ap (less pair key) (ek ∙ eh))
 
     more : ltb 0 i ≡ true
     more = lt-ltb 0 i (omega arith)
 
-    pub left_before : t ≡ true → spotted_of image l.size spotted.None ≡ leftward level (lent_of image l) (map_read image l.size d)
+    pub left_before : t ≡ true → spotted_of image l.size (Ok None) ≡ leftward level (lent_of image l) (map_read image l.size d)
         (edges_of image b) key i
-    unfolding spotted_of leftward
+    unfolding spotted_of found_of leftward
     left_before q = let z : less pair key (key_at (map_read image l.size d).entries i) ≡ true = sym before ∙ q in sym (rw (more, z))
 
-    module _ (q : t ≡ false) (inner : Edges) (got : MapLoaded)
+    module _ (q : t ≡ false) (inner : Edges) (got : std.Result MapNode Refusal)
         (en : edges_of image inner ≡ child_bounds pair (edges_of image b) (map_entries image l.size d) (i - 1))
         (eg : map_loaded_of image l.size got ≡ map_child_at (lent_of image l) d.node.level (edges_of image inner)
         (disk_number (val_at (map_entries image l.size d) (i - 1)))) where
@@ -214,12 +218,13 @@ module _ (image : List ℕ) (l : Lent) (d : MapNode) (b : Edges) (key : List ℕ
           let z : less pair key (key_at (map_read image l.size d).entries i) ≡ false = sym before ∙ q in
           rw (more, z, child_of_lem, entries_of_lem image l.size d, en)
 
-      pub left_refused : (x : ℕ) → got ≡ loaded.Refused x → spotted_of image l.size (spotted.Refused x) ≡ leftward level (lent_of image l)
+      pub left_refused : (x : Refusal) → got ≡ Err x → spotted_of image l.size (Err x) ≡ leftward level (lent_of image l)
           (map_read image l.size d) (edges_of image b) key i
-      unfolding spotted_of map_loaded_of
+      unfolding spotted_of found_of map_loaded_of
       left_refused x g = sym (left_step ∙ rw g)
 
-      pub left_down : (c : MapNode) (r : Spotted) → got ≡ loaded.At c → spotted_of image l.size r ≡ map_last level (lent_of image l)
+      pub left_down : (c : MapNode) (r : std.Result (Option Spotted) Refusal) → got ≡ Ok c
+          → spotted_of image l.size r ≡ map_last level (lent_of image l)
           (map_read image l.size c) (edges_of image inner)
           → spotted_of image l.size r ≡ leftward level (lent_of image l) (map_read image l.size d) (edges_of image b) key i
       unfolding map_loaded_of
@@ -244,14 +249,15 @@ module _ (image : List ℕ) (l : Lent) (d : MapNode) (b : Edges) (key block : Li
   pub floor_index : (n ≡ 0 → ⊥) → i < d.node.nkeys
   floor_index h = omega (arith, few)
 
-  pub floor_none : level ≡ 0 → n ≡ 0 → spotted_of image l.size spotted.None ≡ map_floor level (lent_of image l) (map_read image l.size d)
+  pub floor_none : level ≡ 0 → n ≡ 0 → spotted_of image l.size (Ok None) ≡ map_floor level (lent_of image l) (map_read image l.size d)
       (edges_of image b) key
-  unfolding spotted_of map_floor last_not_above
+  unfolding spotted_of found_of map_floor last_not_above
   floor_none z h = let y : not_above pair key (map_entries image l.size d) ≡ 0 = sym not_above_lem ∙ h in rw (z, entries_of_lem image l.size d, y)
 
-  pub floor_here : level ≡ 0 → (n ≡ 0 → ⊥) → spotted_of image l.size (spotted.At d i) ≡ map_floor level (lent_of image l) (map_read image l.size d)
+  pub floor_here : level ≡ 0 → (n ≡ 0 → ⊥) → spotted_of image l.size (Ok (Some (record { node = d; index = i })))
+      ≡ map_floor level (lent_of image l) (map_read image l.size d)
       (edges_of image b) key
-  unfolding spotted_of map_floor last_not_above
+  unfolding spotted_of found_of map_floor last_not_above
   floor_here z h =
       let es : List Entry = map_entries image l.size d in
       let none : Entry = record { key = []; value = ghost } in
@@ -262,7 +268,7 @@ module _ (image : List ℕ) (l : Lent) (d : MapNode) (b : Edges) (key block : Li
       let y : get_or (take n es) i none ≡ get_or es i none = get_or-take n es i none u in
       rw (z, entries_of_lem image l.size d, ← not_above_lem, ← ei, g, y, entry_of image l.size d i (floor_index h))
 
-  module _ (hl : level ≡ 0 → ⊥) (inner : Edges) (got : MapLoaded)
+  module _ (hl : level ≡ 0 → ⊥) (inner : Edges) (got : std.Result MapNode Refusal)
       (ec : edges_of image inner ≡ child_bounds pair (edges_of image b) (map_entries image l.size d) i)
       (eg : map_loaded_of image l.size got ≡ map_child_at (lent_of image l) d.node.level (edges_of image inner)
       (disk_number (val_at (map_entries image l.size d) i))) where
@@ -278,12 +284,12 @@ module _ (image : List ℕ) (l : Lent) (d : MapNode) (b : Edges) (key block : Li
         let z : level ≡ suc (level - 1) = omega arith in
         ap (λ (m : ℕ). map_floor m (lent_of image l) (map_read image l.size d) (edges_of image b) key) z ∙ rw (way_is, eg, ec)
 
-    pub floor_refused : (x : ℕ) → got ≡ loaded.Refused x → spotted_of image l.size (spotted.Refused x) ≡ map_floor level (lent_of image l)
+    pub floor_refused : (x : Refusal) → got ≡ Err x → spotted_of image l.size (Err x) ≡ map_floor level (lent_of image l)
         (map_read image l.size d) (edges_of image b) key
-    unfolding spotted_of map_loaded_of
+    unfolding spotted_of found_of map_loaded_of
     floor_refused x q = sym (floor_step ∙ rw q)
 
-    module _ (c : MapNode) (q : got ≡ loaded.At c) (found : Spotted)
+    module _ (c : MapNode) (q : got ≡ Ok c) (found : std.Result (Option Spotted) Refusal)
         (ef : spotted_of image l.size found ≡ map_floor (level - 1) (lent_of image l) (map_read image l.size c) (edges_of image inner) key) where
       floor_next : map_floor level (lent_of image l) (map_read image l.size d) (edges_of image b) key
           ≡ (spotted_of image l.size found >>= λ e. or_else e
@@ -291,18 +297,20 @@ module _ (image : List ℕ) (l : Lent) (d : MapNode) (b : Edges) (key block : Li
       unfolding map_loaded_of
       floor_next = floor_step ∙ rw (q, ef)
 
-      pub floor_below : (x : ℕ) → found ≡ spotted.Refused x → spotted_of image l.size (spotted.Refused x) ≡ map_floor level (lent_of image l)
+      pub floor_below : (x : Refusal) → found ≡ Err x → spotted_of image l.size (Err x) ≡ map_floor level (lent_of image l)
           (map_read image l.size d) (edges_of image b) key
-      unfolding spotted_of
+      unfolding spotted_of found_of
       floor_below x f = sym (floor_next ∙ rw f)
 
-      pub floor_found : (e : MapNode) (j : ℕ) → found ≡ spotted.At e j → spotted_of image l.size (spotted.At e j) ≡ map_floor level (lent_of image l)
+      pub floor_found : (e : Option Spotted) (s : Spotted) → found ≡ Ok e → e ≡ Some s
+          → spotted_of image l.size (Ok (Some s)) ≡ map_floor level (lent_of image l)
           (map_read image l.size d) (edges_of image b) key
-      unfolding spotted_of or_else
-      floor_found e j f = sym (floor_next ∙ rw f)
+      unfolding spotted_of found_of or_else
+      floor_found e s f g = sym (floor_next ∙ rw (f, g))
 
-      pub floor_left : (r : Spotted) → found ≡ spotted.None → spotted_of image l.size r ≡ leftward (level - 1) (lent_of image l)
+      pub floor_left : (e : Option Spotted) (r : std.Result (Option Spotted) Refusal) → found ≡ Ok e → e ≡ None
+          → spotted_of image l.size r ≡ leftward (level - 1) (lent_of image l)
           (map_read image l.size d) (edges_of image b) key i
           → spotted_of image l.size r ≡ map_floor level (lent_of image l) (map_read image l.size d) (edges_of image b) key
-      unfolding spotted_of or_else
-      floor_left r f e = sym (floor_next ∙ rw f (sym e))
+      unfolding spotted_of found_of or_else
+      floor_left e r f g h = sym (floor_next ∙ rw (f, g) (sym h))

@@ -1,14 +1,15 @@
 -- Laws of the object map's nodes, read in the image: keys, numbers, bounds. Assumes nothing.
-use Rattle.std.specs.Prelude.{◌≡◌, refl, Bool, cond, not, length, get_or, take, drop}
+use Rattle.node.specs.laws.base.Bytes.{Bytes, bytes_window}
+use Rattle.std.specs.Prelude.{◌≡◌, refl, Bool, cond, length, get_or, take, drop}
 use Rattle.std.proofs.Math.Path.{sym, ap}
-use Rattle.std.proofs.Common.{◌∙◌, zero-add, mul-le-mul_right, mul_comm}
+use Rattle.std.proofs.Common.{subst, ◌∙◌, zero-add, mul-le-mul_right, mul_comm}
 use mathlib.Core.List.{List, [], ◌∷◌}
 use Rattle.std.proofs.Math.Bool.{true, false}
 use Prim.Native.Nat.{ℕ, suc, ◌+◌, ◌-◌, ◌*◌, ◌/◌, ◌%◌, ◌≤◌, ◌<◌}
 use native.Mathlib.Omega.{arith}
 use Rattle.std.proofs.Math.Nat.{mod-add-div}
 use Rattle.std.proofs.Math.ListN.{get_or-eq_default}
-use borrow.Author.Tests.{le-ltb, lt-ltb, not-true, not-false}
+use borrow.Author.Tests.{le-ltb, lt-ltb}
 use Rattle.node.specs.Bytes.{window}
 use Rattle.node.specs.laws.base.Seal.{length_window, window_window}
 use Rattle.node.specs.Order.{pair, less}
@@ -18,13 +19,11 @@ use Rattle.node.specs.Read.{read_node, read_of, span_at, entry_at, entries_from}
 use Rattle.node.specs.internal.ReadSteps.{Laid, Sound}
 use Rattle.node.specs.Slot.{value_means, child_means}
 use Rattle.node.specs.laws.read.Read.{part_window}
-use Rattle.node.specs.laws.read.Keys.{sound_key, key_of}
+use Rattle.node.specs.laws.read.Keys.{sound_key, key_of as span_key}
 use Rattle.node.specs.laws.read.Accepted.{at_from}
 use Rattle.node.specs.declared.read.Node.{Node}
 use Rattle.node.specs.declared.read.Span.{Span}
 use Rattle.node.specs.declared.read.Place.{Place}
-use Rattle.node.specs.declared.read.Read.{Read}
-use Rattle.node.specs.declared.read.Read.TheVariants as read
 use Rattle.node.specs.declared.val.Val as Held
 use Rattle.node.specs.declared.val.Val.TheVariants as held
 use Rattle.node.specs.declared.val.Child as Child
@@ -33,11 +32,15 @@ use Rattle.node.specs.laws.read.Loaded.{entries_length}
 use Rattle.tree.specs.Lent as lent
 use Rattle.tree.specs.Lent.{lent_of}
 use Rattle.tree.specs.Load.{bound_key, disk_number, tighter_lower, tighter_upper, child_bounds}
-use Rattle.tree.specs.internal.Map.{load_at, edge_of, edges_of, EdgeIn, MapSound, map_entries}
+use Rattle.tree.specs.internal.Map.{load_at, edge_of, edges_of, key_of, KeyIn, EdgeIn, MapSound, map_entries}
 use Rattle.tree.specs.declared.lent.Lent.{Lent}
 use Rattle.tree.specs.declared.map.MapNode.{MapNode}
 use Rattle.tree.specs.declared.map.Edge.{Edge}
 use Rattle.tree.specs.declared.map.Edges.{Edges}
+use Rattle.std.specs.Prelude as std
+use Rattle.std.specs.Prelude.{Err, Some, None, Option}
+use Rattle.node.specs.declared.refusal.Refusal.{Refusal}
+use Rattle.node.specs.declared.refusal.Refusal.TheVariants as is
 
 -- ---- a block
 
@@ -51,6 +54,10 @@ block_room len size a h =
 pub block_at_lem : (image : List ℕ) (l : Lent) (a : ℕ) → window (a * l.size) l.size image ≡ lent.block_at (lent_of image l) a
 unfolding lent.block_at lent_of
 block_at_lem image l a = refl
+
+-- a block's bytes are bytes
+pub block_known : (image : List ℕ) (at size : ℕ) (block : List ℕ) → Bytes image → block ≡ window at size image → Bytes block
+block_known image at size block h e = rw e (bytes_window at size image h)
 
 module _ (image : List ℕ) (size a : ℕ) (h : a < length image / size) (b : List ℕ) (e : b ≡ window (a * size) size image) where
   pub block_long : length b ≡ size
@@ -67,12 +74,12 @@ module _ (image : List ℕ) (size a : ℕ) (h : a < length image / size) (b : Li
   block_most m = omega (arith, block_long)
 
 module _ (image : List ℕ) (l : Lent) (o a : ℕ) (p : Place) (lower upper : List ℕ) where
-  pub load_out : length image / l.size ≤ a → read_of (lent.block_at (lent_of image l) a) (read.Refused 2)
+  pub load_out : length image / l.size ≤ a → read_of (lent.block_at (lent_of image l) a) (Err is.Address)
       ≡ load_at (lent_of image l) o p lower upper a
   unfolding load_at lent.in_image lent.blocks lent_of read_of
   load_out h = sym (rw (le-ltb a (length image / l.size) h))
 
-  pub load_in : (x : Read) (b : List ℕ) → a < length image / l.size → b ≡ window (a * l.size) l.size image
+  pub load_in : (x : std.Result Node Refusal) (b : List ℕ) → a < length image / l.size → b ≡ window (a * l.size) l.size image
       → read_of b x ≡ read_node o p lower upper b
       → read_of (lent.block_at (lent_of image l) a) x ≡ load_at (lent_of image l) o p lower upper a
   unfolding load_at lent.in_image lent.blocks lent.block_at lent_of
@@ -80,14 +87,21 @@ module _ (image : List ℕ) (l : Lent) (o a : ℕ) (p : Place) (lower upper : Li
 
 -- ---- the key of a bound
 
-module _ (image : List ℕ) (e : Edge) where
-  pub edge_none : not e.some ≡ true → [] ≡ bound_key (edge_of image e)
+module _ (image : List ℕ) (b : Option Edge) where
+  pub edge_none : b ≡ None → [] ≡ bound_key (edge_of image b)
   unfolding bound_key edge_of
-  edge_none h = rw (not-true e.some h)
+  edge_none h = rw h
 
-  pub edge_some : not e.some ≡ false → take (e.at + e.len - e.at) (drop e.at image) ≡ bound_key (edge_of image e)
-  unfolding bound_key edge_of
-  edge_some h = rw (not-false e.some h) (part_window image e.at e.len)
+  module _ (e : Edge) (h : b ≡ Some e) where
+    pub edge_some : (k : List ℕ) → k ≡ key_of image e → k ≡ bound_key (edge_of image b)
+    unfolding bound_key edge_of
+    edge_some k q = q ∙ sym (rw h)
+
+    pub edge_some_in : EdgeIn image b → KeyIn image e
+    edge_some_in q = subst (EdgeIn image) h q
+
+pub key_part : (image : List ℕ) (e : Edge) → take (e.at + e.len - e.at) (drop e.at image) ≡ key_of image e
+key_part image e = part_window image e.at e.len
 
 -- ---- an entry
 
@@ -98,12 +112,12 @@ module _ (image : List ℕ) (size : ℕ) (d : MapNode) (i : ℕ) where
       sym (get_or-eq_default (entries_from d.node (window (d.at * size) size image) 0 d.node.nkeys) (record { key = []; value = ghost })
       (omega (arith, entries_length d.node (window (d.at * size) size image) 0 d.node.nkeys)))
 
-  pub edge_past : d.node.nkeys ≤ i → edge_of image (record { some = true; at = 0; len = 0 }) ≡ key_at (map_entries image size d) i ∷ []
-  unfolding edge_of window key_at
-  edge_past h = ap (λ (x : Entry). x.key ∷ []) (past h)
+  pub edge_past : d.node.nkeys ≤ i → key_of image (record { at = 0; len = 0 }) ≡ key_at (map_entries image size d) i
+  unfolding window key_at
+  edge_past h = ap (λ (x : Entry). x.key) (past h)
 
-  pub edge_past_in : EdgeIn image (record { some = true; at = 0; len = 0 })
-  edge_past_in = record { within = omega arith }
+  pub edge_past_in : KeyIn image (record { at = 0; len = 0 })
+  edge_past_in = omega arith
 
   pub number_past : d.node.nkeys ≤ i → 0 ≡ disk_number (val_at (map_entries image size d) i)
   unfolding val_at disk_number
@@ -140,15 +154,14 @@ module _ (image : List ℕ) (size : ℕ) (d : MapNode) (i : ℕ) where
         pub edge_room : d.at * size + s.key + s.klen ≤ length image
         edge_room = omega (arith, key_inside, map_room)
 
-        pub edge_found : edge_of image (record { some = true; at = d.at * size + s.key; len = s.klen }) ≡ key_at (map_entries image size d) i ∷ []
-        unfolding edge_of
+        pub edge_found : key_of image (record { at = d.at * size + s.key; len = s.klen }) ≡ key_at (map_entries image size d) i
         edge_found =
             let w : window s.key s.klen b ≡ window (d.at * size + s.key) s.klen image = rw eb
             (window_window (d.at * size) size image s.key s.klen key_inside) in
-            ap (λ (k : List ℕ). k ∷ []) (sym w ∙ key_of d.node b i s es ∙ entry_key)
+            sym w ∙ span_key d.node b i s es ∙ entry_key
 
-        pub edge_found_in : EdgeIn image (record { some = true; at = d.at * size + s.key; len = s.klen })
-        edge_found_in = record { within = edge_room }
+        pub edge_found_in : KeyIn image (record { at = d.at * size + s.key; len = s.klen })
+        edge_found_in = edge_room
 
       module _ (x : Held.Val) (ev : value_means b x ≡ (entry_at d.node b i).value) where
         pub number_ghost : x ≡ held.Ghost → 0 ≡ disk_number (val_at (map_entries image size d) i)
@@ -173,9 +186,6 @@ module _ (image : List ℕ) (size : ℕ) (d : MapNode) (i : ℕ) where
 -- ---- keys that are not above a key: i of them passed
 
 module _ (v : Node) (b key : List ℕ) (n i : ℕ) where
-  pub above_start : 0 + not_above pair key (entries_from v b 0 (n - 0)) ≡ not_above pair key (entries_from v b 0 n)
-  above_start = let z : n - 0 ≡ n = omega arith in rw z (zero-add (not_above pair key (entries_from v b 0 n)))
-
   module _ (inv : i + not_above pair key (entries_from v b i (n - i)) ≡ not_above pair key (entries_from v b 0 n)) where
     pub above_end : n ≤ i → i ≤ n → n ≡ not_above pair key (entries_from v b 0 n)
     unfolding entries_from not_above
@@ -190,7 +200,7 @@ module _ (v : Node) (b key : List ℕ) (n i : ℕ) where
       unfolding entries_from not_above
       one =
           let z : n - i ≡ suc (n - suc i) = omega arith in
-          let y : t ≡ less pair key (entry_at v b i).key = et ∙ ap (less pair key) (ek ∙ key_of v b i s es) in
+          let y : t ≡ less pair key (entry_at v b i).key = et ∙ ap (less pair key) (ek ∙ span_key v b i s es) in
           rw (z, ← y)
 
       pub above_here : t ≡ true → i ≡ not_above pair key (entries_from v b 0 n)
@@ -204,54 +214,45 @@ module _ (v : Node) (b key : List ℕ) (n i : ℕ) where
 
 -- ---- bounds
 
-module _ (image : List ℕ) (old key : Edge) where
-  pub lower_first : not old.some ≡ true → (k : List ℕ) → edge_of image key ≡ k ∷ [] → edge_of image key ≡ tighter_lower pair (edge_of image old) k
+module _ (image : List ℕ) (old : Option Edge) (key : Edge) where
+  pub lower_first : old ≡ None → edge_of image (Some key) ≡ tighter_lower pair (edge_of image old) (key_of image key)
   unfolding edge_of tighter_lower
-  lower_first h k e = rw (not-true old.some h) e
+  lower_first h = sym (rw h)
 
-  pub upper_first : not old.some ≡ true → (k : List ℕ) → edge_of image key ≡ k ∷ [] → edge_of image key ≡ tighter_upper pair (edge_of image old) k
+  pub upper_first : old ≡ None → edge_of image (Some key) ≡ tighter_upper pair (edge_of image old) (key_of image key)
   unfolding edge_of tighter_upper
-  upper_first h k e = rw (not-true old.some h) e
+  upper_first h = sym (rw h)
 
-  module _ (x y : List ℕ) (t : Bool) (h : not old.some ≡ false) (ex : x ≡ bound_key (edge_of image old))
-      (ey : y ≡ bound_key (edge_of image key)) where
-    same_key_lem : (k : List ℕ) → edge_of image key ≡ k ∷ [] → y ≡ k
-    unfolding bound_key
-    same_key_lem k e = ey ∙ ap bound_key e
+  module _ (e : Edge) (h : old ≡ Some e) (x y : List ℕ) (t : Bool) (ex : x ≡ key_of image e) (ey : y ≡ key_of image key) where
+    old_is : edge_of image old ≡ x ∷ []
+    unfolding edge_of
+    old_is = rw h (ap (λ (z : List ℕ). z ∷ []) (sym ex))
 
-    same_old : edge_of image old ≡ x ∷ []
-    unfolding edge_of bound_key
-    same_old = rw (not-false old.some h) (ap (λ (z : List ℕ). z ∷ []) (sym (ex ∙ rw (not-false old.some h))))
+    pub lower_new : t ≡ less pair x y → t ≡ true → edge_of image (Some key) ≡ tighter_lower pair (edge_of image old) (key_of image key)
+    unfolding edge_of tighter_lower
+    lower_new et q = let z : less pair x (key_of image key) ≡ true = rw (← ey) (sym et ∙ q) in sym (rw (old_is, z))
 
-    pub lower_new : t ≡ less pair x y → t ≡ true → (k : List ℕ) → edge_of image key ≡ k ∷ [] → edge_of image key ≡ tighter_lower pair
-        (edge_of image old) k
+    pub lower_old : t ≡ less pair x y → t ≡ false → edge_of image old ≡ tighter_lower pair (edge_of image old) (key_of image key)
     unfolding tighter_lower
-    lower_new et q k e = let z : less pair x k ≡ true = rw (← same_key_lem k e) (sym et ∙ q) in rw (same_old, z) e
+    lower_old et q = let z : less pair x (key_of image key) ≡ false = rw (← ey) (sym et ∙ q) in rw (old_is, z)
 
-    pub lower_old : t ≡ less pair x y → t ≡ false → (k : List ℕ) → edge_of image key ≡ k ∷ [] → edge_of image old ≡ tighter_lower pair
-        (edge_of image old) k
-    unfolding tighter_lower
-    lower_old et q k e = let z : less pair x k ≡ false = rw (← same_key_lem k e) (sym et ∙ q) in rw (same_old, z)
+    pub upper_new : t ≡ less pair y x → t ≡ true → edge_of image (Some key) ≡ tighter_upper pair (edge_of image old) (key_of image key)
+    unfolding edge_of tighter_upper
+    upper_new et q = let z : less pair (key_of image key) x ≡ true = rw (← ey) (sym et ∙ q) in sym (rw (old_is, z))
 
-    pub upper_new : t ≡ less pair y x → t ≡ true → (k : List ℕ) → edge_of image key ≡ k ∷ [] → edge_of image key ≡ tighter_upper pair
-        (edge_of image old) k
+    pub upper_old : t ≡ less pair y x → t ≡ false → edge_of image old ≡ tighter_upper pair (edge_of image old) (key_of image key)
     unfolding tighter_upper
-    upper_new et q k e = let z : less pair k x ≡ true = rw (← same_key_lem k e) (sym et ∙ q) in rw (same_old, z) e
+    upper_old et q = let z : less pair (key_of image key) x ≡ false = rw (← ey) (sym et ∙ q) in rw (old_is, z)
 
-    pub upper_old : t ≡ less pair y x → t ≡ false → (k : List ℕ) → edge_of image key ≡ k ∷ [] → edge_of image old ≡ tighter_upper pair
-        (edge_of image old) k
-    unfolding tighter_upper
-    upper_old et q k e = let z : less pair k x ≡ false = rw (← same_key_lem k e) (sym et ∙ q) in rw (same_old, z)
-
-module _ (image : List ℕ) (size : ℕ) (d : MapNode) (b : Edges) (i : ℕ) (first lower : Edge)
-    (ef : edge_of image first ≡ key_at (map_entries image size d) i ∷ [])
-    (el : (k : List ℕ) → edge_of image first ≡ k ∷ [] → edge_of image lower ≡ tighter_lower pair (edge_of image b.lower) k) where
+module _ (image : List ℕ) (size : ℕ) (d : MapNode) (b : Edges) (i : ℕ) (first : Edge) (lower : Option Edge)
+    (ef : key_of image first ≡ key_at (map_entries image size d) i)
+    (el : edge_of image lower ≡ tighter_lower pair (edge_of image b.lower) (key_of image first)) where
   counts : length (map_entries image size d) ≡ d.node.nkeys
   unfolding map_entries
   counts = entries_length d.node (window (d.at * size) size image) 0 d.node.nkeys
 
   lowers : edge_of image lower ≡ tighter_lower pair (edge_of image b.lower) (key_at (map_entries image size d) i)
-  lowers = el (key_at (map_entries image size d) i) ef
+  lowers = el ∙ ap (tighter_lower pair (edge_of image b.lower)) ef
 
   last : length (map_entries image size d) ≤ suc i → edges_of image (record { lower = lower; upper = b.upper }) ≡ child_bounds pair (edges_of image b)
       (map_entries image size d) i
@@ -266,12 +267,12 @@ module _ (image : List ℕ) (size : ℕ) (d : MapNode) (b : Edges) (i : ℕ) (fi
       (map_entries image size d) i
   bounds_last h = last (omega (arith, counts))
 
-  pub bounds_inner : (next upper : Edge) → i + 1 < d.node.nkeys → edge_of image next ≡ key_at (map_entries image size d) (i + 1) ∷ []
-      → ((k : List ℕ) → edge_of image next ≡ k ∷ [] → edge_of image upper ≡ tighter_upper pair (edge_of image b.upper) k)
+  pub bounds_inner : (next : Edge) (upper : Option Edge) → i + 1 < d.node.nkeys → key_of image next ≡ key_at (map_entries image size d) (i + 1)
+      → edge_of image upper ≡ tighter_upper pair (edge_of image b.upper) (key_of image next)
       → edges_of image (record { lower = lower; upper = upper }) ≡ child_bounds pair (edges_of image b) (map_entries image size d) i
   unfolding edges_of child_bounds
   bounds_inner next upper h en eu =
       let z : i + 1 ≡ suc i = omega arith in
-      let y : edge_of image upper ≡ tighter_upper pair (edge_of image b.upper) (key_at (map_entries image size d) (i + 1)) = eu
-      (key_at (map_entries image size d) (i + 1)) en in
+      let y : edge_of image upper ≡ tighter_upper pair (edge_of image b.upper) (key_at (map_entries image size d) (i + 1)) =
+      eu ∙ ap (tighter_upper pair (edge_of image b.upper)) en in
       rw (lowers, y, z, lt-ltb (suc i) (length (map_entries image size d)) (omega (arith, counts)))

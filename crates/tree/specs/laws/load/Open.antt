@@ -19,8 +19,6 @@ use Rattle.node.specs.Slot.{MemNode}
 use Rattle.node.specs.declared.info.BTreeInfo.{BTreeInfo}
 use Rattle.node.specs.declared.read.Node.{Node}
 use Rattle.node.specs.declared.read.Place.{Place}
-use Rattle.node.specs.declared.read.Read.{Read}
-use Rattle.node.specs.declared.read.Read.TheVariants as read
 use Rattle.tree.specs.Lent as lent
 use Rattle.tree.specs.Lent.{is_size, blocks, sizes_hold, lent_of}
 use Rattle.tree.specs.State.{State}
@@ -42,19 +40,27 @@ use Rattle.tree.specs.laws.load.MapNode.{block_long, block_at_lem}
 use Rattle.tree.specs.laws.load.MapFloor.{load_inside, load_accepts}
 use Rattle.tree.specs.declared.editor.Tree.{Tree}
 use Rattle.tree.specs.declared.lent.Lent.{Lent}
-use Rattle.tree.specs.declared.lookup.Opened.{Opened}
-use Rattle.tree.specs.declared.lookup.Opened.TheVariants as opening
-use Rattle.tree.specs.declared.map.Address.{Address}
-use Rattle.tree.specs.declared.map.Address.TheVariants as address
+use Rattle.std.specs.Prelude as std
+use Rattle.std.specs.Prelude.{refl, Ok, Err, Some, None, Option, is_some, option_to_list}
+use Rattle.node.specs.declared.refusal.Refusal.{Refusal}
+use Rattle.node.specs.declared.refusal.Refusal.TheVariants as is
 
 -- a map is lent or not
-mapped_is : (image : List ℕ) (l : Lent) → leb 1 (length (lent_of image l).map) ≡ l.mapped
+mapped_in : (m : Option ℕ) → leb 1 (length (option_to_list m)) ≡ is_some m
+mapped_in None = refl
+mapped_in (Some a) = refl
+
+mapped_is : (image : List ℕ) (l : Lent) (by_id : Bool) → by_id ≡ is_some l.map → leb 1 (length (lent_of image l).map) ≡ by_id
 unfolding lent_of
-mapped_is image l = by_test l.mapped (λ t. rw t) (λ t. rw t)
+mapped_is image l by_id e = mapped_in l.map ∙ sym e
+
+few_in : (m : Option ℕ) → leb (length (option_to_list m)) 1 ≡ true
+few_in None = refl
+few_in (Some a) = refl
 
 map_few : (image : List ℕ) (l : Lent) → leb (length (lent_of image l).map) 1 ≡ true
 unfolding lent_of
-map_few image l = by_test l.mapped (λ t. rw t) (λ t. rw t)
+map_few image l = few_in l.map
 
 -- ---- room for slot 0
 
@@ -66,7 +72,7 @@ open_bytes slots size room h e = omega (arith, slots_below (4 * size) 0 (slots +
 
 -- ---- from the root's address on
 
-module _ (image : List ℕ) (l : Lent) (r order xid a : ℕ) (x : Read)
+module _ (image : List ℕ) (l : Lent) (r order xid a : ℕ) (x : std.Result Node Refusal)
     (e : read_of (lent.block_at (lent_of image l) a) x ≡ load_at (lent_of image l) order
     (record { root = true; oid = r; parent = 0; ksize = 0; vsize = 0; bounded = false }) [] [] a) where
   abbrev place : Place
@@ -78,22 +84,23 @@ module _ (image : List ℕ) (l : Lent) (r order xid a : ℕ) (x : Read)
   unfolding opened_root load_block load_at root_place unbounded bound_key
   root_is = rw e
 
-  pub open_refused : (k : ℕ) (heads bytes : List ℕ) → x ≡ read.Refused k → opened_of l.size heads bytes (opening.Refused k) ≡ opened_root
+  pub open_refused : (k : Refusal) (heads bytes : List ℕ) → x ≡ Err k → opened_of l.size heads bytes (Err k) ≡ opened_root
       (lent_of image l) r order xid a
   unfolding opened_of read_of
   open_refused k heads bytes ex = sym (root_is ∙ rw ex)
 
-  module _ (v : Node) (ex : x ≡ read.Loaded v) where
+  module _ (v : Node) (ex : x ≡ Ok v) where
     pub open_inside : a < length image / l.size
     open_inside = load_inside image l order a place [] [] x v e ex
 
-    module _ (t : Bool) (et : t ≡ root_holds (lent_of image l) a l.mapped (on_disk v (lent.block_at (lent_of image l) a))) where
-      pub open_root : (heads bytes : List ℕ) → not t ≡ true → opened_of l.size heads bytes (opening.Refused 10) ≡ opened_root
+    module _ (by_id t : Bool) (eb : by_id ≡ is_some l.map)
+        (et : t ≡ root_holds (lent_of image l) a by_id (on_disk v (lent.block_at (lent_of image l) a))) where
+      pub open_root : (heads bytes : List ℕ) → not t ≡ true → opened_of l.size heads bytes (Err is.Root) ≡ opened_root
           (lent_of image l) r order xid a
       unfolding opened_of read_of
       open_root heads bytes h =
-          let z : root_holds (lent_of image l) a l.mapped (on_disk v (lent.block_at (lent_of image l) a)) ≡ false = sym et ∙ not-true t h in
-          sym (root_is ∙ rw (ex, mapped_is image l, z))
+          let z : root_holds (lent_of image l) a by_id (on_disk v (lent.block_at (lent_of image l) a)) ≡ false = sym et ∙ not-true t h in
+          sym (root_is ∙ rw (ex, mapped_is image l by_id eb, z))
 
     module _ (m : l.size ≤ 65536) (block : List ℕ) (eb : block ≡ window (a * l.size) l.size image) where
       accepts : Accepted order place [] [] (window (a * l.size) l.size image) v
@@ -109,13 +116,14 @@ module _ (image : List ℕ) (l : Lent) (r order xid a : ℕ) (x : Read)
       unfolding data_space
       open_space = rw eb (omega (arith, accepts.space, open_long, ap length eb))
 
-      module _ (t : Bool) (et : t ≡ root_holds (lent_of image l) a l.mapped (on_disk v (lent.block_at (lent_of image l) a))) (h : not t ≡ false)
+      module _ (by_id t : Bool) (ed : by_id ≡ is_some l.map)
+          (et : t ≡ root_holds (lent_of image l) a by_id (on_disk v (lent.block_at (lent_of image l) a))) (h : not t ≡ false)
           (info : BTreeInfo) (ei : info ≡ info_at block) (heads bytes heads' bytes' : List ℕ)
-          (p : Wrote l.size heads bytes heads' bytes' 0 (adopted l.mapped a (on_disk v block))) where
+          (p : Wrote l.size heads bytes heads' bytes' 0 (adopted by_id a (on_disk v block))) where
         abbrev tree : Tree
-        tree = record { root = 0; used = 1; info = info; by_id = l.mapped; subtype = v.subtype; order = order; xid = xid }
+        tree = record { root = 0; used = 1; info = info; by_id = by_id; subtype = v.subtype; order = order; xid = xid }
 
-        one_node : nodes_of l.size heads' bytes' 1 ≡ adopted l.mapped a (on_disk v block) ∷ []
+        one_node : nodes_of l.size heads' bytes' 1 ≡ adopted by_id a (on_disk v block) ∷ []
         unfolding nodes_of nodes_from node_in
         one_node = ap (λ (n : MemNode). n ∷ []) p.node
 
@@ -123,16 +131,16 @@ module _ (image : List ℕ) (l : Lent) (r order xid a : ℕ) (x : Read)
         unfolding state_of opened_at on_disk
         state_is =
             let z : info ≡ info_at (lent.block_at (lent_of image l) a) = ei ∙ ap info_at (eb ∙ block_at_lem image l a) in
-            rw (one_node, mapped_is image l, z)
+            rw (one_node, mapped_is image l by_id ed, z)
 
         pub open_done : opened_of l.size heads' bytes'
-            (opening.Open (record { root = 0; used = 1; info = info; by_id = l.mapped; subtype = v.subtype; order = order; xid = xid }))
+            (Ok (record { root = 0; used = 1; info = info; by_id = by_id; subtype = v.subtype; order = order; xid = xid }))
             ≡ opened_root (lent_of image l) r order xid a
         unfolding opened_of read_of
         open_done =
-            let z : root_holds (lent_of image l) a l.mapped (on_disk v (lent.block_at (lent_of image l) a)) ≡ true = sym et ∙ not-false t h in
+            let z : root_holds (lent_of image l) a by_id (on_disk v (lent.block_at (lent_of image l) a)) ≡ true = sym et ∙ not-false t h in
             let w : on_disk v block ≡ on_disk v (lent.block_at (lent_of image l) a) = ap (on_disk v) (eb ∙ block_at_lem image l a) in
-            sym (root_is ∙ rw (ex, mapped_is image l, z, ← w, state_is))
+            sym (root_is ∙ rw (ex, mapped_is image l by_id ed, z, ← w, state_is))
 
         pub open_ready : 512 ≤ l.size → 1 ≤ l.slots → l.slots ≤ 4096 → length heads ≡ l.slots * 19 → length bytes ≡ (l.slots + l.slots) *
             (4 * l.size) → length heads' ≡ length heads → length bytes' ≡ length bytes
@@ -147,13 +155,13 @@ module _ (image : List ℕ) (l : Lent) (r order xid a : ℕ) (x : Read)
               within = omega arith;
               lies = λ k q. absurd (omega arith);
             } in
-            add_ready l.size l.slots heads bytes heads' bytes' 0 (adopted l.mapped a (on_disk v block))
-            (put_of l.size l.slots heads bytes heads' bytes' 0 (adopted l.mapped a (on_disk v block)) p) none some eh eb'
+            add_ready l.size l.slots heads bytes heads' bytes' 0 (adopted by_id a (on_disk v block))
+            (put_of l.size l.slots heads bytes heads' bytes' 0 (adopted by_id a (on_disk v block)) p) none some eh eb'
 
 -- ---- from 1 on
 
 module _ (image : List ℕ) (l : Lent) (r order xid : ℕ) (heads bytes : List ℕ) (t : Bool) (et : t ≡ sizes_hold (lent_of image l)) where
-  pub open_sizes : not t ≡ true → opened_of l.size heads bytes (opening.Refused 1) ≡ opened (lent_of image l) r order xid
+  pub open_sizes : not t ≡ true → opened_of l.size heads bytes (Err is.Lent) ≡ opened (lent_of image l) r order xid
   unfolding opened_of opened
   open_sizes h = sym (rw (← et, not-true t h))
 
@@ -189,20 +197,20 @@ module _ (image : List ℕ) (l : Lent) (r order xid : ℕ) (heads bytes : List �
     open_many = split.2
 
     module _ (u : Bool) (eu : u ≡ known order) where
-      pub open_order : not u ≡ true → opened_of l.size heads bytes (opening.Refused 1) ≡ opened (lent_of image l) r order xid
+      pub open_order : not u ≡ true → opened_of l.size heads bytes (Err is.Lent) ≡ opened (lent_of image l) r order xid
       unfolding opened_of opened
       open_order n = sym (rw (holds, ← eu, not-true u n))
 
-      module _ (n : not u ≡ false) (f : Address) (ef : address_at f ≡ address_of (lent_of image l) xid r) where
+      module _ (n : not u ≡ false) (f : std.Result ℕ Refusal) (ef : address_at f ≡ address_of (lent_of image l) xid r) where
         opened_is : opened (lent_of image l) r order xid ≡ (address_at f >>= opened_root (lent_of image l) r order xid)
         unfolding opened opened_root
         opened_is = rw (holds, ← eu, not-false u n, map_few image l, ← ef)
 
-        pub open_unmapped : (k : ℕ) → f ≡ address.Refused k → opened_of l.size heads bytes (opening.Refused k) ≡ opened (lent_of image l) r order xid
+        pub open_unmapped : (k : Refusal) → f ≡ Err k → opened_of l.size heads bytes (Err k) ≡ opened (lent_of image l) r order xid
         unfolding opened_of address_at
         open_unmapped k g = sym (opened_is ∙ rw g)
 
-        pub open_found : (a : ℕ) (y : Result State) → f ≡ address.At a → y ≡ opened_root (lent_of image l) r order xid a
+        pub open_found : (a : ℕ) (y : Result State) → f ≡ Ok a → y ≡ opened_root (lent_of image l) r order xid a
             → y ≡ opened (lent_of image l) r order xid
         unfolding address_at
         open_found a y g z = sym (opened_is ∙ rw g (sym z))
@@ -227,7 +235,7 @@ module _ (size slots : ℕ) (heads bytes : List ℕ) (t : Bool) (et : t ≡ room
 
 module _ (image : List ℕ) (l : Lent) (r order xid : ℕ) (heads bytes : List ℕ) where
   pub checked_sizes : (t : Bool) → t ≡ sizes_hold (lent_of image l) → not t ≡ true → (h b : List ℕ)
-      → opened_of l.size h b (opening.Refused 1) ≡ opened_in (lent_of image l) heads bytes r order xid
+      → opened_of l.size h b (Err is.Lent) ≡ opened_in (lent_of image l) heads bytes r order xid
   unfolding opened_of opened_in opened
   checked_sizes t et n h b =
       by_test (workspace_holds (lent_of image l).size (lent_of image l).slots 0 heads bytes)
@@ -239,7 +247,7 @@ module _ (image : List ℕ) (l : Lent) (r order xid : ℕ) (heads bytes : List �
     unfolding lent_of workspace_holds slots_hold room_holds
     room_is = by_test t (λ u. rw (← et, u)) (λ u. rw (← et, u))
 
-    pub checked_room : not t ≡ true → (h b : List ℕ) → opened_of l.size h b (opening.Refused 1) ≡ opened_in (lent_of image l) heads bytes r order xid
+    pub checked_room : not t ≡ true → (h b : List ℕ) → opened_of l.size h b (Err is.Lent) ≡ opened_in (lent_of image l) heads bytes r order xid
     unfolding opened_of opened_in
     checked_room n h b = sym (rw (room_is, not-true t n))
 
@@ -249,19 +257,19 @@ module _ (image : List ℕ) (l : Lent) (r order xid : ℕ) (heads bytes : List �
     checked_open n y e = sym (rw (room_is, not-false t n) (sym e))
 
 -- a tree that is open is one to be trusted, and leaves a workspace that the next call accepts
-pub opened_trusts : (image : List ℕ) (l : Lent) (r order xid : ℕ) (heads bytes : List ℕ) (x : Opened) → Bytes image
+pub opened_trusts : (image : List ℕ) (l : Lent) (r order xid : ℕ) (heads bytes : List ℕ) (x : std.Result Tree Refusal) → Bytes image
     → ReadyOpened l.size l.slots heads bytes x → opened_of l.size heads bytes x ≡ opened (lent_of image l) r order xid
     → OpenedTrusts image l heads bytes x
 unfolding opened_of lent_of
-opened_trusts image l r order xid heads bytes (opening.Refused k) b y e = tt
-opened_trusts image l r order xid heads bytes (opening.Open t) b y e =
+opened_trusts image l r order xid heads bytes (Err k) b y e = tt
+opened_trusts image l r order xid heads bytes (Ok t) b y e =
     record {
       ready = y;
       trust = (trusted_open (lent_of image l) r order xid b.below).at _ (sym e);
       roomy = (roomy_open (lent_of image l) r order xid).at _ (sym e);
     }
 
-pub opened_holds : (image : List ℕ) (l : Lent) (heads bytes : List ℕ) (x : Opened) → OpenedTrusts image l heads bytes x
+pub opened_holds : (image : List ℕ) (l : Lent) (heads bytes : List ℕ) (x : std.Result Tree Refusal) → OpenedTrusts image l heads bytes x
     → opened_leaves l.size l.slots heads bytes x
-opened_holds image l heads bytes (opening.Refused k) c = tt
-opened_holds image l heads bytes (opening.Open t) c = trusts_hold image l t heads bytes c
+opened_holds image l heads bytes (Err k) c = tt
+opened_holds image l heads bytes (Ok t) c = trusts_hold image l t heads bytes c

@@ -1,11 +1,10 @@
 -- Laws of the way: one for each turn and each way out. Assumes nothing.
-use Rattle.std.specs.Prelude.{◌≡◌, List, [], ◌∷◌, ◌++◌, false, get_or, set}
+use Rattle.std.specs.Prelude.{◌≡◌, List, [], ◌∷◌, ◌++◌, get_or, set}
 use Rattle.std.proofs.Math.Path.{refl, sym, ap}
 use Rattle.std.proofs.Common.{subst, ◌∙◌, append_assoc, add-one, get_or-set_same, get_or-set_other}
 use Prim.Native.Nat.{ℕ, zero, suc, ◌+◌, ◌-◌, ◌≤◌, ◌<◌}
 use native.Mathlib.Omega.{arith}
 use Rattle.std.proofs.Math.ListN.{length}
-use Rattle.node.specs.laws.base.Tests.{by_test, never}
 use Rattle.node.specs.Result.{Result, ok, refused, ◌>>=◌}
 use Rattle.node.specs.Entry.{Entry, disk, mem}
 use Rattle.node.specs.Find.{key_at, way_index, not_above}
@@ -24,13 +23,15 @@ use Rattle.tree.specs.internal.Bank.{node_in, live, Ready}
 use Rattle.tree.specs.laws.slots.Bank.{live_entries}
 use Rattle.tree.specs.internal.Tree.{loaded_of, ReadyAfter, bound_of, bounds_of, BoundIn, BoundsIn}
 use Rattle.tree.specs.laws.slots.Tree.{node_in_lem, node_out, used_nodes}
-use Rattle.tree.specs.internal.Way.{steps_of, onto, went_of, way_of}
+use Rattle.tree.specs.internal.Way.{steps_of, onto, walked_of, way_of}
 use Rattle.tree.specs.declared.editor.Tree.{Tree}
-use Rattle.tree.specs.declared.editor.Loaded.{Loaded}
-use Rattle.tree.specs.declared.editor.Loaded.TheVariants as loaded
-use Rattle.tree.specs.declared.way.Went.TheVariants as went
 use Rattle.tree.specs.declared.editor.Bound.{Bound}
 use Rattle.tree.specs.declared.editor.Bounds.{Bounds}
+use Rattle.std.specs.Prelude as std
+use Rattle.std.specs.Prelude.{Ok, Err, Some, None, Option}
+use Rattle.std.proofs.lemmas.Option.{IfSome_then}
+use Rattle.node.specs.Refusals.{number_of}
+use Rattle.node.specs.declared.refusal.Refusal.{Refusal}
 
 -- ---- the child taken
 
@@ -41,15 +42,9 @@ module _ (size : ℕ) (t : Tree) (heads bytes : List ℕ) (key : List ℕ) (n : 
 
   module _ (hn : n < t.used) (h : Head) (eh : h ≡ live (head_at heads n)) (l : List ℕ) (el : l ≡ slot_bytes size bytes n) (r : Last)
       (er : r ≡ last_in t.order key h.count l) where
-    index_is : r.count - 1 ≡ way_index t.order key (node_at (state_of size t heads bytes) n).entries
-    unfolding way_index last_in node_in
-    index_is = rw (node_in_lem size t heads bytes n hn, live_entries (head_at heads n) (slot_bytes size bytes n), er, eh, el)
-
-    pub index_none : r.count ≡ 0 → 0 ≡ way_index t.order key (node_at (state_of size t heads bytes) n).entries
-    index_none z = let e = index_is in omega arith
-
     pub index_some : r.count - 1 ≡ way_index t.order key (node_at (state_of size t heads bytes) n).entries
-    index_some = index_is
+    unfolding way_index last_in node_in
+    index_some = rw (node_in_lem size t heads bytes n hn, live_entries (head_at heads n) (slot_bytes size bytes n), er, eh, el)
 
 -- ---- bounds are the same after a load
 
@@ -63,14 +58,13 @@ key_of_keys (e ∷ es) (suc i) = key_of_keys es i
 pub same_keys : (xs ys : List Entry) (i : ℕ) → keys_of xs ≡ keys_of ys → key_at xs i ≡ key_at ys i
 same_keys xs ys i e = key_of_keys xs i ∙ ap (λ (z : List (List ℕ)). get_or z i []) e ∙ sym (key_of_keys ys i)
 
-bound_kept : (l : Lent) (s : State) (bs : load.Bounds) (n i : ℕ) (a : load.At) → load.load_child l s bs n i ≡ ok a → (b : Bound)
+bound_kept : (l : Lent) (s : State) (bs : load.Bounds) (n i : ℕ) (a : load.At) → load.load_child l s bs n i ≡ ok a → (b : Option Bound)
     → BoundIn (length s.nodes) b → bound_of a.state b ≡ bound_of s b
 unfolding bound_of
-bound_kept l s bs n i a e b h =
-    by_test b.some
-    (λ t. rw t (ap (λ (k : List ℕ). k ∷ []) (same_keys (node_at a.state b.slot).entries (node_at s b.slot).entries b.index
-    ((load_keeps l s bs n i a e).keys b.slot (h.slot t)))))
-    (λ t. rw t)
+bound_kept l s bs n i a e None h = refl
+bound_kept l s bs n i a e (Some b) h =
+    ap (λ (k : List ℕ). k ∷ []) (same_keys (node_at a.state b.slot).entries (node_at s b.slot).entries b.index
+    ((load_keeps l s bs n i a e).keys b.slot h))
 
 bounds_kept : (l : Lent) (s : State) (bs : load.Bounds) (n i : ℕ) (a : load.At) → load.load_child l s bs n i ≡ ok a → (b : Bounds)
     → BoundsIn (length s.nodes) b → bounds_of a.state b ≡ bounds_of s b
@@ -145,7 +139,10 @@ module _ (l : Lent) (s : State) (bs : load.Bounds) (n i d : ℕ) (key : List ℕ
         let u : n < length s.nodes = loaded_used l s bs n i a (sym e) in
         let m : length s.nodes ≤ length a.state.nodes = (load_keeps l s bs n i a (sym e)).more in
         let g : BoundsIn (length s.nodes) inner = f hb u in
-        record { lower = record { slot = λ q. omega (arith, g.lower.slot q) }; upper = record { slot = λ q. omega (arith, g.upper.slot q) } }
+        record {
+          lower = IfSome_then inner.lower g.lower (λ x h. omega arith);
+          upper = IfSome_then inner.upper g.upper (λ x h. omega arith);
+        }
 
 -- ---- as the code has it
 
@@ -154,27 +151,27 @@ unfolding onto
 onto_none (refused k) = refl
 onto_none (ok w) = refl
 
-pub way_start : (l : Lent) (s : State) (level n : ℕ) (key slots kids : List ℕ) (b : Bounds) → b.lower.some ≡ false → b.upper.some ≡ false
-    → onto (steps_of slots kids 0) (lookup.way_from level l s (bounds_of s b) n key) ≡ lookup.way_from level l s load.unbounded n key
+pub way_start : (l : Lent) (s : State) (level n : ℕ) (key slots kids : List ℕ)
+    → onto (steps_of slots kids 0) (lookup.way_from level l s (bounds_of s (record { lower = None; upper = None })) n key)
+    ≡ lookup.way_from level l s load.unbounded n key
 unfolding steps_of bounds_of bound_of load.unbounded
-way_start l s level n key slots kids b e f = onto_none (lookup.way_from level l s (bounds_of s b) n key) ∙ rw (e, f)
+way_start l s level n key slots kids = onto_none (lookup.way_from level l s load.unbounded n key)
 
-pub none_in_lem : (used : ℕ) (b : Bounds) → b.lower.some ≡ false → b.upper.some ≡ false → BoundsIn used b
-none_in_lem used b e f = record { lower = record { slot = λ q. never q e }; upper = record { slot = λ q. never q f } }
+pub none_in_lem : (used : ℕ) → BoundsIn used (record { lower = None; upper = None })
+none_in_lem used = record { lower = tt; upper = tt }
 
 module _ (l : Lent) (size : ℕ) (t : Tree) (heads bytes : List ℕ) (b inner : Bounds) (n i d k : ℕ) (key way kids : List ℕ) (whole : Result lookup.Way)
     (hd : 0 < d) (ei : i ≡ way_index t.order key (node_at (state_of size t heads bytes) n).entries)
     (inv : onto (steps_of way kids k) (lookup.way_from d l (state_of size t heads bytes) (bounds_of (state_of size t heads bytes) b) n key) ≡ whole)
-    (heads' bytes' : List ℕ) (x : Loaded)
+    (heads' bytes' : List ℕ) (x : std.Result (Tree × ℕ) Refusal)
     (e : loaded_of size heads' bytes' x ≡ load.load_child l (state_of size t heads bytes) (bounds_of (state_of size t heads bytes) b) n i) where
-  pub turn_refused : (y : ℕ) → x ≡ loaded.Refused y → (self : Tree) (ws ks : List ℕ)
-      → way_of size heads' bytes' (record { went = went.Refused y; tree = self; steps = 0; slots = ws; kids = ks }) ≡ whole
-  unfolding way_of went_of loaded_of state_of
-  turn_refused y q self ws ks =
-      way_refused l (state_of size t heads bytes) (bounds_of (state_of size t heads bytes) b) n i d key (steps_of way kids k) whole hd ei inv y
-      (ap (loaded_of size heads' bytes') (sym q) ∙ e)
+  pub turn_refused : (y : Refusal) → x ≡ Err y → way_of size heads' bytes' (Err y) ≡ whole
+  unfolding way_of loaded_of state_of
+  turn_refused y q =
+      way_refused l (state_of size t heads bytes) (bounds_of (state_of size t heads bytes) b) n i d key (steps_of way kids k) whole hd ei inv
+      (number_of y) (ap (loaded_of size heads' bytes') (sym q) ∙ e)
 
-  pub turn_more : (t' : Tree) (c : ℕ) → x ≡ loaded.At t' c → t.used ≤ t'.used
+  pub turn_more : (t' : Tree) (c : ℕ) → x ≡ Ok (t', c) → t.used ≤ t'.used
   unfolding loaded_of
   turn_more t' c q =
       let z : ok (record { state = state_of size t' heads' bytes'; slot = c }) ≡ load.load_child l (state_of size t heads bytes)
@@ -187,7 +184,7 @@ module _ (l : Lent) (size : ℕ) (t : Tree) (heads bytes : List ℕ) (b inner : 
         used_nodes size t' heads' bytes',
       )
 
-  module _ (t' : Tree) (c : ℕ) (q : x ≡ loaded.At t' c) (hb : BoundsIn t.used b)
+  module _ (t' : Tree) (c : ℕ) (q : x ≡ Ok (t', c)) (hb : BoundsIn t.used b)
       (ec : bounds_of (state_of size t heads bytes) inner ≡ load.child_bounds t.order (bounds_of (state_of size t heads bytes) b)
       (node_at (state_of size t heads bytes) n).entries i)
       (f : BoundsIn t.used b → n < t.used → BoundsIn t.used inner) where
@@ -225,14 +222,15 @@ module _ (l : Lent) (size : ℕ) (t : Tree) (heads bytes : List ℕ) (b inner : 
 pub way_end : (l : Lent) (size : ℕ) (t : Tree) (heads bytes : List ℕ) (bs : load.Bounds) (n d k : ℕ) (key way kids : List ℕ)
     (whole : Result lookup.Way)
     → d ≤ 0 → k < length way → k < length kids → onto (steps_of way kids k) (lookup.way_from d l (state_of size t heads bytes) bs n key) ≡ whole
-    → way_of size heads bytes (record { went = went.Arrived; tree = t; steps = k + 1; slots = set way k n; kids = set kids k 0 }) ≡ whole
-unfolding way_of went_of onto lookup.way_from
+    → way_of size heads bytes (Ok (record { tree = t; steps = k + 1; slots = set way k n; kids = set kids k 0 })) ≡ whole
+unfolding way_of walked_of onto lookup.way_from
 way_end l size t heads bytes bs n d k key way kids whole hd h g inv =
     let z : d ≡ 0 = omega arith in
     rw (steps_next way kids k n 0 h g) (ap (λ (m : ℕ). onto (steps_of way kids k) (lookup.way_from m l (state_of size t heads bytes) bs n key))
     (sym z)
     ∙ inv)
 
-pub ready_at : (size slots : ℕ) (heads bytes : List ℕ) (x : Loaded) (t : Tree) (c : ℕ) → x ≡ loaded.At t c → ReadyAfter size slots heads bytes x
+pub ready_at : (size slots : ℕ) (heads bytes : List ℕ) (x : std.Result (Tree × ℕ) Refusal) (t : Tree) (c : ℕ) → x ≡ Ok (t, c)
+    → ReadyAfter size slots heads bytes x
     → Ready size slots t.used heads bytes
 ready_at size slots heads bytes x t c q r = subst (ReadyAfter size slots heads bytes) q r

@@ -16,6 +16,8 @@ use Rattle.node.specs.laws.base.Bytes.{Bytes, bytes_drop}
 use Rattle.node.specs.laws.slot.Records.{entries_head, length_entries, records_least, records_less, length_record, length_value_bytes, entry_key_length}
 use Rattle.node.specs.laws.slot.Records.{entry_value_length, record_whole, record_sum}
 use Rattle.tree.specs.Lookup.{ends_above, between, range_enters}
+use Rattle.std.specs.Prelude.{Option, Some, None}
+use Rattle.std.specs.Borrow.{Bor}
 use Rattle.tree.specs.internal.Range.{end_of, lies_between, most, at_most, sum_of}
 use Rattle.tree.specs.declared.range.Sum.{Sum}
 
@@ -63,13 +65,14 @@ add_both a b h = sym (most_small (a + b) h)
 
 -- ---- the ends
 
-pub ends_none : (o : ℕ) (hi k : List ℕ) (ended : Bool) → not ended ≡ true → true ≡ ends_above o (end_of ended hi) k
+pub ends_none : (o : ℕ) (hi : Option (Bor (List ℕ))) (k : List ℕ) → hi ≡ None → true ≡ ends_above o (end_of hi) k
 unfolding ends_above end_of
-ends_none o hi k ended h = sym (rw (not-true ended h))
+ends_none o hi k e = sym (rw e)
 
-pub ends_some : (o : ℕ) (hi k : List ℕ) (ended r : Bool) → not ended ≡ false → r ≡ less o k hi → r ≡ ends_above o (end_of ended hi) k
+pub ends_some : (o : ℕ) (hi : Option (Bor (List ℕ))) (k : List ℕ) (x : Bor (List ℕ)) → hi ≡ Some x → (r : Bool) → r ≡ less o k x.now
+    → r ≡ ends_above o (end_of hi) k
 unfolding ends_above end_of
-ends_some o hi k ended r h e = e ∙ sym (rw (not-false ended h))
+ends_some o hi k x e r q = q ∙ sym (rw e)
 
 pub lies_below : (o : ℕ) (lo k k' : List ℕ) (hi : List (List ℕ)) (a : Bool) → k ≡ k' → a ≡ less o k lo → a ≡ true → false ≡ lies_between o lo hi k'
 unfolding lies_between
@@ -141,10 +144,10 @@ module _ (o : ℕ) (lo : List ℕ) (hi : List (List ℕ)) (n : ℕ) (l : List �
   rest : drop i (entries_of n l) ≡ entry_of (drop at l) ∷ drop (i + 1) (entries_of n l)
   rest = entries_head i n at l hin ea
 
-  module _ (h : not t ≡ true) where
+  module _ (h : t ≡ false) where
     between_passed : between o lo hi (drop i (entries_of n l)) ≡ between o lo hi (drop (i + 1) (entries_of n l))
     unfolding between lies_between
-    between_passed = let z : lies_between o lo hi (entry_of (drop at l)).key ≡ false = sym et ∙ not-true t h in rw (rest, z)
+    between_passed = let z : lies_between o lo hi (entry_of (drop at l)).key ≡ false = sym et ∙ h in rw (rest, z)
 
     pub count_passed : (count whole : ℕ) → count + length (between o lo hi (drop i (entries_of n l))) ≡ whole
         → count + length (between o lo hi (drop (i + 1) (entries_of n l))) ≡ whole
@@ -158,10 +161,10 @@ module _ (o : ℕ) (lo : List ℕ) (hi : List (List ℕ)) (n : ℕ) (l : List �
         → splice out k (records_of (between o lo hi (drop (i + 1) (entries_of n l)))) ≡ w
     write_passed out k w e = rw between_passed at e
 
-  module _ (h : not t ≡ false) where
+  module _ (h : t ≡ true) where
     between_taken : between o lo hi (drop i (entries_of n l)) ≡ entry_of (drop at l) ∷ between o lo hi (drop (i + 1) (entries_of n l))
     unfolding between lies_between
-    between_taken = let z : lies_between o lo hi (entry_of (drop at l)).key ≡ true = sym et ∙ not-false t h in rw (rest, z)
+    between_taken = let z : lies_between o lo hi (entry_of (drop at l)).key ≡ true = sym et ∙ h in rw (rest, z)
 
     pub count_taken : (count whole : ℕ) → count + length (between o lo hi (drop i (entries_of n l))) ≡ whole
         → count + 1 + length (between o lo hi (drop (i + 1) (entries_of n l))) ≡ whole
@@ -208,9 +211,6 @@ module _ (o : ℕ) (lo : List ℕ) (hi : List (List ℕ)) (n : ℕ) (l : List �
 
       module _ (out out₀ : List ℕ) (k whole : ℕ) (e : k + length (records_of (between o lo hi (drop i (entries_of n l)))) ≡ whole)
           (same : length out ≡ length out₀) (room : whole ≤ length out₀) where
-        pub write_fits : k + (next - at) ≤ length out
-        write_fits = omega (arith, more)
-
         pub write_room : k + length (take (next - at) (drop at l)) ≤ length out
         write_room = omega (arith, more, part_long)
 

@@ -1,6 +1,6 @@
 -- Laws of floor as a call: the lookup, then the record; refused, every slot is as it was. Assumes nothing.
 use Rattle.std.specs.Prelude.{◌≡◌, List, Bool, true, false, not, ◌&&◌, ℕ, ◌*◌, length, leb}
-use Rattle.std.proofs.Math.Path.{refl, sym, ap, ap₂}
+use Rattle.std.proofs.Math.Path.{refl, sym, ap}
 use Rattle.std.proofs.Common.{subst, ◌∙◌, arith}
 use borrow.Author.Tests.{le-leb, not-true, not-false}
 use Rattle.node.specs.Refusals as refusal
@@ -18,77 +18,77 @@ use Rattle.tree.specs.Load as load
 use Rattle.tree.specs.Lookup as lookup
 use Rattle.tree.specs.Trust.{trusted}
 use Rattle.tree.specs.Workspace.{state_of, workspace_holds, called}
-use Rattle.tree.specs.Answers.{floor_means, floored_in, floored_output, floored_leaves}
+use Rattle.tree.specs.Answers.{record_in, floor_means, floored_in, floored_output, floored_leaves}
 use Rattle.tree.specs.internal.Bank.{Ready}
 use Rattle.tree.specs.internal.Room.{Roomy}
 use Rattle.tree.specs.internal.Edits.{Trusts}
 use Rattle.tree.specs.internal.Tree.{bound_of, bounds_of}
-use Rattle.tree.specs.internal.Floor.{none_in, entry_in, last_means, floored_of, floor_way, FloorReady, FloorCalled}
+use Rattle.tree.specs.internal.Floor.{none_in, entry_in, got_last, last_means, floored_of, floor_way, FloorReady, FloorCalled}
 use Rattle.tree.specs.laws.lookup.GetLeaf.{splice_none}
 use Rattle.tree.specs.laws.trust.Loads.{trusted_floor}
 use Rattle.tree.specs.laws.room.Way.{roomy_floor}
 use Rattle.tree.specs.laws.refusal1.Calls.{trusts_hold, back_hold, looked_trusts}
 use Rattle.tree.specs.declared.lent.Lent.{Lent}
 use Rattle.tree.specs.declared.editor.Tree.{Tree}
-use Rattle.tree.specs.declared.editor.Bounds.{Bounds}
 use Rattle.tree.specs.declared.floor.Last.{Last}
-use Rattle.tree.specs.declared.floor.Last.TheVariants as last
-use Rattle.tree.specs.declared.floor.Floor.{Floor}
-use Rattle.tree.specs.declared.floor.Floor.TheVariants as flooring
+use Rattle.std.specs.Prelude as std
+use Rattle.std.specs.Prelude.{Ok, Err, Some, None, Option, is_err}
+use Rattle.node.specs.declared.refusal.Refusal.{Refusal}
+use Rattle.node.specs.declared.refusal.Refusal.TheVariants as is
 
 -- ---- the lookup, then the record
 
-module _ (l : lent.Lent) (size : ℕ) (t : Tree) (h0 b0 : List ℕ) (level : ℕ) (ev : level ≡ (node_at (state_of size t h0 b0) t.root).level) (b : Bounds)
-    (el : b.lower.some ≡ false) (eu : b.upper.some ≡ false) (key h1 b1 : List ℕ) (r : Last)
-    (er : last_means size h1 b1 r ≡ lookup.floor_from level l (state_of size t h0 b0) (bounds_of (state_of size t h0 b0) b) t.root key) where
-  none_bounds : bounds_of (state_of size t h0 b0) b ≡ load.unbounded
-  unfolding bounds_of bound_of load.unbounded
-  none_bounds = rw (el, eu)
-
+module _ (l : lent.Lent) (size : ℕ) (t : Tree) (h0 b0 : List ℕ) (level : ℕ) (ev : level ≡ (node_at (state_of size t h0 b0) t.root).level)
+    (key h1 b1 : List ℕ) (r : std.Result (Tree × Option Last) Refusal)
+    (er : last_means size h1 b1 r ≡ lookup.floor_from level l (state_of size t h0 b0)
+    (bounds_of (state_of size t h0 b0) (record { lower = None; upper = None })) t.root key) where
   lookup_is : lookup.floor_from (node_at (state_of size t h0 b0) (state_of size t h0 b0).root).level l (state_of size t h0 b0) load.unbounded
       (state_of size t h0 b0).root key ≡ last_means size h1 b1 r
-  unfolding state_of
-  lookup_is =
-      ap₂ (λ (d : ℕ) (bs : load.Bounds). lookup.floor_from d l (state_of size t h0 b0) bs t.root key) (sym ev) (sym none_bounds) ∙ sym er
+  unfolding state_of bounds_of bound_of load.unbounded
+  lookup_is = ap (λ (d : ℕ). lookup.floor_from d l (state_of size t h0 b0) load.unbounded t.root key) (sym ev) ∙ sym er
 
   way_is : (room : ℕ) → floor_way l (state_of size t h0 b0) room key ≡ (last_means size h1 b1 r >>= floored_of room)
   unfolding floor_way
   way_is room = ap (λ (x : Result (lookup.Got Entry)). x >>= floored_of room) lookup_is
 
   module _ (out : List ℕ) where
-    pub way_refused : (x : ℕ) → r ≡ last.Refused x
-        → floor_means size h1 b1 out (flooring.Refused x) ≡ floor_way l (state_of size t h0 b0) (length out) key
+    pub way_refused : (x : Refusal) → r ≡ Err x → floor_means size h1 b1 out (Err x) ≡ floor_way l (state_of size t h0 b0) (length out) key
     unfolding floor_means last_means
     way_refused x e = sym (way_is (length out) ∙ rw e)
 
-    pub way_refused_same : (x : ℕ) → r ≡ last.Refused x → out ≡ floored_output out (floor_way l (state_of size t h0 b0) (length out) key)
+    pub way_refused_same : (x : Refusal) → r ≡ Err x → out ≡ floored_output out (floor_way l (state_of size t h0 b0) (length out) key)
     unfolding floored_output last_means
     way_refused_same x e = sym (ap (floored_output out) (way_is (length out)) ∙ rw e)
 
-    none_is : (v : Tree) → r ≡ last.None v → floor_way l (state_of size t h0 b0) (length out) key ≡ ok (none_in (state_of size v h1 b1))
-    unfolding last_means floored_of none_in records_of
-    none_is v e = way_is (length out) ∙ rw (e, le-leb 0 (length out) (omega arith))
-
-    pub way_none : (v : Tree) → r ≡ last.None v → floor_means size h1 b1 out (flooring.None v) ≡ floor_way l (state_of size t h0 b0) (length out) key
-    unfolding floor_means none_in
-    way_none v e = sym (none_is v e)
-
-    pub way_none_same : (v : Tree) → r ≡ last.None v → out ≡ floored_output out (floor_way l (state_of size t h0 b0) (length out) key)
-    unfolding floored_output none_in records_of
-    way_none_same v e = sym (ap (floored_output out) (none_is v e) ∙ splice_none out)
-
-    module _ (v : Tree) (n i : ℕ) (e : r ≡ last.At v n i) where
-      entry_is : floor_way l (state_of size t h0 b0) (length out) key ≡ floored_of (length out) (entry_in (state_of size v h1 b1) n i)
+    module _ (v : Tree) (f : Option Last) (e : r ≡ Ok (v, f)) where
+      found_is : floor_way l (state_of size t h0 b0) (length out) key ≡ floored_of (length out) (got_last (state_of size v h1 b1) f)
       unfolding last_means
-      entry_is = way_is (length out) ∙ rw e
+      found_is = way_is (length out) ∙ rw e
 
-      pub way_found : (y : Result (lookup.Got Entry)) → y ≡ floored_of (length out) (entry_in (state_of size v h1 b1) n i)
-          → y ≡ floor_way l (state_of size t h0 b0) (length out) key
-      way_found y q = q ∙ sym entry_is
+      none_is : f ≡ None → floor_way l (state_of size t h0 b0) (length out) key ≡ ok (none_in (state_of size v h1 b1))
+      unfolding floored_of got_last none_in records_of
+      none_is q = found_is ∙ rw (q, le-leb 0 (length out) (omega arith))
 
-      pub way_found_out : (o : List ℕ) → o ≡ floored_output out (floored_of (length out) (entry_in (state_of size v h1 b1) n i))
-          → o ≡ floored_output out (floor_way l (state_of size t h0 b0) (length out) key)
-      way_found_out o q = q ∙ ap (floored_output out) (sym entry_is)
+      pub way_none : f ≡ None → floor_means size h1 b1 out (Ok (v, None)) ≡ floor_way l (state_of size t h0 b0) (length out) key
+      unfolding floor_means record_in none_in
+      way_none q = sym (none_is q)
+
+      pub way_none_same : f ≡ None → out ≡ floored_output out (floor_way l (state_of size t h0 b0) (length out) key)
+      unfolding floored_output none_in records_of
+      way_none_same q = sym (ap (floored_output out) (none_is q) ∙ splice_none out)
+
+      module _ (x : Last) (q : f ≡ Some x) where
+        entry_is : floor_way l (state_of size t h0 b0) (length out) key ≡ floored_of (length out) (entry_in (state_of size v h1 b1) x.slot x.index)
+        unfolding got_last
+        entry_is = found_is ∙ rw q
+
+        pub way_found : (y : Result (lookup.Got Entry)) → y ≡ floored_of (length out) (entry_in (state_of size v h1 b1) x.slot x.index)
+            → y ≡ floor_way l (state_of size t h0 b0) (length out) key
+        way_found y g = g ∙ sym entry_is
+
+        pub way_found_out : (o : List ℕ) → o ≡ floored_output out (floored_of (length out) (entry_in (state_of size v h1 b1) x.slot x.index))
+            → o ≡ floored_output out (floor_way l (state_of size t h0 b0) (length out) key)
+        way_found_out o g = g ∙ ap (floored_output out) (sym entry_is)
 
 -- ---- 12 first, marks cleared
 
@@ -97,7 +97,7 @@ module _ (l : lent.Lent) (size : ℕ) (t : Tree) (h0 b0 key : List ℕ) (k : Boo
   unfolding state_of keyed
   keyed_is = sym ek
 
-  pub in_argument : (out : List ℕ) → not k ≡ true → floor_means size h0 b0 out (flooring.Refused 12) ≡ lookup.floor_in l (state_of size t h0 b0)
+  pub in_argument : (out : List ℕ) → not k ≡ true → floor_means size h0 b0 out (Err is.Argument) ≡ lookup.floor_in l (state_of size t h0 b0)
       (length out) key
   unfolding floor_means lookup.floor_in
   in_argument out n = sym (rw (keyed_is, not-true k n))
@@ -122,14 +122,12 @@ module _ (l : lent.Lent) (size : ℕ) (t : Tree) (h0 b0 key : List ℕ) (k : Boo
         → o ≡ floored_output out (lookup.floor_in l (state_of size t h0 b0) room key)
     in_output o out q = q ∙ ap (floored_output out) way_in
 
--- an answer taken apart and put together
-pub floor_refused : (size : ℕ) (h b h' b' out : List ℕ) (g : Floor) (x : ℕ) → g ≡ flooring.Refused x → floor_means size h' b' out (flooring.Refused x)
-    ≡ floor_means size h b out g
+-- a refusal is the same whatever the slots hold
+pub floor_refused : (size : ℕ) (h b h' b' out : List ℕ) (g : std.Result (Tree × Option ℕ) Refusal) → true ≡ is_err g
+    → floor_means size h' b' out g ≡ floor_means size h b out g
 unfolding floor_means
-floor_refused size h b h' b' out g x e = rw e
-
-pub floor_same : (size : ℕ) (h b out : List ℕ) (g g' : Floor) → g ≡ g' → floor_means size h b out g' ≡ floor_means size h b out g
-floor_same size h b out g g' e = ap (floor_means size h b out) (sym e)
+floor_refused size h b h' b' out (Err x) z = refl
+floor_refused size h b h' b' out (Ok v) z = cc
 
 -- ---- what floor leaves
 
@@ -143,7 +141,7 @@ roomy_in l s room k h r =
     holds_check refusal.output (leb (length (records_of g.answer)) room) (ok g) λ b. holds_ok ((roomy_floor l s k h r).at g e)
 
 module _ (image : List ℕ) (l : Lent) (t : Tree) (h b : List ℕ) (c : Trusts image l t h b) (h' b' : List ℕ) where
-  module _ (key out : List ℕ) (room : ℕ) (g : Floor)
+  module _ (key out : List ℕ) (room : ℕ) (g : std.Result (Tree × Option ℕ) Refusal)
       (e : floor_means l.size h' b' out g ≡ lookup.floor_in (lent_of image l) (state_of l.size t h b) room key)
       (r : FloorReady l.size l.slots h' b' g) where
     found_trusts : (u : Tree) (v : List Entry) → ok (record { state = state_of l.size u h' b'; answer = v }) ≡ floor_means l.size h' b' out g
@@ -153,22 +151,28 @@ module _ (image : List ℕ) (l : Lent) (t : Tree) (h b : List ℕ) (c : Trusts i
         looked_trusts image l u h' b' v _ (trusted_floor (lent_of image l) (state_of l.size t h b) room key c.trust)
         (roomy_in (lent_of image l) (state_of l.size t h b) room key c.trust c.roomy) (q ∙ e) y
 
-    pub none_trusts : (u : Tree) → g ≡ flooring.None u → Trusts image l u h' b'
+    floor_trusts : (u : Tree) (n : Option ℕ) → g ≡ Ok (u, n) → Trusts image l u h' b'
     unfolding floor_means
-    none_trusts u q = found_trusts u _ (ap (floor_means l.size h' b' out) (sym q)) (subst (FloorReady l.size l.slots h' b') q r)
+    floor_trusts u n q = found_trusts u _ (ap (floor_means l.size h' b' out) (sym q)) (subst (FloorReady l.size l.slots h' b') q r)
 
-    pub record_trusts : (u : Tree) (n : ℕ) → g ≡ flooring.Record u n → Trusts image l u h' b'
-    unfolding floor_means
-    record_trusts u n q = found_trusts u _ (ap (floor_means l.size h' b' out) (sym q)) (subst (FloorReady l.size l.slots h' b') q r)
+  pub floor_kept : (key out : List ℕ) (room : ℕ) (g : std.Result (Tree × Option ℕ) Refusal) → false ≡ is_err g
+      → floor_means l.size h' b' out g ≡ lookup.floor_in (lent_of image l) (state_of l.size t h b) room key → FloorReady l.size l.slots h' b' g
+      → FloorCalled image l t h b h' b' g
+  floor_kept key out room (Err x) z e r = cc
+  floor_kept key out room (Ok (u, n)) z e r = floor_trusts key out room (Ok (u, n)) e r u n refl
 
-  pub left_of_lem : (g : Floor) → FloorCalled image l t h b h' b' g → floored_leaves l.size l.slots t h b h' b' g
-  left_of_lem (flooring.Refused x) k = (k.0, back_hold image l t h b c h' b' k.0 k.1)
-  left_of_lem (flooring.None u) k = trusts_hold image l u h' b' k
-  left_of_lem (flooring.Record u n) k = trusts_hold image l u h' b' k
+  pub floor_undone : (g : std.Result (Tree × Option ℕ) Refusal) → true ≡ is_err g → state_of l.size t h' b' ≡ state_of l.size t h b
+      → Ready l.size l.slots t.used h' b' → FloorCalled image l t h b h' b' g
+  floor_undone (Err x) z e r = (e, r)
+  floor_undone (Ok v) z e r = cc
+
+  pub left_of_lem : (g : std.Result (Tree × Option ℕ) Refusal) → FloorCalled image l t h b h' b' g → floored_leaves l.size l.slots t h b h' b' g
+  left_of_lem (Err x) k = (k.0, back_hold image l t h b c h' b' k.0 k.1)
+  left_of_lem (Ok (u, n)) k = trusts_hold image l u h' b' k
 
 -- after a refused floor every call answers as if there had been none
-pub refused_none : {A : Type 0} (size slots : ℕ) (t : Tree) (heads bytes heads' bytes' : List ℕ) (x : ℕ)
-    → floored_leaves size slots t heads bytes heads' bytes' (flooring.Refused x) → (f : State → Result A)
+pub refused_none : {A : Type 0} (size slots : ℕ) (t : Tree) (heads bytes heads' bytes' : List ℕ) (x : Refusal)
+    → floored_leaves size slots t heads bytes heads' bytes' (Err x) → (f : State → Result A)
     → called size slots t heads' bytes' f ≡ called size slots t heads bytes f
 unfolding called
 refused_none size slots t heads bytes heads' bytes' x c f = rw (c.1, c.0)
@@ -195,7 +199,7 @@ module _ (image : List ℕ) (l : Lent) (t : Tree) (h0 b0 : List ℕ) (a : Bool)
       (λ u. let v : numbers ≡ false = rw u at z in call_is room key ∙ rw (u, v))
       (λ u. call_is room key ∙ rw u)
 
-  pub floor_lent : not a ≡ true → (out key : List ℕ) → floor_means l.size h0 b0 out (flooring.Refused 1) ≡ floored_in (lent_of image l) t h0 b0
+  pub floor_lent : not a ≡ true → (out key : List ℕ) → floor_means l.size h0 b0 out (Err is.Lent) ≡ floored_in (lent_of image l) t h0 b0
       (length out) key
   unfolding floor_means
   floor_lent n out key = sym (lent_no n (length out) key)

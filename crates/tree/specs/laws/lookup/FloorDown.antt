@@ -15,25 +15,24 @@ use Rattle.tree.specs.Load as load
 use Rattle.tree.specs.Load.{child_bounds, load_child}
 use Rattle.tree.specs.Lookup.{Got, last_from, floor_from}
 use Rattle.tree.specs.Workspace.{state_of}
-use Rattle.tree.specs.internal.Bank.{Ready}
 use Rattle.tree.specs.internal.Tree.{bounds_of, BoundsIn, loaded_of}
-use Rattle.tree.specs.internal.Floor.{none_in, entry_in, last_means, EntryReady, LastReady, last_at, floor_at, left_from}
+use Rattle.tree.specs.internal.Floor.{none_in, entry_in, got_last, last_means, last_at, floor_at, left_from}
 use Rattle.tree.specs.laws.slots.Tree.{used_nodes}
 use Rattle.tree.specs.laws.trust.Loads.{Loads, loads_then, load_loads}
 use Rattle.tree.specs.laws.lookup.FloorLoads.{floor_loads, bounds_more, left_with, left_loads, child_used, child_more, child_in, child_kept}
 use Rattle.tree.specs.declared.editor.Tree.{Tree}
 use Rattle.tree.specs.declared.editor.Bounds.{Bounds}
-use Rattle.tree.specs.declared.editor.Loaded.{Loaded}
-use Rattle.tree.specs.declared.editor.Loaded.TheVariants as loaded
 use Rattle.tree.specs.declared.floor.Last.{Last}
-use Rattle.tree.specs.declared.floor.Last.TheVariants as last
+use Rattle.std.specs.Prelude as std
+use Rattle.std.specs.Prelude.{Ok, Err, Some, None, Option}
+use Rattle.node.specs.declared.refusal.Refusal.{Refusal}
 
 -- ---- a child loaded, and its bounds
 
-module _ (l : Lent) (size : ℕ) (t : Tree) (heads bytes : List ℕ) (b : Bounds) (n i : ℕ) (x : Loaded) (heads' bytes' : List ℕ)
+module _ (l : Lent) (size : ℕ) (t : Tree) (heads bytes : List ℕ) (b : Bounds) (n i : ℕ) (x : std.Result (Tree × ℕ) Refusal) (heads' bytes' : List ℕ)
     (ex : loaded_of size heads' bytes' x ≡ load_child l (state_of size t heads bytes) (bounds_of (state_of size t heads bytes) b) n i) (t' : Tree)
     (c : ℕ)
-    (q : x ≡ loaded.At t' c) where
+    (q : x ≡ Ok (t', c)) where
   pub into : ok (record { state = state_of size t' heads' bytes'; slot = c }) ≡ load_child l (state_of size t heads bytes)
       (bounds_of (state_of size t heads bytes) b) n i
   unfolding loaded_of
@@ -60,7 +59,8 @@ module _ (l : Lent) (size : ℕ) (t : Tree) (heads bytes : List ℕ) (b : Bounds
   unfolding last_from last_at
   last_leaf z y e = rw z e
 
-  module _ (hd : d ≡ 0 → ⊥) (count i : ℕ) (ec : count ≡ length (node_at (state_of size t heads bytes) n).entries) (ei : i ≡ count - 1) (x : Loaded)
+  module _ (hd : d ≡ 0 → ⊥) (count i : ℕ) (ec : count ≡ length (node_at (state_of size t heads bytes) n).entries) (ei : i ≡ count - 1)
+      (x : std.Result (Tree × ℕ) Refusal)
       (heads' bytes' : List ℕ)
       (ex : loaded_of size heads' bytes' x ≡ load_child l (state_of size t heads bytes) (bounds_of (state_of size t heads bytes) b) n i) where
     abbrev s : State
@@ -75,12 +75,12 @@ module _ (l : Lent) (size : ℕ) (t : Tree) (heads bytes : List ℕ) (b : Bounds
         let j : length (node_at s n).entries - 1 ≡ i = omega arith in
         ap (λ (m : ℕ). last_from m l s (bounds_of s b) n) z ∙ rw (j, ex)
 
-    pub last_refused : (y : ℕ) → x ≡ loaded.Refused y → last_means size heads' bytes' (last.Refused y) ≡ last_from d l (state_of size t heads bytes)
+    pub last_refused : (y : Refusal) → x ≡ Err y → last_means size heads' bytes' (Err y) ≡ last_from d l (state_of size t heads bytes)
         (bounds_of (state_of size t heads bytes) b) n
     unfolding last_means loaded_of
     last_refused y q = sym (last_step ∙ rw q)
 
-    pub last_down : (t' : Tree) (c : ℕ) → x ≡ loaded.At t' c → (inner : Bounds) → BoundsIn t.used b
+    pub last_down : (t' : Tree) (c : ℕ) → x ≡ Ok (t', c) → (inner : Bounds) → BoundsIn t.used b
         → (BoundsIn t.used b → n < t.used → BoundsIn t.used inner)
         → bounds_of (state_of size t heads bytes) inner ≡ child_bounds t.order (bounds_of (state_of size t heads bytes) b)
         (node_at (state_of size t heads bytes) n).entries i
@@ -94,9 +94,9 @@ module _ (l : Lent) (size : ℕ) (t : Tree) (heads bytes : List ℕ) (b : Bounds
 -- ---- leftward
 
 module _ (l : Lent) (size : ℕ) (t : Tree) (heads bytes : List ℕ) (b : Bounds) (n i d : ℕ) (key : List ℕ) where
-  pub left_first : i ≡ 0 → last_means size heads bytes (last.None t) ≡ left_from d l (state_of size t heads bytes)
+  pub left_first : i ≡ 0 → last_means size heads bytes (Ok (t, None)) ≡ left_from d l (state_of size t heads bytes)
       (bounds_of (state_of size t heads bytes) b) n i key
-  unfolding last_means left_from
+  unfolding last_means got_last left_from
   left_first z = sym (rw z)
 
   module _ (z : i ≡ 0 → ⊥) (k : List ℕ) (ek : k ≡ key_at (node_at (state_of size t heads bytes) n).entries i) (above : Bool)
@@ -107,12 +107,12 @@ module _ (l : Lent) (size : ℕ) (t : Tree) (heads bytes : List ℕ) (b : Bounds
     below : less t.order key (key_at (node_at (state_of size t heads bytes) n).entries i) ≡ above
     below = ap (less t.order key) (sym ek) ∙ sym ea
 
-    pub left_above : above ≡ true → last_means size heads bytes (last.None t) ≡ left_from d l (state_of size t heads bytes)
+    pub left_above : above ≡ true → last_means size heads bytes (Ok (t, None)) ≡ left_from d l (state_of size t heads bytes)
         (bounds_of (state_of size t heads bytes) b) n i key
-    unfolding last_means left_from state_of
+    unfolding last_means got_last left_from state_of
     left_above u = sym (rw (more, below, u))
 
-    module _ (u : above ≡ false) (x : Loaded) (heads' bytes' : List ℕ)
+    module _ (u : above ≡ false) (x : std.Result (Tree × ℕ) Refusal) (heads' bytes' : List ℕ)
         (ex : loaded_of size heads' bytes' x ≡ load_child l (state_of size t heads bytes) (bounds_of (state_of size t heads bytes) b) n (i - 1)) where
       left_step : left_from d l (state_of size t heads bytes) (bounds_of (state_of size t heads bytes) b) n i key
           ≡ (loaded_of size heads' bytes' x >>= λ c. last_from d l c.state
@@ -120,12 +120,12 @@ module _ (l : Lent) (size : ℕ) (t : Tree) (heads bytes : List ℕ) (b : Bounds
       unfolding left_from state_of
       left_step = rw (more, below, u, ex)
 
-      pub left_refused : (y : ℕ) → x ≡ loaded.Refused y → last_means size heads' bytes' (last.Refused y) ≡ left_from d l (state_of size t heads bytes)
+      pub left_refused : (y : Refusal) → x ≡ Err y → last_means size heads' bytes' (Err y) ≡ left_from d l (state_of size t heads bytes)
           (bounds_of (state_of size t heads bytes) b) n i key
       unfolding last_means loaded_of
       left_refused y q = sym (left_step ∙ rw q)
 
-      pub left_down : (t' : Tree) (c : ℕ) → x ≡ loaded.At t' c → (inner : Bounds) → BoundsIn t.used b
+      pub left_down : (t' : Tree) (c : ℕ) → x ≡ Ok (t', c) → (inner : Bounds) → BoundsIn t.used b
           → (BoundsIn t.used b → n < t.used → BoundsIn t.used inner)
           → bounds_of (state_of size t heads bytes) inner ≡ child_bounds t.order (bounds_of (state_of size t heads bytes) b)
           (node_at (state_of size t heads bytes) n).entries (i - 1)
@@ -144,7 +144,8 @@ module _ (l : Lent) (size : ℕ) (t : Tree) (heads bytes : List ℕ) (b : Bounds
   unfolding floor_from floor_at
   floor_leaf z y e = rw z e
 
-  module _ (hd : d ≡ 0 → ⊥) (i : ℕ) (ei : i ≡ way_index t.order key (node_at (state_of size t heads bytes) n).entries) (x : Loaded)
+  module _ (hd : d ≡ 0 → ⊥) (i : ℕ) (ei : i ≡ way_index t.order key (node_at (state_of size t heads bytes) n).entries)
+      (x : std.Result (Tree × ℕ) Refusal)
       (heads' bytes' : List ℕ)
       (ex : loaded_of size heads' bytes' x ≡ load_child l (state_of size t heads bytes) (bounds_of (state_of size t heads bytes) b) n i) where
     abbrev from : State
@@ -156,16 +157,16 @@ module _ (l : Lent) (size : ℕ) (t : Tree) (heads bytes : List ℕ) (b : Bounds
     lower : d ≡ suc (d - 1)
     lower = omega arith
 
-    pub floor_refused : (y : ℕ) → x ≡ loaded.Refused y → last_means size heads' bytes' (last.Refused y) ≡ floor_from d l (state_of size t heads bytes)
+    pub floor_refused : (y : Refusal) → x ≡ Err y → last_means size heads' bytes' (Err y) ≡ floor_from d l (state_of size t heads bytes)
         (bounds_of (state_of size t heads bytes) b) n key
     unfolding floor_from last_means loaded_of state_of
     floor_refused y q = sym (ap (λ (m : ℕ). floor_from m l from bs n key) lower ∙ rw (← ei, ← ex, q))
 
-    module _ (t' : Tree) (c : ℕ) (q : x ≡ loaded.At t' c) (inner : Bounds) (hb : BoundsIn t.used b)
+    module _ (t' : Tree) (c : ℕ) (q : x ≡ Ok (t', c)) (inner : Bounds) (hb : BoundsIn t.used b)
         (f : BoundsIn t.used b → n < t.used → BoundsIn t.used inner)
         (eb : bounds_of (state_of size t heads bytes) inner ≡ child_bounds t.order (bounds_of (state_of size t heads bytes) b)
         (node_at (state_of size t heads bytes) n).entries i)
-        (r : Last) (heads'' bytes'' : List ℕ)
+        (r : std.Result (Tree × Option Last) Refusal) (heads'' bytes'' : List ℕ)
         (er : last_means size heads'' bytes'' r ≡ floor_from (d - 1) l (state_of size t' heads' bytes')
         (bounds_of (state_of size t' heads' bytes') inner) c
         key) where
@@ -179,23 +180,24 @@ module _ (l : Lent) (size : ℕ) (t : Tree) (heads bytes : List ℕ) (b : Bounds
           ap (λ (z : load.Bounds). floor_from (d - 1) l (state_of size t' heads' bytes') z c key)
           (sym (into_bounds l size t heads bytes b n i x heads' bytes' ex t' c q inner hb f eb)) ∙ sym er
 
-      pub floor_below : (y : ℕ) → r ≡ last.Refused y → last_means size heads'' bytes'' (last.Refused y) ≡ floor_from d l (state_of size t heads bytes)
+      pub floor_below : (y : Refusal) → r ≡ Err y → last_means size heads'' bytes'' (Err y) ≡ floor_from d l (state_of size t heads bytes)
           (bounds_of (state_of size t heads bytes) b) n key
       unfolding floor_from last_means state_of
       floor_below y u = sym (ap (λ (m : ℕ). floor_from m l from bs n key) lower ∙ rw (← ei, child_is, below_is, u))
 
-      pub floor_found : (v : Tree) (m j : ℕ) → r ≡ last.At v m j → last_means size heads'' bytes'' (last.At v m j) ≡ floor_from d l
-          (state_of size t heads bytes) (bounds_of (state_of size t heads bytes) b) n key
-      unfolding floor_from last_means entry_in state_of
-      floor_found v m j u = sym (ap (λ (m : ℕ). floor_from m l from bs n key) lower ∙ rw (← ei, child_is, below_is, u))
+      pub floor_found : (v : Tree) (f : Option Last) → r ≡ Ok (v, f) → (e : Last) → f ≡ Some e
+          → last_means size heads'' bytes'' (Ok (v, f)) ≡ floor_from d l (state_of size t heads bytes)
+          (bounds_of (state_of size t heads bytes) b) n key
+      unfolding floor_from last_means got_last entry_in state_of
+      floor_found v f u e q = rw q (sym (ap (λ (m : ℕ). floor_from m l from bs n key) lower ∙ rw (← ei, child_is, below_is, u, q)))
 
-      module _ (v : Tree) (u : r ≡ last.None v) where
+      module _ (v : Tree) (g : Option Last) (u : r ≡ Ok (v, g)) (z : g ≡ None) where
         abbrev to : State
         to = state_of size v heads'' bytes''
 
         none_is : last_means size heads'' bytes'' r ≡ ok (none_in (state_of size v heads'' bytes''))
-        unfolding last_means
-        none_is = rw u
+        unfolding last_means got_last
+        none_is = rw (u, z)
 
         used : n < t.used
         used = child_used l size t heads bytes b n i t' heads' bytes' c (sym child_is)
@@ -227,13 +229,3 @@ module _ (l : Lent) (size : ℕ) (t : Tree) (heads bytes : List ℕ) (b : Bounds
         floor_left y e =
             let long : length from.nodes ≡ t.used = used_nodes size t heads bytes in
             e ∙ left_loads l from to loads (d - 1) b n i key (rw long hb) (omega (arith, used)) ∙ sym left_is
-
--- ---- what a lookup that was accepted leaves
-
-pub ready_none : (size slots : ℕ) (heads bytes : List ℕ) (r : Last) (v : Tree) → r ≡ last.None v → LastReady size slots heads bytes r
-    → Ready size slots v.used heads bytes
-ready_none size slots heads bytes r v e q = rw e at q
-
-pub ready_entry : (size slots : ℕ) (heads bytes : List ℕ) (r : Last) (v : Tree) (n i : ℕ) → r ≡ last.At v n i → LastReady size slots heads bytes r
-    → EntryReady size slots v heads bytes n i
-ready_entry size slots heads bytes r v n i e q = rw e at q

@@ -22,9 +22,9 @@ use Rattle.node.specs.declared.head.Head.{Head}
 use Rattle.node.specs.declared.slot.Last as found
 use Rattle.tree.specs.State.{node_at, no_node}
 use Rattle.tree.specs.Workspace.{slot_bytes, state_of}
-use Rattle.tree.specs.Answers.{floor_means, floored_output}
+use Rattle.tree.specs.Answers.{record_in, floor_means, floored_output}
 use Rattle.tree.specs.internal.Bank.{node_in, live, Ready}
-use Rattle.tree.specs.internal.Floor.{none_in, entry_in, last_means, EntryReady, last_at, floor_at, floored_of}
+use Rattle.tree.specs.internal.Floor.{none_in, entry_in, got_last, last_means, EntryReady, last_at, floor_at, floored_of}
 use Rattle.tree.specs.laws.slots.Bank.{live_entries}
 use Rattle.tree.specs.laws.slots.OneSlot.{slot_room, slot_lies, slot_entry}
 use Rattle.tree.specs.laws.slots.Tree.{node_in_lem, node_out}
@@ -33,8 +33,8 @@ use Rattle.tree.specs.laws.load.MapFloor.{one_of}
 use Rattle.tree.specs.laws.lookup.GetLeaf.{take_front}
 use Rattle.tree.specs.laws.refusal1.Roomy.{entries_weight}
 use Rattle.tree.specs.declared.editor.Tree.{Tree}
-use Rattle.tree.specs.declared.floor.Last.TheVariants as last
-use Rattle.tree.specs.declared.floor.Floor.TheVariants as flooring
+use Rattle.std.specs.Prelude.{Ok, Err, Some, None}
+use Rattle.node.specs.declared.refusal.Refusal.TheVariants as is
 
 -- ---- among entries
 
@@ -64,13 +64,14 @@ above_one o k es i h =
 -- ---- the last entry of a slot
 
 module _ (size : ℕ) (t : Tree) (heads bytes : List ℕ) (n count : ℕ) (e : count ≡ length (node_at (state_of size t heads bytes) n).entries) where
-  pub last_at_none : count ≡ 0 → last_means size heads bytes (last.None t) ≡ ok (last_at (state_of size t heads bytes) n)
-  unfolding last_means none_in last_at
+  pub last_at_none : count ≡ 0 → last_means size heads bytes (Ok (t, None)) ≡ ok (last_at (state_of size t heads bytes) n)
+  unfolding last_means got_last none_in last_at
   last_at_none z = sym (rw (last_none (node_at (state_of size t heads bytes) n).entries (sym e ∙ z)))
 
   module _ (z : count ≡ 0 → ⊥) where
-    pub last_at_some : last_means size heads bytes (last.At t n (count - 1)) ≡ ok (last_at (state_of size t heads bytes) n)
-    unfolding last_means entry_in last_at
+    pub last_at_some : last_means size heads bytes (Ok (t, Some (record { slot = n; index = count - 1 })))
+        ≡ ok (last_at (state_of size t heads bytes) n)
+    unfolding last_means got_last entry_in last_at
     last_at_some = sym (rw (last_one (node_at (state_of size t heads bytes) n).entries (count - 1) (omega arith)))
 
     used : n < t.used
@@ -86,8 +87,8 @@ module _ (size : ℕ) (t : Tree) (heads bytes : List ℕ) (n count : ℕ) (e : c
 -- ---- the last that is not above a key
 
 module _ (size : ℕ) (t : Tree) (heads bytes key : List ℕ) (n : ℕ) where
-  pub floor_at_out : t.used ≤ n → last_means size heads bytes (last.None t) ≡ ok (floor_at (state_of size t heads bytes) n key)
-  unfolding last_means none_in floor_at no_node last_not_above not_above
+  pub floor_at_out : t.used ≤ n → last_means size heads bytes (Ok (t, None)) ≡ ok (floor_at (state_of size t heads bytes) n key)
+  unfolding last_means got_last none_in floor_at no_node last_not_above not_above
   floor_at_out h = sym (rw (node_out size t heads bytes n h))
 
   module _ (hn : n < t.used) (h : Head) (eh : h ≡ live (head_at heads n)) (l : List ℕ) (el : l ≡ slot_bytes size bytes n) (x : found.Last)
@@ -96,13 +97,14 @@ module _ (size : ℕ) (t : Tree) (heads bytes key : List ℕ) (n : ℕ) where
     unfolding last_in node_in
     count_above = rw (node_in_lem size t heads bytes n hn, live_entries (head_at heads n) (slot_bytes size bytes n), ex, eh, el)
 
-    pub floor_at_none : x.count ≡ 0 → last_means size heads bytes (last.None t) ≡ ok (floor_at (state_of size t heads bytes) n key)
-    unfolding last_means none_in floor_at state_of
+    pub floor_at_none : x.count ≡ 0 → last_means size heads bytes (Ok (t, None)) ≡ ok (floor_at (state_of size t heads bytes) n key)
+    unfolding last_means got_last none_in floor_at state_of
     floor_at_none z = sym (rw (above_none t.order key (node_at (state_of size t heads bytes) n).entries (sym count_above ∙ z)))
 
     module _ (z : x.count ≡ 0 → ⊥) where
-      pub floor_at_some : last_means size heads bytes (last.At t n (x.count - 1)) ≡ ok (floor_at (state_of size t heads bytes) n key)
-      unfolding last_means entry_in floor_at state_of
+      pub floor_at_some : last_means size heads bytes (Ok (t, Some (record { slot = n; index = x.count - 1 })))
+          ≡ ok (floor_at (state_of size t heads bytes) n key)
+      unfolding last_means got_last entry_in floor_at state_of
       floor_at_some = sym (rw (above_one t.order key (node_at (state_of size t heads bytes) n).entries (x.count - 1) (omega (arith, count_above))))
 
       pub floor_at_ready : (slots : ℕ) → Ready size slots t.used heads bytes → EntryReady size slots t heads bytes n (x.count - 1)
@@ -151,7 +153,7 @@ module _ (size slots : ℕ) (t : Tree) (heads bytes : List ℕ) (n i : ℕ) (r :
           unfolding floored_of
           output_is = rw (entry_is, record_long, lt-leb (end - at) (length out) q)
 
-          pub record_refused : floor_means size heads bytes out (flooring.Refused 20) ≡ floored_of (length out)
+          pub record_refused : floor_means size heads bytes out (Err is.Output) ≡ floored_of (length out)
               (entry_in (state_of size t heads bytes) n i)
           unfolding floor_means
           record_refused = sym output_is
@@ -181,9 +183,9 @@ module _ (size slots : ℕ) (t : Tree) (heads bytes : List ℕ) (n i : ℕ) (r :
               ap (λ (k : ℕ). take k (take (end - at) d)) (sym part_long) ∙ take-length (take (end - at) d) in
               ap (entries_of 1) front ∙ ap (λ (x : Entry). x ∷ []) (entry_local (end - at) d (take (end - at) d) m twice)
 
-          pub record_copied : floor_means size heads bytes out' (flooring.Record t (end - at)) ≡ floored_of (length out)
+          pub record_copied : floor_means size heads bytes out' (Ok (t, Some (end - at))) ≡ floored_of (length out)
               (entry_in (state_of size t heads bytes) n i)
-          unfolding floor_means
+          unfolding floor_means record_in
           record_copied = sym (found_is ∙ rw entry_front)
 
           pub record_copied_out : Bytes bytes → out' ≡ floored_output out (floored_of (length out) (entry_in (state_of size t heads bytes) n i))

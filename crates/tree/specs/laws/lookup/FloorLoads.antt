@@ -1,5 +1,5 @@
 -- What the loads of floor leave as it was: the tree's numbers, every key and every bound. Assumes nothing.
-use Rattle.std.specs.Prelude.{◌≡◌, refl, Bool, cond, ◌&&◌, not, ℕ, zero, suc, ◌-◌, ◌≤◌, ◌<◌, length, ltb}
+use Rattle.std.specs.Prelude.{◌≡◌, refl, Bool, cond, ◌&&◌, not, ℕ, zero, suc, ◌-◌, ◌≤◌, ◌<◌, length, ltb, Option, Some, None}
 use Rattle.std.proofs.Common.{sym, ◌∙◌, arith}
 use Rattle.std.proofs.Math.Path.{ap, ap₂}
 use mathlib.Core.List.{List, [], ◌∷◌}
@@ -8,7 +8,6 @@ use Rattle.node.specs.Order.{less}
 use Rattle.node.specs.Entry.{Entry}
 use Rattle.node.specs.Find.{key_at, way_index}
 use Rattle.node.specs.laws.base.Results.{Holds, holds_ok, holds_bind, holds_imp}
-use Rattle.node.specs.laws.base.Tests.{by_test}
 use Rattle.tree.specs.Lent.{Lent}
 use Rattle.tree.specs.State.{State, node_at}
 use Rattle.tree.specs.Load as load
@@ -21,6 +20,7 @@ use Rattle.tree.specs.laws.state.State.{keys_of}
 use Rattle.tree.specs.laws.slots.Tree.{used_nodes}
 use Rattle.tree.specs.laws.load.Way.{same_keys, loaded_used}
 use Rattle.tree.specs.laws.trust.Loads.{Loads, loads_refl, loads_then, load_loads, holds_cond, by_list}
+use Rattle.tree.specs.laws.lookup.RangeAgain.{keys_same}
 use Rattle.tree.specs.declared.editor.Tree.{Tree}
 use Rattle.tree.specs.declared.editor.Bound.{Bound}
 use Rattle.tree.specs.declared.editor.Bounds.{Bounds}
@@ -59,18 +59,15 @@ floor_loads (suc d) l s bs n k =
 
 -- ---- bounds are of keys
 
-length_keys : (es : List Entry) → length (keys_of es) ≡ length es
-length_keys [] = refl
-length_keys (e ∷ es) = ap suc (length_keys es)
-
 bounds_keys : (o : ℕ) (bs : load.Bounds) (xs ys : List Entry) (i : ℕ) → keys_of xs ≡ keys_of ys → child_bounds o bs xs i ≡ child_bounds o bs ys i
 unfolding child_bounds
 bounds_keys o bs xs ys i e =
-    let n : length xs ≡ length ys = sym (length_keys xs) ∙ ap length e ∙ length_keys ys in
+    let n : length xs ≡ length ys = keys_same xs ys e in
     rw (same_keys xs ys i e, same_keys xs ys (suc i) e, n)
 
-bound_more : (m k : ℕ) (b : Bound) → m ≤ k → BoundIn m b → BoundIn k b
-bound_more m k b h i = record { slot = λ q. omega (arith, i.slot q) }
+bound_more : (m k : ℕ) (b : Option Bound) → m ≤ k → BoundIn m b → BoundIn k b
+bound_more m k None h i = tt
+bound_more m k (Some x) h i = omega arith
 
 pub bounds_more : (m k : ℕ) (b : Bounds) → m ≤ k → BoundsIn m b → BoundsIn k b
 bounds_more m k b h i = record { lower = bound_more m k b.lower h i.lower; upper = bound_more m k b.upper h i.upper }
@@ -81,13 +78,11 @@ left_with d l s bs n i above cs =
     cond (ltb 0 i && not above) (load_child l s bs n (i - 1) >>= λ c. last_from d l c.state cs c.slot) (ok (none_in s))
 
 module _ (l : Lent) (s t : State) (k : Loads l s t) where
-  bound_loads : (b : Bound) → BoundIn (length s.nodes) b → bound_of t b ≡ bound_of s b
+  bound_loads : (b : Option Bound) → BoundIn (length s.nodes) b → bound_of t b ≡ bound_of s b
   unfolding bound_of
-  bound_loads b h =
-      by_test b.some
-      (λ q. rw q (ap (λ (x : List ℕ). x ∷ []) (same_keys (node_at t b.slot).entries (node_at s b.slot).entries b.index
-      (k.keys b.slot (h.slot q)))))
-      (λ q. rw q)
+  bound_loads None h = refl
+  bound_loads (Some b) h =
+      ap (λ (x : List ℕ). x ∷ []) (same_keys (node_at t b.slot).entries (node_at s b.slot).entries b.index (k.keys b.slot h))
 
   pub bounds_loads : (b : Bounds) → BoundsIn (length s.nodes) b → bounds_of t b ≡ bounds_of s b
   unfolding bounds_of

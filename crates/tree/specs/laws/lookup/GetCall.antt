@@ -24,7 +24,7 @@ use Rattle.tree.specs.internal.Edits.{Trusts}
 use Rattle.tree.specs.laws.refusal1.Roomy.{roomy_get}
 use Rattle.tree.specs.declared.lent.Lent.{Lent}
 use Rattle.tree.specs.internal.Bank.{Ready}
-use Rattle.tree.specs.internal.Way.{steps_of, went_of, way_of, WayReady}
+use Rattle.tree.specs.internal.Way.{steps_of, walked_of, way_of, WayReady}
 use Rattle.tree.specs.internal.Get.{got_held, held_at, got_at, got_way, ReadyGot, GotCalled}
 use Rattle.tree.specs.laws.trust.Stands.{Stands, all, trusted_of}
 use Rattle.tree.specs.laws.trust.Loads.{WayLoaded, way_loaded, trusted_get}
@@ -34,9 +34,11 @@ use Rattle.tree.specs.laws.trust.Named.{live_used}
 use Rattle.tree.specs.laws.trust.Edit.{down_leaf}
 use Rattle.tree.specs.declared.editor.Tree.{Tree}
 use Rattle.tree.specs.declared.way.Way.{Way}
-use Rattle.tree.specs.declared.way.Went.TheVariants as went
-use Rattle.tree.specs.declared.get.Got.{Got}
-use Rattle.tree.specs.declared.get.Got.TheVariants as getting
+use Rattle.std.specs.Prelude as std
+use Rattle.std.specs.Prelude.{Ok, Err, Option, is_err}
+use Rattle.node.specs.declared.refusal.Refusal.{Refusal}
+use Rattle.node.specs.declared.refusal.Refusal.TheVariants as is
+use Rattle.tree.specs.declared.get.Copied.{Copied}
 
 -- entries that a leaf can hold are no children
 pub rows_suit : (o : ℕ) (t : BTreeInfo) (es : List Entry) → every (entry_holds o t true) es ≡ true → suits true es ≡ true
@@ -80,36 +82,36 @@ module _ (l : lent.Lent) (size : ℕ) (t : Tree) (h0 b0 : List ℕ) (tr : truste
   pub way_low : level ≤ 32
   way_low = rw ev (stands.deep t.root live_root)
 
-  module _ (key out h b : List ℕ) (w : Way) (ew : way_of size h b w ≡ lookup.way_from level l (state_of size t h0 b0) unbounded t.root key) where
-    pub way_is : lookup.way l s key ≡ way_of size h b w
+  module _ (key out h b : List ℕ) (r : std.Result Way Refusal)
+      (er : way_of size h b r ≡ lookup.way_from level l (state_of size t h0 b0) unbounded t.root key) where
+    pub way_is : lookup.way l s key ≡ way_of size h b r
     unfolding lookup.way
     way_is =
         ap₂ (λ (n d : ℕ). lookup.way_from d l s unbounded n key) (root_is size t h0 b0)
-        (ap (λ (n : ℕ). (node_at s n).level) (root_is size t h0 b0) ∙ sym ev) ∙ sym ew
+        (ap (λ (n : ℕ). (node_at s n).level) (root_is size t h0 b0) ∙ sym ev) ∙ sym er
 
-    pub get_refused : (x : ℕ) → w.went ≡ went.Refused x → got_means size h b out (getting.Refused x) ≡ got_way l (state_of size t h0 b0)
-        (length out) key
-    unfolding got_means got_way way_of went_of
+    pub get_refused : (x : Refusal) → r ≡ Err x → got_means size h b out (Err x) ≡ got_way l (state_of size t h0 b0) (length out) key
+    unfolding got_means got_way way_of
     get_refused x e = sym (rw (way_is, e))
 
-    pub get_refused_same : (x : ℕ) → w.went ≡ went.Refused x → out ≡ got_output out (got_way l (state_of size t h0 b0) (length out) key)
-    unfolding got_output got_way way_of went_of
+    pub get_refused_same : (x : Refusal) → r ≡ Err x → out ≡ got_output out (got_way l (state_of size t h0 b0) (length out) key)
+    unfolding got_output got_way way_of
     get_refused_same x e = sym (rw (way_is, e))
 
-    module _ (e : w.went ≡ went.Arrived) where
+    module _ (w : Way) (e : r ≡ Ok w) where
       abbrev s' : State
       s' = state_of size w.tree h b
 
       abbrev ps : List lookup.Step
       ps = steps_of w.slots w.kids w.steps
 
-      pub arrives : way_of size h b w ≡ ok (record { state = s'; steps = ps })
-      unfolding way_of went_of
+      pub arrives : way_of size h b r ≡ ok (record { state = s'; steps = ps })
+      unfolding way_of walked_of
       arrives = rw e
 
       loads : WayLoaded l all all s t.root s' ps
       loads = (way_loaded level l all all s unbounded t.root key stands live_root (sym ev)).at (record { state = s'; steps = ps })
-          (sym ew ∙ arrives)
+          (sym er ∙ arrives)
 
       long : w.steps ≡ 1 + length loads.rest
       long = let z = ap length loads.steps in omega (arith, steps_long w.slots w.kids w.steps)
@@ -122,7 +124,7 @@ module _ (l : lent.Lent) (size : ℕ) (t : Tree) (h0 b0 : List ℕ) (tr : truste
           let d = rw loads.steps at loads.down in
           let q : (node_at s' loads.top.slot).level ≡ length loads.rest = down_level all all s' loads.top loads.rest
           loads.loaded.stands d in
-          let r : (node_at s' t.root).level ≡ level = loads.loaded.loads.level t.root (live_used s t.root live_root) ∙ sym ev in
+          let j : (node_at s' t.root).level ≡ level = loads.loaded.loads.level t.root (live_used s t.root live_root) ∙ sym ev in
           let f : (node_at s' loads.top.slot).level ≡ (node_at s' t.root).level = ap (λ (n : ℕ). (node_at s' n).level) loads.first in
           omega (arith, long, way_low)
 
@@ -154,8 +156,8 @@ module _ (l : lent.Lent) (size : ℕ) (t : Tree) (h0 b0 : List ℕ) (tr : truste
           → o ≡ got_output out (got_way l (state_of size t h0 b0) (length out) key)
       get_found_out o q = q ∙ ap (got_output out) (sym found_is)
 
-      pub get_ready : (slots : ℕ) → WayReady size slots h b w → Ready size slots w.tree.used h b
-      get_ready slots r = rw e at r
+      pub get_ready : (slots : ℕ) → WayReady size slots h b r → Ready size slots w.tree.used h b
+      get_ready slots q = rw e at q
 
 -- ---- get as a call: 12 first, marks cleared
 
@@ -164,7 +166,7 @@ module _ (l : lent.Lent) (size : ℕ) (t : Tree) (h0 b0 key : List ℕ) (k : Boo
   unfolding state_of keyed
   keyed_is = sym ek
 
-  pub in_argument : (out : List ℕ) → not k ≡ true → got_means size h0 b0 out (getting.Refused 12) ≡ lookup.get_in l (state_of size t h0 b0)
+  pub in_argument : (out : List ℕ) → not k ≡ true → got_means size h0 b0 out (Err is.Argument) ≡ lookup.get_in l (state_of size t h0 b0)
       (length out) key
   unfolding got_means lookup.get_in
   in_argument out n = sym (rw (keyed_is, not-true k n))
@@ -193,19 +195,17 @@ pub in_trusted : (l : lent.Lent) (size : ℕ) (t : Tree) (h0 b0 h1 : List ℕ) �
     → trusted l (state_of size t h0 b0) ≡ true → trusted l (state_of size t h1 b0) ≡ true
 in_trusted l size t h0 b0 h1 e q = ap (trusted l) e ∙ q
 
--- an answer taken apart and put together
-pub got_refused : (size : ℕ) (h b h' b' out : List ℕ) (g : Got) (x : ℕ) → g ≡ getting.Refused x → got_means size h' b' out (getting.Refused x)
-    ≡ got_means size h b out g
+-- a refusal is the same whatever the slots hold
+pub got_refused : (size : ℕ) (h b h' b' out : List ℕ) (g : std.Result (Tree × Option Copied) Refusal) → true ≡ is_err g
+    → got_means size h' b' out g ≡ got_means size h b out g
 unfolding got_means
-got_refused size h b h' b' out g x e = rw e
-
-pub got_same : (size : ℕ) (h b out : List ℕ) (g g' : Got) → g ≡ g' → got_means size h b out g' ≡ got_means size h b out g
-got_same size h b out g g' e = ap (got_means size h b out) (sym e)
+got_refused size h b h' b' out (Err x) z = refl
+got_refused size h b h' b' out (Ok v) z = cc
 
 -- ---- what get leaves
 
 module _ (image : List ℕ) (l : Lent) (t : Tree) (h b : List ℕ) (c : Trusts image l t h b) (h' b' : List ℕ) where
-  module _ (key out : List ℕ) (room : ℕ) (g : Got)
+  module _ (key out : List ℕ) (room : ℕ) (g : std.Result (Tree × Option Copied) Refusal)
       (e : got_means l.size h' b' out g ≡ lookup.get_in (lent_of image l) (state_of l.size t h b) room key)
       (r : ReadyGot l.size l.slots h' b' g) where
     found_trusts : (u : Tree) (v : List Val) → ok (record { state = state_of l.size u h' b'; answer = v }) ≡ got_means l.size h' b' out g
@@ -215,27 +215,28 @@ module _ (image : List ℕ) (l : Lent) (t : Tree) (h b : List ℕ) (c : Trusts i
         looked_trusts image l u h' b' v _ (trusted_get (lent_of image l) (state_of l.size t h b) room key c.trust)
         (roomy_get (lent_of image l) (state_of l.size t h b) room key c.trust c.roomy) (q ∙ e) y
 
-    pub none_trusts : (u : Tree) → g ≡ getting.None u → Trusts image l u h' b'
+    got_trusts : (u : Tree) (v : Option Copied) → g ≡ Ok (u, v) → Trusts image l u h' b'
     unfolding got_means
-    none_trusts u q = found_trusts u _ (ap (got_means l.size h' b' out) (sym q)) (subst (ReadyGot l.size l.slots h' b') q r)
+    got_trusts u v q = found_trusts u _ (ap (got_means l.size h' b' out) (sym q)) (subst (ReadyGot l.size l.slots h' b') q r)
 
-    pub ghost_trusts : (u : Tree) → g ≡ getting.Ghost u → Trusts image l u h' b'
-    unfolding got_means
-    ghost_trusts u q = found_trusts u _ (ap (got_means l.size h' b' out) (sym q)) (subst (ReadyGot l.size l.slots h' b') q r)
+  pub got_kept : (key out : List ℕ) (room : ℕ) (g : std.Result (Tree × Option Copied) Refusal) → false ≡ is_err g
+      → got_means l.size h' b' out g ≡ lookup.get_in (lent_of image l) (state_of l.size t h b) room key → ReadyGot l.size l.slots h' b' g
+      → GotCalled image l t h b h' b' g
+  got_kept key out room (Err x) z e r = cc
+  got_kept key out room (Ok (u, v)) z e r = got_trusts key out room (Ok (u, v)) e r u v refl
 
-    pub value_trusts : (u : Tree) (n : ℕ) → g ≡ getting.Value u n → Trusts image l u h' b'
-    unfolding got_means
-    value_trusts u n q = found_trusts u _ (ap (got_means l.size h' b' out) (sym q)) (subst (ReadyGot l.size l.slots h' b') q r)
+  pub got_undone : (g : std.Result (Tree × Option Copied) Refusal) → true ≡ is_err g → state_of l.size t h' b' ≡ state_of l.size t h b
+      → Ready l.size l.slots t.used h' b' → GotCalled image l t h b h' b' g
+  got_undone (Err x) z e r = (e, r)
+  got_undone (Ok v) z e r = cc
 
-  pub left_of_lem : (g : Got) → GotCalled image l t h b h' b' g → got_leaves l.size l.slots t h b h' b' g
-  left_of_lem (getting.Refused x) k = (k.0, back_hold image l t h b c h' b' k.0 k.1)
-  left_of_lem (getting.None u) k = trusts_hold image l u h' b' k
-  left_of_lem (getting.Ghost u) k = trusts_hold image l u h' b' k
-  left_of_lem (getting.Value u n) k = trusts_hold image l u h' b' k
+  pub left_of_lem : (g : std.Result (Tree × Option Copied) Refusal) → GotCalled image l t h b h' b' g → got_leaves l.size l.slots t h b h' b' g
+  left_of_lem (Err x) k = (k.0, back_hold image l t h b c h' b' k.0 k.1)
+  left_of_lem (Ok (u, v)) k = trusts_hold image l u h' b' k
 
 -- after a refused get every call answers as if there had been none
-pub refused_none : {A : Type 0} (size slots : ℕ) (t : Tree) (heads bytes heads' bytes' : List ℕ) (x : ℕ)
-    → got_leaves size slots t heads bytes heads' bytes' (getting.Refused x) → (f : State → Result A)
+pub refused_none : {A : Type 0} (size slots : ℕ) (t : Tree) (heads bytes heads' bytes' : List ℕ) (x : Refusal)
+    → got_leaves size slots t heads bytes heads' bytes' (Err x) → (f : State → Result A)
     → called size slots t heads' bytes' f ≡ called size slots t heads bytes f
 unfolding called
 refused_none size slots t heads bytes heads' bytes' x c f = rw (c.1, c.0)
@@ -262,7 +263,7 @@ module _ (image : List ℕ) (l : Lent) (t : Tree) (h0 b0 : List ℕ) (a : Bool)
       (λ u. let v : numbers ≡ false = rw u at z in call_is room key ∙ rw (u, v))
       (λ u. call_is room key ∙ rw u)
 
-  pub get_lent : not a ≡ true → (out key : List ℕ) → got_means l.size h0 b0 out (getting.Refused 1) ≡ got_in (lent_of image l) t h0 b0
+  pub get_lent : not a ≡ true → (out key : List ℕ) → got_means l.size h0 b0 out (Err is.Lent) ≡ got_in (lent_of image l) t h0 b0
       (length out) key
   unfolding got_means
   get_lent n out key = sym (lent_no n (length out) key)

@@ -18,27 +18,28 @@ use Rattle.node.specs.laws.slot.Records.{entries_head, length_entries}
 use Rattle.node.specs.laws.slot.Slot.{at_lies, value_leaf, value_ghost, part_value, part_length}
 use Rattle.node.specs.Records.{mark_length, record_length, records_length, entry_of, entries_of, value_of}
 use Rattle.node.specs.Slot.{is_child, suit, suits, value_means}
-use Rattle.node.specs.internal.SlotSteps.{found_in, record_at}
-use Rattle.node.specs.declared.record.Record.{Record}
+use Rattle.node.specs.internal.SlotSteps.{found_in, parts_at}
+use Rattle.node.specs.declared.record.RecordParts.{RecordParts}
 use Rattle.node.specs.declared.slot.Found.{Found}
 use Rattle.tree.specs.Lookup as lookup
-use Rattle.node.specs.Result.{Result, ok, refused}
+use Rattle.node.specs.Result.{ok, refused}
 use Rattle.node.specs.Slot.{head_at}
 use Rattle.node.specs.Entry.{value_length, value_bytes}
 use Rattle.node.specs.laws.base.Seal.{length_window}
 use Rattle.node.specs.declared.head.Head.{Head}
 use Rattle.tree.specs.State.{State, no_node, node_at}
 use Rattle.tree.specs.Workspace.{slot_bytes, state_of}
-use Rattle.tree.specs.Answers.{got_means, got_bytes, got_output}
+use Rattle.tree.specs.Answers.{copied_of, got_means, got_bytes, got_output}
 use Rattle.tree.specs.internal.Bank.{node_in, live}
-use Rattle.tree.specs.internal.Get.{held_means, HeldIn, got_held, held_at, got_at, got_of, ReadyGot}
+use Rattle.tree.specs.internal.Get.{held_means, HeldIn, got_held, held_at, got_at}
 use Rattle.tree.specs.laws.slots.Bank.{live_entries}
 use Rattle.tree.specs.laws.slots.Tree.{node_in_lem, node_out}
 use Rattle.tree.specs.declared.editor.Tree.{Tree}
-use Rattle.tree.specs.declared.get.Copied.{Copied}
 use Rattle.tree.specs.declared.get.Held.{Held}
-use Rattle.tree.specs.declared.get.Got.TheVariants as getting
 use Rattle.tree.specs.declared.get.Held.TheVariants as held
+use Rattle.std.specs.Prelude.{Ok, Err, Some, None, Option}
+use Rattle.node.specs.declared.refusal.Refusal.TheVariants as is
+use Rattle.tree.specs.declared.get.Copied.TheVariants as copied
 
 -- ---- what a key holds among a leaf's records
 
@@ -53,7 +54,7 @@ mark_leaf m v h n =
     (λ u. let z : true ≡ false = rw (t, ne_eqb m 0xFFFF n, u) at h in never (sym z) refl))
 
 module _ (o n : ℕ) (k l : List ℕ) (f : Found) (ef : f ≡ found_in o k n l) where
-  pub held_none : not f.found ≡ true → held_means l held.None ≡ lookup.held o k (entries_of n l)
+  pub held_none : not f.found ≡ true → held_means l None ≡ lookup.held o k (entries_of n l)
   unfolding held_means lookup.held found_in
   held_none h =
       let z : is_there o k (entries_of n l) ≡ false = sym (ap (λ (x : Found). x.found) ef) ∙ not-true f.found h in
@@ -86,8 +87,8 @@ module _ (o n : ℕ) (k l : List ℕ) (f : Found) (ef : f ≡ found_in o k n l) 
     unfolding lookup.held val_at
     held_is = rw (there, entry_is)
 
-    module _ (r : Record) (er : r ≡ record_at l f.at) where
-      pub held_ghost : r.mark ≡ 0xFFFF → held_means l held.Ghost ≡ lookup.held o k (entries_of n l)
+    module _ (r : RecordParts) (er : r ≡ parts_at l f.at) where
+      pub held_ghost : r.mark ≡ 0xFFFF → held_means l (Some held.Ghost) ≡ lookup.held o k (entries_of n l)
       unfolding held_means value_means
       held_ghost q = sym (held_is ∙ ap (λ (v : Val). v ∷ []) (sym (value_ghost l f.at r er (omega arith) q)))
 
@@ -99,31 +100,31 @@ module _ (o n : ℕ) (k l : List ℕ) (f : Found) (ef : f ≡ found_in o k n l) 
           not-true (is_child (entry_of (drop f.at l)).value) (ap (λ (e : Entry). not (is_child e.value)) entry_is ∙ z)
 
       mark_small : suits true (entries_of n l) ≡ true → (r.mark ≡ 0xFFFF → ⊥) → r.mark ≤ 0xFFFC
-      unfolding record_at
+      unfolding parts_at
       mark_small s q =
           let z : (entry_of (drop f.at l)).value ≡ value_of r.mark (window r.value (mark_length r.mark) l) =
-          part_value f.at r.value r.klen r.mark l (ap (λ (x : Record). x.klen) er) (ap (λ (x : Record). x.mark) er) (rw er) in
+          part_value f.at r.value r.klen r.mark l (ap (λ (x : RecordParts). x.klen) er) (ap (λ (x : RecordParts). x.mark) er) (rw er) in
           mark_leaf r.mark (window r.value (mark_length r.mark) l) (sym (ap is_child z) ∙ no_child s) q
 
-      pub held_value : suits true (entries_of n l) ≡ true → (r.mark ≡ 0xFFFF → ⊥) → held_means l (held.Value r.value r.vlen) ≡ lookup.held o k
+      pub held_value : suits true (entries_of n l) ≡ true → (r.mark ≡ 0xFFFF → ⊥) → held_means l (Some (held.Value r.value r.vlen)) ≡ lookup.held o k
           (entries_of n l)
       unfolding held_means value_means
       held_value s q = sym (held_is ∙ ap (λ (v : Val). v ∷ []) (sym (value_leaf l f.at r er (mark_small s q))))
 
       pub held_within : records_length n l ≤ length l → r.value + r.vlen ≤ length l
-      unfolding record_at
+      unfolding parts_at
       held_within m =
           let a : f.at + record_length (drop f.at l) ≤ length l = held_lies m in
           let x : r.value ≡ f.at + 4 + r.klen = rw er in
           let y : r.vlen ≡ mark_length r.mark = rw er in
           let z : record_length (drop f.at l) ≡ 4 + r.klen + mark_length r.mark = part_length f.at r.klen r.mark l
-          (ap (λ (x : Record). x.klen) er) (ap (λ (x : Record). x.mark) er) in
+          (ap (λ (x : RecordParts). x.klen) er) (ap (λ (x : RecordParts). x.mark) er) in
           omega arith
 
 -- ---- copied out
 
-pub held_room : (l : List ℕ) (v : Held) (at len : ℕ) → v ≡ held.Value at len → HeldIn l v → at + len ≤ length l
-held_room l v at len e i = rw e at i
+pub held_room : (l : List ℕ) (v : Option Held) (x : Held) (at len : ℕ) → v ≡ Some x → x ≡ held.Value at len → HeldIn l v → at + len ≤ length l
+held_room l v x at len e f i = rw (e ∙ ap Some f) at i
 
 pub splice_none : (out : List ℕ) → splice out 0 [] ≡ out
 unfolding splice
@@ -142,8 +143,8 @@ module _ (size : ℕ) (t : Tree) (heads bytes : List ℕ) (n : ℕ) (key out : L
     unfolding got_at got_held lookup.got_length
     none_is = rw (← z, le-leb 0 (length out) (omega arith))
 
-    none_answer : got_means size heads bytes out (getting.None t) ≡ got_at (state_of size t heads bytes) (length out) n key
-    unfolding got_means
+    none_answer : got_means size heads bytes out (Ok (t, None)) ≡ got_at (state_of size t heads bytes) (length out) n key
+    unfolding got_means copied_of
     none_answer = sym none_is
 
     none_output : out ≡ got_output out (got_at (state_of size t heads bytes) (length out) n key)
@@ -154,7 +155,7 @@ module _ (size : ℕ) (t : Tree) (heads bytes : List ℕ) (n : ℕ) (key out : L
   unfolding held_at lookup.held no_node is_there
   out_none h = sym (rw (node_out size t heads bytes n h))
 
-  pub copy_out : t.used ≤ n → got_means size heads bytes out (getting.None t) ≡ got_at (state_of size t heads bytes) (length out) n key
+  pub copy_out : t.used ≤ n → got_means size heads bytes out (Ok (t, None)) ≡ got_at (state_of size t heads bytes) (length out) n key
   copy_out h = none_answer (out_none h)
 
   pub copy_out_same : t.used ≤ n → out ≡ got_output out (got_at (state_of size t heads bytes) (length out) n key)
@@ -168,46 +169,46 @@ module _ (size : ℕ) (t : Tree) (heads bytes : List ℕ) (n : ℕ) (key out : L
     pub leaf_suits : suits true (node_at (state_of size t heads bytes) n).entries ≡ true → suits true (entries_of h.count l) ≡ true
     leaf_suits q = sym (ap (suits true) entries_at) ∙ q
 
-    module _ (v : Held) (ev : held_means l v ≡ lookup.held t.order key (entries_of h.count l)) where
+    module _ (v : Option Held) (ev : held_means l v ≡ lookup.held t.order key (entries_of h.count l)) where
       held_at_lem : held_means l v ≡ held_at (state_of size t heads bytes) n key
       unfolding held_at state_of
       held_at_lem = ev ∙ ap (lookup.held t.order key) (sym entries_at)
 
-      module _ (e : v ≡ held.None) where
+      module _ (e : v ≡ None) where
         is_none : [] ≡ held_at (state_of size t heads bytes) n key
         unfolding held_means
         is_none = sym (ap (held_means l) e) ∙ held_at_lem
 
-        pub copy_none : got_means size heads bytes out (getting.None t) ≡ got_at (state_of size t heads bytes) (length out) n key
+        pub copy_none : got_means size heads bytes out (Ok (t, None)) ≡ got_at (state_of size t heads bytes) (length out) n key
         copy_none = none_answer is_none
 
         pub copy_none_same : out ≡ got_output out (got_at (state_of size t heads bytes) (length out) n key)
         copy_none_same = none_output is_none
 
-      module _ (e : v ≡ held.Ghost) where
+      module _ (x : Held) (e : v ≡ Some x) (f : x ≡ held.Ghost) where
         is_ghost_lem : ghost ∷ [] ≡ held_at (state_of size t heads bytes) n key
         unfolding held_means
-        is_ghost_lem = sym (ap (held_means l) e) ∙ held_at_lem
+        is_ghost_lem = sym (ap (held_means l) (e ∙ ap Some f)) ∙ held_at_lem
 
         ghost_is : got_at (state_of size t heads bytes) (length out) n key ≡ ok (record { state = state_of size t heads bytes; answer = ghost ∷ [] })
         unfolding got_at got_held lookup.got_length value_length
         ghost_is = rw (← is_ghost_lem, le-leb 0 (length out) (omega arith))
 
-        pub copy_ghost : got_means size heads bytes out (getting.Ghost t) ≡ got_at (state_of size t heads bytes) (length out) n key
-        unfolding got_means
+        pub copy_ghost : got_means size heads bytes out (Ok (t, Some copied.Ghost)) ≡ got_at (state_of size t heads bytes) (length out) n key
+        unfolding got_means copied_of
         copy_ghost = sym ghost_is
 
         pub copy_ghost_same : out ≡ got_output out (got_at (state_of size t heads bytes) (length out) n key)
         unfolding got_output got_bytes value_bytes
         copy_ghost_same = sym (ap (got_output out) ghost_is ∙ splice_none out)
 
-      module _ (at len : ℕ) (e : v ≡ held.Value at len) (i : HeldIn l v) where
+      module _ (x : Held) (e : v ≡ Some x) (at len : ℕ) (f : x ≡ held.Value at len) (i : HeldIn l v) where
         is_value : leaf (window at len l) ∷ [] ≡ held_at (state_of size t heads bytes) n key
         unfolding held_means
-        is_value = sym (ap (held_means l) e) ∙ held_at_lem
+        is_value = sym (ap (held_means l) (e ∙ ap Some f)) ∙ held_at_lem
 
         copy_within : at + len ≤ length l
-        copy_within = rw e at i
+        copy_within = held_room l v x at len e f i
 
         long : length (window at len l) ≡ len
         long = length_window at len l copy_within
@@ -217,7 +218,7 @@ module _ (size : ℕ) (t : Tree) (heads bytes : List ℕ) (n : ℕ) (key out : L
           unfolding got_at got_held lookup.got_length value_length
           output_is = rw (← is_value, long, lt-leb len (length out) q)
 
-          pub copy_refused : got_means size heads bytes out (getting.Refused 20) ≡ got_at (state_of size t heads bytes) (length out) n key
+          pub copy_refused : got_means size heads bytes out (Err is.Output) ≡ got_at (state_of size t heads bytes) (length out) n key
           unfolding got_means
           copy_refused = sym output_is
 
@@ -226,27 +227,21 @@ module _ (size : ℕ) (t : Tree) (heads bytes : List ℕ) (n : ℕ) (key out : L
           copy_refused_same = sym (ap (got_output out) output_is)
 
         module _ (q : len ≤ length out) (out' : List ℕ) (eo : out' ≡ splice out 0 (take (at + len - at) (drop at l))) where
-          copied : out' ≡ splice out 0 (window at len l)
+          copied_is : out' ≡ splice out 0 (window at len l)
           unfolding window
-          copied = let z : at + len - at ≡ len = omega arith in eo ∙ ap (λ (j : ℕ). splice out 0 (take j (drop at l))) z
+          copied_is = let z : at + len - at ≡ len = omega arith in eo ∙ ap (λ (j : ℕ). splice out 0 (take j (drop at l))) z
 
           value_is : got_at (state_of size t heads bytes) (length out) n key ≡ ok
               (record { state = state_of size t heads bytes; answer = leaf (window at len l) ∷ [] })
           unfolding got_at got_held lookup.got_length value_length
           value_is = rw (← is_value, long, le-leb len (length out) q)
 
-          pub copy_value : got_means size heads bytes out' (getting.Value t len) ≡ got_at (state_of size t heads bytes) (length out) n key
-          unfolding got_means
+          pub copy_value : got_means size heads bytes out' (Ok (t, Some (copied.Value len))) ≡ got_at (state_of size t heads bytes) (length out) n key
+          unfolding got_means copied_of
           copy_value =
-              let z : take len out' ≡ window at len l = ap₂ take (sym long) copied ∙ take_front out (window at len l) in
+              let z : take len out' ≡ window at len l = ap₂ take (sym long) copied_is ∙ take_front out (window at len l) in
               sym (value_is ∙ rw z)
 
           pub copy_value_out : out' ≡ got_output out (got_at (state_of size t heads bytes) (length out) n key)
           unfolding got_output got_bytes value_bytes
-          copy_value_out = copied ∙ sym (ap (got_output out) value_is)
-
--- what was copied out, with the tree
-pub copied_says : (size slots : ℕ) (heads bytes out : List ℕ) (t : Tree) (x : Result (lookup.Got Val)) (y : Type 0) (c d : Copied) → c ≡ d
-    → (got_means size heads bytes out (got_of t c) ≡ x) × (y × ReadyGot size slots heads bytes (got_of t c))
-    → (got_means size heads bytes out (got_of t d) ≡ x) × (y × ReadyGot size slots heads bytes (got_of t d))
-copied_says size slots heads bytes out t x y c d e p = rw (← e) p
+          copy_value_out = copied_is ∙ sym (ap (got_output out) value_is)

@@ -1,8 +1,8 @@
 -- Laws of get, floor and the way where every child on a key's way is loaded. Assumes nothing.
-use Rattle.std.specs.Prelude.{◌≡◌, refl, List, [], ◌∷◌, true, false, ℕ, ◌+◌, ◌-◌, ◌≤◌, ◌<◌, length, take, drop, eqb}
+use Rattle.std.specs.Prelude.{◌≡◌, refl, List, [], ◌∷◌, true, ℕ, ◌+◌, ◌-◌, ◌≤◌, ◌<◌, length, take, drop, eqb}
 use Rattle.std.proofs.Common.{sym, ap, ◌∙◌, arith, eq-eqb}
 use Rattle.std.proofs.Math.ListN.{get_or}
-use Rattle.node.specs.laws.base.Tests.{never}
+use Rattle.node.specs.Order.{keyed}
 use Rattle.node.specs.Result.{Result}
 use Rattle.node.specs.Entry.{Entry, Val, ghost}
 use Rattle.node.specs.Bytes.{splice}
@@ -24,26 +24,25 @@ use Rattle.tree.specs.internal.Bank.{live, Ready}
 use Rattle.tree.specs.internal.Edits.{Trusts}
 use Rattle.tree.specs.internal.Way.{way_of, WayReady}
 use Rattle.tree.specs.internal.Get.{got_held, held_at, got_at, ReadyGot, GotCalled}
-use Rattle.tree.specs.internal.Floor.{entry_in, EntryReady, floored_of, FloorReady, FloorCalled, SpotOf}
-use Rattle.tree.specs.internal.Loaded.{LeadsTo, LeafIs, Walked}
+use Rattle.tree.specs.internal.Floor.{entry_in, EntryReady, floored_of, FloorReady, FloorCalled, SpotIs}
+use Rattle.tree.specs.internal.Loaded.{LeadsTo, Walked}
 use Rattle.tree.specs.laws.trust.Stands.{Stands, all, trusted_of}
 use Rattle.tree.specs.laws.trust.Loads.{WayLoaded, way_loaded}
 use Rattle.tree.specs.laws.trust.Edit.{down_leaf}
-use Rattle.tree.specs.laws.lookup.GetCall.{rows_suit}
-use Rattle.tree.specs.laws.lookup.GetCall as get
-use Rattle.tree.specs.laws.lookup.FloorCall as floor
+use Rattle.tree.specs.laws.lookup.GetCall.{rows_suit, got_kept}
+use Rattle.tree.specs.laws.lookup.FloorCall.{floor_kept}
 use Rattle.tree.specs.laws.lookup.FloorLeaf.{above_one, count_above, floor_at_ready}
 use Rattle.tree.specs.laws.lookup.FloorLeaf.{entry_lies, record_refused, record_refused_same, record_copied, record_copied_out}
 use Rattle.tree.specs.laws.load.LoadedWay.{Arrives, leads_way, leads_floor}
 use Rattle.tree.specs.declared.editor.Tree.{Tree}
 use Rattle.tree.specs.declared.lent.Lent.{Lent}
 use Rattle.tree.specs.declared.way.Way.{Way}
-use Rattle.tree.specs.declared.way.Went.TheVariants as went
-use Rattle.tree.specs.declared.get.Got.{Got}
-use Rattle.tree.specs.declared.get.Got.TheVariants as getting
 use Rattle.tree.specs.declared.floor.Spot.{Spot}
-use Rattle.tree.specs.declared.floor.Floor.{Floor}
-use Rattle.tree.specs.declared.floor.Floor.TheVariants as flooring
+use Rattle.std.specs.Prelude as std
+use Rattle.std.specs.Prelude.{Ok, Err, Some, Option}
+use Rattle.node.specs.declared.refusal.Refusal.{Refusal}
+use Rattle.node.specs.declared.refusal.Refusal.TheVariants as is
+use Rattle.tree.specs.declared.get.Copied.{Copied}
 
 -- ---- get
 
@@ -64,17 +63,19 @@ leads_suits l s k m tr h =
     ∙ rows_suit s.order s.info (node_at s (lookup.leaf_of (a.top ∷ a.rest))).entries (rw u at q)
 
 module _ (image : List ℕ) (l : Lent) (t : Tree) (h b : List ℕ) (c : Trusts image l t h b) (key : List ℕ) where
-  module _ (m : ℕ) (q : LeafIs t.used (state_of l.size t h b) key m) (hm : m < t.used) where
+  module _ (m : ℕ) (k : keyed (state_of l.size t h b).order key ≡ true)
+      (q : LeadsTo (node_at (state_of l.size t h b) (state_of l.size t h b).root).level (state_of l.size t h b) key m
+      (state_of l.size t h b).root) where
     pub leaf_suits : suits true (node_at (state_of l.size t h b) m).entries ≡ true
-    leaf_suits = leads_suits (lent_of image l) (state_of l.size t h b) key m c.trust (q.leads hm)
+    leaf_suits = leads_suits (lent_of image l) (state_of l.size t h b) key m c.trust q
 
     got_is : (room : ℕ) → lookup.get_in (lent_of image l) (state_of l.size t h b) room key ≡ got_at (state_of l.size t h b) room m key
     unfolding lookup.get_in lookup.way got_at got_held held_at
     got_is room =
         let s : State = state_of l.size t h b in
         let a : Arrives s m (lookup.way_from (node_at s s.root).level (lent_of image l) s unbounded s.root key) =
-        leads_way (node_at s s.root).level (lent_of image l) s unbounded key m s.root (q.leads hm) in
-        rw (q.keys hm, a.way, a.leaf)
+        leads_way (node_at s s.root).level (lent_of image l) s unbounded key m s.root q in
+        rw (k, a.way, a.leaf)
 
     pub leaf_answer : (room : ℕ) (y : Result (lookup.Got Val)) → y ≡ got_at (state_of l.size t h b) room m key
         → y ≡ lookup.get_in (lent_of image l) (state_of l.size t h b) room key
@@ -85,47 +86,30 @@ module _ (image : List ℕ) (l : Lent) (t : Tree) (h b : List ℕ) (c : Trusts i
     leaf_output o out e = e ∙ ap (got_output out) (sym (got_is (length out)))
 
   -- slots that nothing was written to
-  pub got_left : (out : List ℕ) (room : ℕ) (g : Got)
+  pub got_left : (out : List ℕ) (room : ℕ) (g : std.Result (Tree × Option Copied) Refusal)
       → got_means l.size h b out g ≡ lookup.get_in (lent_of image l) (state_of l.size t h b) room key
       → ReadyGot l.size l.slots h b g → GotCalled image l t h b h b g
-  got_left out room (getting.Refused x) e r = (refl, c.ready)
-  got_left out room (getting.None u) e r = get.none_trusts image l t h b c h b key out room (getting.None u) e r u refl
-  got_left out room (getting.Ghost u) e r = get.ghost_trusts image l t h b c h b key out room (getting.Ghost u) e r u refl
-  got_left out room (getting.Value u n) e r = get.value_trusts image l t h b c h b key out room (getting.Value u n) e r u n refl
+  got_left out room (Err x) e r = (refl, c.ready)
+  got_left out room (Ok (u, v)) e r = got_kept image l t h b c h b key out room (Ok (u, v)) refl e r
 
   -- ---- floor
 
-  pub floor_left : (out : List ℕ) (room : ℕ) (g : Floor)
+  pub floor_left : (out : List ℕ) (room : ℕ) (g : std.Result (Tree × Option ℕ) Refusal)
       → floor_means l.size h b out g ≡ lookup.floor_in (lent_of image l) (state_of l.size t h b) room key
       → FloorReady l.size l.slots h b g → FloorCalled image l t h b h b g
-  floor_left out room (flooring.Refused x) e r = (refl, c.ready)
-  floor_left out room (flooring.None u) e r = floor.none_trusts image l t h b c h b key out room (flooring.None u) e r u refl
-  floor_left out room (flooring.Record u n) e r = floor.record_trusts image l t h b c h b key out room (flooring.Record u n) e r u n refl
+  floor_left out room (Err x) e r = (refl, c.ready)
+  floor_left out room (Ok (u, n)) e r = floor_kept image l t h b c h b key out room (Ok (u, n)) refl e r
 
-  module _ (r : Spot) (q : SpotOf l.size l.slots t h b key r) (f : r.found ≡ true) where
+  module _ (r : Spot) (q : SpotIs l.size l.slots t h b key r) where
     pub spot_answer : (room : ℕ) (y : Result (lookup.Got Entry))
         → y ≡ floored_of room (entry_in (state_of l.size t h b) r.slot r.index)
         → y ≡ lookup.floor_in (lent_of image l) (state_of l.size t h b) room key
-    spot_answer room y e = e ∙ sym (q.answer f (lent_of image l) room)
-
-    pub spot_output : (o out : List ℕ)
-        → o ≡ floored_output out (floored_of (length out) (entry_in (state_of l.size t h b) r.slot r.index))
-        → o ≡ floored_output out (lookup.floor_in (lent_of image l) (state_of l.size t h b) (length out) key)
-    spot_output o out e = e ∙ ap (floored_output out) (sym (q.answer f (lent_of image l) (length out)))
+    spot_answer room y e = e ∙ sym (q.answer (lent_of image l) room)
 
 module _ (size slots : ℕ) (t : Tree) (heads bytes key : List ℕ) where
-  pub spot_none : SpotOf size slots t heads bytes key (record { found = false; slot = 0; index = 0; at = 0 })
-  spot_none = record { ready = λ q. never q refl; lies = λ q. never q refl; answer = λ q. never q refl }
-
-  pub spot_ready : (r : Spot) → SpotOf size slots t heads bytes key r → r.found ≡ true
-      → EntryReady size slots t heads bytes r.slot r.index
-  spot_ready r q f = q.ready f
-
-  pub spot_lies : (r : Spot) → SpotOf size slots t heads bytes key r → r.found ≡ true
-      → r.at ≡ records_length r.index (slot_bytes size bytes r.slot)
-  spot_lies r q f = q.lies f
-
-  module _ (n : ℕ) (q : LeafIs t.used (state_of size t heads bytes) key n) (hn : n < t.used) (r : Ready size slots t.used heads bytes)
+  module _ (n : ℕ) (k : keyed (state_of size t heads bytes).order key ≡ true)
+      (q : LeadsTo (node_at (state_of size t heads bytes) (state_of size t heads bytes).root).level (state_of size t heads bytes) key n
+      (state_of size t heads bytes).root) (hn : n < t.used) (r : Ready size slots t.used heads bytes)
       (h : Head) (eh : h ≡ live (head_at heads n)) (l : List ℕ) (el : l ≡ slot_bytes size bytes n) (x : found.Last)
       (ex : x ≡ last_in t.order key h.count l) (z : x.count ≡ 0 → ⊥) where
     at_is : x.at ≡ records_length (x.count - 1) (slot_bytes size bytes n)
@@ -140,16 +124,11 @@ module _ (size slots : ℕ) (t : Tree) (heads bytes key : List ℕ) where
         let e : Entry = get_or (node_at s n).entries (x.count - 1) (record { key = []; value = ghost }) in
         let o = above_one t.order key (node_at s n).entries (x.count - 1)
         (omega (arith, count_above size t heads bytes key n hn h eh l el x ex)) in
-        let f = leads_floor (node_at s s.root).level v s unbounded key n s.root e (q.leads hn) o in
-        rw (q.keys hn, f)
+        let f = leads_floor (node_at s s.root).level v s unbounded key n s.root e q o in
+        rw (k, f)
 
-    pub spot_is : SpotOf size slots t heads bytes key (record { found = true; slot = n; index = x.count - 1; at = x.at })
-    spot_is =
-        record {
-          ready = λ f. floor_at_ready size t heads bytes key n hn h eh l el x ex z slots r;
-          lies = λ f. at_is;
-          answer = λ f. spot_floor;
-        }
+    pub spot_is : SpotIs size slots t heads bytes key (record { slot = n; index = x.count - 1; at = x.at })
+    spot_is = record { ready = floor_at_ready size t heads bytes key n hn h eh l el x ex z slots r; lies = at_is; answer = spot_floor }
 
 -- ---- a record copied from where it lies
 
@@ -170,7 +149,7 @@ module _ (size slots : ℕ) (t : Tree) (heads bytes : List ℕ) (r : Spot) (k : 
 
   module _ (end : ℕ) (ee : end ≡ r.at + record_length (drop r.at l)) (out : List ℕ) where
     module _ (q : length out < end - r.at) where
-      pub spot_refused : floor_means size heads bytes out (flooring.Refused 20) ≡ floored_of (length out)
+      pub spot_refused : floor_means size heads bytes out (Err is.Output) ≡ floored_of (length out)
           (entry_in (state_of size t heads bytes) r.slot r.index)
       spot_refused = record_refused size slots t heads bytes r.slot r.index k h refl l el r.at at_in end ee out q
 
@@ -178,7 +157,7 @@ module _ (size slots : ℕ) (t : Tree) (heads bytes : List ℕ) (r : Spot) (k : 
       spot_refused_same = record_refused_same size slots t heads bytes r.slot r.index k h refl l el r.at at_in end ee out q
 
     module _ (q : end - r.at ≤ length out) (out' : List ℕ) (eo : out' ≡ splice out 0 (take (end - r.at) (drop r.at l))) where
-      pub spot_copied : floor_means size heads bytes out' (flooring.Record t (end - r.at)) ≡ floored_of (length out)
+      pub spot_copied : floor_means size heads bytes out' (Ok (t, Some (end - r.at))) ≡ floored_of (length out)
           (entry_in (state_of size t heads bytes) r.slot r.index)
       spot_copied = record_copied size slots t heads bytes r.slot r.index k h refl l el r.at at_in end ee out q out' eo
 
@@ -188,10 +167,10 @@ module _ (size slots : ℕ) (t : Tree) (heads bytes : List ℕ) (r : Spot) (k : 
 
 -- ---- the way
 
-module _ (size : ℕ) (t : Tree) (heads bytes : List ℕ) (level : ℕ) (key : List ℕ) (w : Way) (q : Walked size t heads bytes level key w)
-    (e : w.went ≡ went.Arrived) where
-  pub walked_way : (l : lent.Lent) → way_of size heads bytes w ≡ lookup.way_from level l (state_of size t heads bytes) unbounded t.root key
-  walked_way l = q.arrives e l
+module _ (size : ℕ) (t : Tree) (heads bytes : List ℕ) (level : ℕ) (key : List ℕ) (r : Option Way) (q : Walked size t heads bytes level key r)
+    (w : Way) (e : r ≡ Some w) where
+  pub walked_way : (l : lent.Lent) → way_of size heads bytes (Ok w) ≡ lookup.way_from level l (state_of size t heads bytes) unbounded t.root key
+  walked_way l = q.arrives w e l
 
-  pub walked_ready : (slots : ℕ) → Ready size slots t.used heads bytes → WayReady size slots heads bytes w
-  walked_ready slots r = rw (e, q.same) r
+  pub walked_ready : (slots : ℕ) → Ready size slots t.used heads bytes → WayReady size slots heads bytes (Ok w)
+  walked_ready slots x = rw (q.same w e) x

@@ -1,5 +1,5 @@
 -- A range over a state that an accepted range left answers the same entries and loads nothing: what counts first may write after. Assumes nothing.
-use Rattle.std.specs.Prelude.{◌≡◌, refl, true, false, ◌&&◌, not, ℕ, zero, suc, ◌<◌, length, get_or, leb}
+use Rattle.std.specs.Prelude.{◌≡◌, refl, true, false, ◌&&◌, not, ℕ, zero, suc, ◌<◌, length, leb}
 use Rattle.std.proofs.Common.{sym, ap₂, ◌∙◌, arith, eq-eqb}
 use Rattle.std.proofs.Math.Path.{ap}
 use mathlib.Core.List.{List, [], ◌∷◌, ◌++◌}
@@ -8,7 +8,7 @@ use Rattle.node.specs.Result.{Result, ok, ◌>>=◌, ◌>>◌, check}
 use Rattle.node.specs.Refusals as refusal
 use Rattle.node.specs.Order.{keyed}
 use Rattle.node.specs.Entry.{Entry, Val, disk, mem, every}
-use Rattle.node.specs.Find.{key_at, val_at}
+use Rattle.node.specs.Find.{val_at}
 use Rattle.node.specs.Records.{records_of}
 use Rattle.node.specs.Slot.{is_child, suit, key_length_holds, value_holds, entry_holds}
 use Rattle.node.specs.declared.info.BTreeInfo.{BTreeInfo}
@@ -21,27 +21,19 @@ use Rattle.tree.specs.Lookup.{Got, between, range_enters, range_kids, range_from
 use Rattle.tree.specs.Trust.{trusted}
 use Rattle.tree.specs.laws.state.State.{keys_of}
 use Rattle.tree.specs.laws.state.Load.{load_child_lem, load_there}
+use Rattle.tree.specs.laws.load.Way.{same_keys}
 use Rattle.tree.specs.laws.trust.Named.{live_used}
 use Rattle.tree.specs.laws.trust.Stands.{Stands, all, trusted_of}
 use Rattle.tree.specs.laws.trust.Loads.{Loads, loads_refl, loads_then, Loaded, loaded_then, load_loaded, load_below, kids_loaded, range_loaded}
 
 -- ---- entries by their keys and values
 
-key_at_lem : (es : List Entry) (i : ℕ) → key_at es i ≡ get_or (keys_of es) i []
-unfolding key_at
-key_at_lem [] i = refl
-key_at_lem (e ∷ es) zero = refl
-key_at_lem (e ∷ es) (suc i) = key_at_lem es i
-
 pub keys_length_lem : (es : List Entry) → length (keys_of es) ≡ length es
 keys_length_lem [] = refl
 keys_length_lem (e ∷ es) = ap suc (keys_length_lem es)
 
-keys_same : (es fs : List Entry) → keys_of es ≡ keys_of fs → length es ≡ length fs
+pub keys_same : (es fs : List Entry) → keys_of es ≡ keys_of fs → length es ≡ length fs
 keys_same es fs q = sym (keys_length_lem es) ∙ ap length q ∙ keys_length_lem fs
-
-pub key_same : (es fs : List Entry) (i : ℕ) → keys_of es ≡ keys_of fs → key_at es i ≡ key_at fs i
-key_same es fs i q = key_at_lem es i ∙ ap (λ (x : List (List ℕ)). get_or x i []) q ∙ sym (key_at_lem fs i)
 
 -- the same keys and the same values: the same entries
 pub entries_same : (es fs : List Entry) → keys_of es ≡ keys_of fs → ((j : ℕ) → val_at es j ≡ val_at fs j) → es ≡ fs
@@ -59,7 +51,7 @@ entries_same (e ∷ es) (f ∷ fs) q h =
 enters_same : (o : ℕ) (lo : List ℕ) (hi : List (List ℕ)) (es fs : List Entry) (i : ℕ) → keys_of es ≡ keys_of fs
     → range_enters o lo hi es i ≡ range_enters o lo hi fs i
 unfolding range_enters
-enters_same o lo hi es fs i q = rw (key_same es fs i q, key_same es fs (suc i) q, keys_same es fs q)
+enters_same o lo hi es fs i q = rw (same_keys es fs i q, same_keys es fs (suc i) q, keys_same es fs q)
 
 -- a leaf holds no child
 leaf_value : (o : ℕ) (t : BTreeInfo) (es : List Entry) (j r : ℕ) → every (entry_holds o t true) es ≡ true → val_at es j ≡ disk r → ⊥

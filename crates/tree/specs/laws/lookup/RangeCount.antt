@@ -1,5 +1,5 @@
 -- Laws of range as it loads and counts: one for each turn and each way out. Assumes nothing.
-use Rattle.std.specs.Prelude.{◌≡◌, refl, List, [], ◌∷◌, ◌++◌, ℕ, zero, suc, ◌+◌, ◌≤◌, length}
+use Rattle.std.specs.Prelude.{◌≡◌, refl, List, [], ◌++◌, ℕ, zero, suc, ◌+◌, ◌≤◌, length}
 use Rattle.std.proofs.Common.{sym, ap, ap₂, ◌∙◌, arith, length-append}
 use Rattle.node.specs.Result.{Result, ok, refused, ◌>>=◌}
 use Rattle.node.specs.Entry.{Entry}
@@ -11,13 +11,9 @@ use Rattle.tree.specs.State.{State, node_at}
 use Rattle.tree.specs.Load as load
 use Rattle.tree.specs.Load.{child_bounds, load_child}
 use Rattle.tree.specs.Lookup.{Got, range_enters, range_kids, range_from}
-use Rattle.tree.specs.internal.Tree.{bound_of, bounds_of, BoundIn, BoundsIn}
 use Rattle.tree.specs.internal.Range.{most, at_most, sum_of, plus, Counted, counted, ahead, range_child}
 use Rattle.tree.specs.laws.trust.Loads.{Loads, loads_refl, loads_then, load_loads, holds_cond}
-use Rattle.tree.specs.laws.lookup.RangeAgain.{key_same}
 use Rattle.tree.specs.laws.lookup.Between.{most_small, most_most, most_both, records_append}
-use Rattle.tree.specs.declared.editor.Bound.{Bound}
-use Rattle.tree.specs.declared.editor.Bounds.{Bounds}
 use Rattle.tree.specs.declared.range.Sum.{Sum}
 
 -- ---- what a range loads, whatever the state
@@ -58,23 +54,6 @@ child_load d l lo hi s bs n i =
           ((range_load d l lo hi a.state (child_bounds s.order bs es i) a.slot).at g y);
     })
     (λ t. holds_ok (loads_refl l s))
-
--- bounds are the same after loads
-bound_loads : (l : Lent) (s t : State) → Loads l s t → (b : Bound) → BoundIn (length s.nodes) b → bound_of t b ≡ bound_of s b
-unfolding bound_of
-bound_loads l s t a b h =
-    by_test b.some
-    (λ z. rw z (ap (λ (k : List ℕ). k ∷ []) (key_same (node_at t b.slot).entries (node_at s b.slot).entries b.index
-    (a.keys b.slot (h.slot z)))))
-    (λ z. rw z)
-
-pub bounds_loads : (l : Lent) (s t : State) → Loads l s t → (b : Bounds) → BoundsIn (length s.nodes) b → bounds_of t b ≡ bounds_of s b
-unfolding bounds_of
-bounds_loads l s t a b h = rw (bound_loads l s t a b.lower h.lower, bound_loads l s t a b.upper h.upper)
-
-pub bounds_more : (m n : ℕ) (b : Bounds) → m ≤ n → BoundsIn m b → BoundsIn n b
-bounds_more m n b h g =
-    record { lower = record { slot = λ q. omega (arith, g.lower.slot q) }; upper = record { slot = λ q. omega (arith, g.upper.slot q) } }
 
 -- ---- counted: what was accepted
 

@@ -8,6 +8,7 @@ use native.Mathlib.Omega.{arith}
 use Rattle.std.proofs.Math.ListN.{length}
 use borrow.Author.Tests.{not-true, not-false}
 use Rattle.node.specs.Result.{Result, ok, refused, ◌>>=◌}
+use Rattle.node.specs.Refusals.{number_of}
 use Rattle.node.specs.Entry.{Entry}
 use Rattle.node.specs.Records.{records_of}
 use Rattle.tree.specs.Lent.{Lent}
@@ -16,22 +17,22 @@ use Rattle.tree.specs.Load as load
 use Rattle.tree.specs.Load.{child_bounds, load_child}
 use Rattle.tree.specs.Lookup.{Got, between, range_enters, range_kids, range_from}
 use Rattle.tree.specs.Workspace.{state_of}
-use Rattle.tree.specs.internal.Bank.{Ready}
 use Rattle.tree.specs.internal.Tree.{loaded_of, bounds_of, BoundsIn}
-use Rattle.tree.specs.internal.Range.{most, at_most, sum_of, plus, Counted, counted, ahead, ranged_of, ReadyRanged, range_child}
+use Rattle.tree.specs.internal.Range.{most, at_most, sum_of, plus, Counted, counted, ahead, ranged_of, range_child}
 use Rattle.tree.specs.laws.slots.Tree.{used_nodes}
 use Rattle.tree.specs.laws.trust.Loads.{Loads, load_loads}
 use Rattle.tree.specs.laws.load.Way.{loaded_used}
 use Rattle.tree.specs.laws.lookup.Between.{most_most}
-use Rattle.tree.specs.laws.lookup.RangeCount.{child_load, bounds_loads, bounds_more, Found, counted_found, plus_nothing, ahead_none, ahead_refused}
+use Rattle.tree.specs.laws.lookup.RangeCount.{child_load, Found, counted_found, plus_nothing, ahead_none, ahead_refused}
 use Rattle.tree.specs.laws.lookup.RangeCount.{ahead_more, kids_child}
+use Rattle.tree.specs.laws.lookup.FloorLoads.{bounds_more, bounds_loads}
 use Rattle.tree.specs.declared.editor.Tree.{Tree}
 use Rattle.tree.specs.declared.editor.Bounds.{Bounds}
-use Rattle.tree.specs.declared.editor.Loaded.{Loaded}
-use Rattle.tree.specs.declared.editor.Loaded.TheVariants as loaded
 use Rattle.tree.specs.declared.range.Sum.{Sum}
 use Rattle.tree.specs.declared.range.Ranged.{Ranged}
-use Rattle.tree.specs.declared.range.Ranged.TheVariants as ranging
+use Rattle.std.specs.Prelude as std
+use Rattle.std.specs.Prelude.{Ok, Err}
+use Rattle.node.specs.declared.refusal.Refusal.{Refusal}
 
 -- ---- a child: passed, or loaded and looked into
 
@@ -40,27 +41,27 @@ module _ (l : Lent) (size : ℕ) (t : Tree) (heads bytes : List ℕ) (b : Bounds
   abbrev s : State
   s = state_of size t heads bytes
 
-  pub child_passed : not enters ≡ true → ranged_of size heads bytes (ranging.Done t 0 0) ≡ counted
+  pub child_passed : not enters ≡ true → ranged_of size heads bytes (Ok (record { tree = t; count = 0; length = 0 })) ≡ counted
       (range_child (range_from d l lo hi) l (state_of size t heads bytes) (bounds_of (state_of size t heads bytes) b) n lo hi i)
   unfolding ranged_of counted range_child sum_of records_of at_most state_of
   child_passed h =
       let z : range_enters t.order lo hi (node_at s n).entries i ≡ false = sym ee ∙ not-true enters h in
       sym (rw z)
 
-  module _ (h : not enters ≡ false) (h1 b1 : List ℕ) (x : Loaded)
+  module _ (h : not enters ≡ false) (h1 b1 : List ℕ) (x : std.Result (Tree × ℕ) Refusal)
       (e : loaded_of size h1 b1 x ≡ load_child l (state_of size t heads bytes) (bounds_of (state_of size t heads bytes) b) n i) where
     enters_it : range_enters s.order lo hi (node_at s n).entries i ≡ true
     unfolding state_of
     enters_it = sym ee ∙ not-false enters h
 
-    pub child_refused : (y : ℕ) → x ≡ loaded.Refused y → ranged_of size h1 b1 (ranging.Refused y) ≡ counted
+    pub child_refused : (y : Refusal) → x ≡ Err y → ranged_of size h1 b1 (Err y) ≡ counted
         (range_child (range_from d l lo hi) l (state_of size t heads bytes) (bounds_of (state_of size t heads bytes) b) n lo hi i)
     unfolding ranged_of counted range_child loaded_of
     child_refused y q =
-        let z : load_child l s (bounds_of s b) n i ≡ refused y = sym e ∙ ap (loaded_of size h1 b1) q in
+        let z : load_child l s (bounds_of s b) n i ≡ refused (number_of y) = sym e ∙ ap (loaded_of size h1 b1) q in
         sym (rw (enters_it, z))
 
-    module _ (t' : Tree) (c : ℕ) (q : x ≡ loaded.At t' c) where
+    module _ (t' : Tree) (c : ℕ) (q : x ≡ Ok (t', c)) where
       at_is : load_child l s (bounds_of s b) n i ≡ ok (record { state = state_of size t' h1 b1; slot = c })
       unfolding loaded_of
       at_is = sym e ∙ ap (loaded_of size h1 b1) q
@@ -98,7 +99,7 @@ module _ (l : Lent) (size : ℕ) (t : Tree) (heads bytes : List ℕ) (b : Bounds
 module _ (l : Lent) (size : ℕ) (t : Tree) (heads bytes : List ℕ) (b : Bounds) (n d : ℕ) (lo : List ℕ) (hi : List (List ℕ)) where
   -- a leaf
   pub from_leaf : d ≡ 0 → (m : Sum) → m ≡ sum_of (between t.order lo hi (node_at (state_of size t heads bytes) n).entries)
-      → ranged_of size heads bytes (ranging.Done t m.count m.length) ≡ counted
+      → ranged_of size heads bytes (Ok (record { tree = t; count = m.count; length = m.length })) ≡ counted
       (range_from d l lo hi (state_of size t heads bytes) (bounds_of (state_of size t heads bytes) b) n)
   unfolding ranged_of counted range_from state_of
   from_leaf z m e =
@@ -128,7 +129,7 @@ module _ (l : Lent) (size : ℕ) (t : Tree) (heads bytes : List ℕ) (b : Bounds
     abbrev below : State → load.Bounds → ℕ → Result (Got Entry)
     below = range_from (d - 1) l lo hi
 
-    pub from_end : kids ≤ i → count ≤ most → long ≤ most → ranged_of size heads bytes (ranging.Done t count long) ≡ whole
+    pub from_end : kids ≤ i → count ≤ most → long ≤ most → ranged_of size heads bytes (Ok (record { tree = t; count = count; length = long })) ≡ whole
     unfolding ranged_of ahead counted range_kids
     from_end q h k =
         let z : kids - i ≡ 0 = omega arith in
@@ -136,7 +137,7 @@ module _ (l : Lent) (size : ℕ) (t : Tree) (heads bytes : List ℕ) (b : Bounds
         (sym (plus_nothing (record { count = count; length = long }) h k))
         ∙ sym (ap (λ (x : ℕ). ahead (record { count = count; length = long }) (counted (range_kids below l st (bounds_of st b) n lo hi x i))) z) ∙ inv
 
-    module _ (hi' : i < kids) (h1 b1 : List ℕ) (x : Ranged)
+    module _ (hi' : i < kids) (h1 b1 : List ℕ) (x : std.Result Ranged Refusal)
         (e : ranged_of size h1 b1 x ≡ counted (range_child (range_from (d - 1) l lo hi) l (state_of size t heads bytes)
         (bounds_of (state_of size t heads bytes) b) n lo hi i)) where
       rest : Got Entry → Result (Got Entry)
@@ -151,57 +152,56 @@ module _ (l : Lent) (size : ℕ) (t : Tree) (heads bytes : List ℕ) (b : Bounds
           (ap (λ (m : ℕ). range_kids below l st (bounds_of st b) n lo hi m i) z
           ∙ kids_child below l st (bounds_of st b) n lo hi (kids - (i + 1)) i)) ∙ inv
 
-      pub turn_refused : (y : ℕ) → x ≡ ranging.Refused y → ranged_of size h1 b1 (ranging.Refused y) ≡ whole
+      pub turn_refused : (y : Refusal) → x ≡ Err y → ranged_of size h1 b1 (Err y) ≡ whole
       unfolding ranged_of
-      turn_refused y q = ahead_refused (record { count = count; length = long }) y (range_child below l st (bounds_of st b) n lo hi i) rest
+      turn_refused y q = ahead_refused (record { count = count; length = long }) (number_of y)
+          (range_child below l st (bounds_of st b) n lo hi i) rest
           (sym (ap (ranged_of size h1 b1) q) ∙ e) ∙ whole_is
 
-      module _ (u : Tree) (k m : ℕ) (q : x ≡ ranging.Done u k m) where
-        child_found : Found (range_child below l st (bounds_of st b) n lo hi i) (state_of size u h1 b1) (record { count = k; length = m })
+      module _ (r : Ranged) (q : x ≡ Ok r) where
+        child_found : Found (range_child below l st (bounds_of st b) n lo hi i) (state_of size r.tree h1 b1)
+            (record { count = r.count; length = r.length })
         unfolding ranged_of
-        child_found = counted_found (range_child below l st (bounds_of st b) n lo hi i) (state_of size u h1 b1) (record { count = k; length = m })
+        child_found = counted_found (range_child below l st (bounds_of st b) n lo hi i) (state_of size r.tree h1 b1)
+            (record { count = r.count; length = r.length })
             (sym (ap (ranged_of size h1 b1) q) ∙ e)
 
-        pub turn_count : k ≤ most
+        pub turn_count : r.count ≤ most
         unfolding sum_of
         turn_count = omega (arith, ap (λ (y : Sum). y.count) child_found.sum, most_most (length child_found.got.answer))
 
-        pub turn_length : m ≤ most
+        pub turn_length : r.length ≤ most
         unfolding sum_of
         turn_length = omega (arith, ap (λ (y : Sum). y.length) child_found.sum, most_most (length (records_of child_found.got.answer)))
 
-        turn_loads : Loads l st (state_of size u h1 b1)
+        turn_loads : Loads l st (state_of size r.tree h1 b1)
         turn_loads = subst (Loads l st) child_found.state
             ((child_load (d - 1) l lo hi st (bounds_of st b) n i).at child_found.got child_found.found)
 
-        pub turn_more : t.used ≤ u.used
-        turn_more = omega (arith, turn_loads.longer, used_nodes size t heads bytes, used_nodes size u h1 b1)
+        pub turn_more : t.used ≤ r.tree.used
+        turn_more = omega (arith, turn_loads.longer, used_nodes size t heads bytes, used_nodes size r.tree h1 b1)
 
         module _ (hb : BoundsIn t.used b) where
-          pub turn_in : BoundsIn u.used b
-          turn_in = bounds_more t.used u.used b turn_more hb
+          pub turn_in : BoundsIn r.tree.used b
+          turn_in = bounds_more t.used r.tree.used b turn_more hb
 
-          pub turn_next : (count' long' : ℕ) → count' ≡ at_most (count + k) → long' ≡ at_most (long + m)
-              → ahead (record { count = count'; length = long' }) (counted (range_kids (range_from (d - 1) l lo hi) l (state_of size u h1 b1)
-              (bounds_of (state_of size u h1 b1) b) n lo hi (kids - (i + 1)) (i + 1))) ≡ whole
+          pub turn_next : (count' long' : ℕ) → count' ≡ at_most (count + r.count) → long' ≡ at_most (long + r.length)
+              → ahead (record { count = count'; length = long' }) (counted (range_kids (range_from (d - 1) l lo hi) l (state_of size r.tree h1 b1)
+              (bounds_of (state_of size r.tree h1 b1) b) n lo hi (kids - (i + 1)) (i + 1))) ≡ whole
           unfolding rest plus
           turn_next count' long' ec el =
-              let su : State = state_of size u h1 b1 in
+              let su : State = state_of size r.tree h1 b1 in
               let g : Got Entry = child_found.got in
               let old : Sum = record { count = count; length = long } in
               let kept : bounds_of su b ≡ bounds_of st b = bounds_loads l st su turn_loads b (rw (used_nodes size t heads bytes) hb) in
-              let r : Result (Got Entry) = range_kids below l su (bounds_of st b) n lo hi (kids - (i + 1)) (suc i) in
+              let on : Result (Got Entry) = range_kids below l su (bounds_of st b) n lo hi (kids - (i + 1)) (suc i) in
               let now : ◌≡◌ {A = Sum} (record { count = count'; length = long' }) (plus old (sum_of g.answer)) =
               ap₂ (λ (y z : ℕ). record { count = y; length = z }) ec el ∙ ap (plus old) (sym child_found.sum) in
               ap₂ (λ (y : load.Bounds) (z : ℕ). ahead (record { count = count'; length = long' })
               (counted (range_kids below l su y n lo hi (kids - (i + 1)) z))) kept (add-one i)
-              ∙ ap (λ (y : Sum). ahead y (counted r)) now
+              ∙ ap (λ (y : Sum). ahead y (counted on)) now
               ∙ ap (λ (y : State). ahead (plus old (sum_of g.answer))
               (counted (range_kids below l y (bounds_of st b) n lo hi (kids - (i + 1)) (suc i))))
               (sym child_found.state)
               ∙ sym (ahead_more old g.answer (range_kids below l g.state (bounds_of st b) n lo hi (kids - (i + 1)) (suc i)))
               ∙ sym (ap (λ (y : Result (Got Entry)). ahead old (counted (y >>= rest))) child_found.found) ∙ whole_is
-
-pub ranged_ready : (size slots : ℕ) (h b : List ℕ) (x : Ranged) (t : Tree) (k m : ℕ) → x ≡ ranging.Done t k m → ReadyRanged size slots h b x
-    → Ready size slots t.used h b
-ranged_ready size slots h b x t k m q r = rw q at r

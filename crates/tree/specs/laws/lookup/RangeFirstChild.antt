@@ -33,8 +33,6 @@ use Rattle.tree.specs.laws.lookup.RangeOut.{kids_start, kids_start_out}
 use Rattle.tree.specs.declared.editor.Bounds as Held
 use Rattle.tree.specs.declared.editor.Tree.{Tree}
 use Rattle.tree.specs.declared.range.Sum.{Sum}
-use Rattle.tree.specs.declared.range.Ranged.{Ranged}
-use Rattle.tree.specs.declared.range.Ranged.TheVariants as ranging
 
 -- ---- a child at an offset
 
@@ -79,9 +77,12 @@ pub next_falls : (o : ℕ) (lo : List ℕ) (hi : List (List ℕ)) (es : List Ent
 next_falls o lo hi es m i j kids e h = omega (arith, next_least o lo hi es m (i + 1))
 
 module _ (o : ℕ) (lo : List ℕ) (hi : List (List ℕ)) (es : List Entry) (n i whole : ℕ) (inv : next_entered o lo hi es (n - i) i ≡ whole) where
-  pub next_end : n ≤ i → i ≡ whole
+  pub next_end : n ≤ i → i ≤ n → n ≡ whole
   unfolding next_entered
-  next_end h = let z : n - i ≡ 0 = omega arith in sym (ap (λ (m : ℕ). next_entered o lo hi es m i) z) ∙ inv
+  next_end h g =
+      let z : n - i ≡ 0 = omega arith in
+      let y : n ≡ i = omega arith in
+      y ∙ sym (ap (λ (m : ℕ). next_entered o lo hi es m i) z) ∙ inv
 
   module _ (h : i < n) (t : Bool) (et : t ≡ range_enters o lo hi es i) where
     one_more : next_entered o lo hi es (suc (n - (i + 1))) i ≡ whole
@@ -164,7 +165,7 @@ kids_skipped f l s bs n lo hi kids (suc m) i =
     (λ t. rw t (kids_skipped f l s bs n lo hi kids m (suc i) ∙ one_skipped f l s bs n lo hi kids i t))
 
 -- as the loop that loads has it
-from_skipped : (f : State → Bounds → ℕ → Result (Got Entry)) (l : Lent) (size : ℕ) (t : Tree) (heads bytes : List ℕ) (bs : Bounds) (n : ℕ)
+pub from_skipped : (f : State → Bounds → ℕ → Result (Got Entry)) (l : Lent) (size : ℕ) (t : Tree) (heads bytes : List ℕ) (bs : Bounds) (n : ℕ)
     (lo : List ℕ) (hi : List (List ℕ)) (kids m i j : ℕ) (sum : Sum) (whole : Result Counted)
     → j ≡ next_entered t.order lo hi (node_at (state_of size t heads bytes) n).entries m i
     → ahead sum (counted (range_kids f l (state_of size t heads bytes) bs n lo hi (kids - i) i)) ≡ whole
@@ -174,15 +175,6 @@ from_skipped f l size t heads bytes bs n lo hi kids m i j sum whole e inv =
     let s : State = state_of size t heads bytes in
     ap (λ (x : ℕ). ahead sum (counted (range_kids f l s bs n lo hi (kids - x) x))) e
     ∙ ap (λ (r : Result (Got Entry)). ahead sum (counted r)) (kids_skipped f l s bs n lo hi kids m i) ∙ inv
-
--- after a turn
-pub turn_skipped : (x : Ranged) (u : Tree) (count long : ℕ) → x ≡ ranging.Done u count long → (f : State → Bounds → ℕ → Result (Got Entry)) (l : Lent)
-    (size : ℕ) (heads bytes : List ℕ) (bs : Bounds) (n : ℕ) (lo : List ℕ) (hi : List (List ℕ)) (kids m i j : ℕ) (sum : Sum) (whole : Result Counted)
-    → j ≡ next_entered u.order lo hi (node_at (state_of size u heads bytes) n).entries m i
-    → ahead sum (counted (range_kids f l (state_of size u heads bytes) bs n lo hi (kids - i) i)) ≡ whole
-    → ahead sum (counted (range_kids f l (state_of size u heads bytes) bs n lo hi (kids - j) j)) ≡ whole
-turn_skipped x u count long q f l size heads bytes bs n lo hi kids m i j sum whole e inv =
-    from_skipped f l size u heads bytes bs n lo hi kids m i j sum whole e inv
 
 -- before the first
 pub from_begin : (l : Lent) (size : ℕ) (t : Tree) (heads bytes : List ℕ) (b : Held.Bounds) (n d : ℕ) (lo : List ℕ) (hi : List (List ℕ))

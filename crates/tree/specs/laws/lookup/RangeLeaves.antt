@@ -19,6 +19,7 @@ use Rattle.tree.specs.Hold.{lent_holds}
 use Rattle.tree.specs.Trust.{trusted}
 use Rattle.tree.specs.Workspace.{state_of, workspace_holds, called}
 use Rattle.tree.specs.Answers.{range_means, ranged_in, ranged_output, ranged_leaves}
+use Rattle.tree.specs.internal.Bank.{Ready}
 use Rattle.tree.specs.internal.Room.{Roomy}
 use Rattle.tree.specs.internal.Edits.{Trusts}
 use Rattle.tree.specs.internal.Range.{ReadyRanged, RangeCalled}
@@ -28,7 +29,10 @@ use Rattle.tree.specs.laws.refusal1.Calls.{trusts_hold, back_hold, looked_trusts
 use Rattle.tree.specs.declared.lent.Lent.{Lent}
 use Rattle.tree.specs.declared.editor.Tree.{Tree}
 use Rattle.tree.specs.declared.range.Ranged.{Ranged}
-use Rattle.tree.specs.declared.range.Ranged.TheVariants as ranging
+use Rattle.std.specs.Prelude as std
+use Rattle.std.specs.Prelude.{Ok, Err, is_err}
+use Rattle.node.specs.declared.refusal.Refusal.{Refusal}
+use Rattle.node.specs.declared.refusal.Refusal.TheVariants as is
 
 -- what an accepted range leaves is roomy
 roomy_ranged : (l : lent.Lent) (s : State) (room : ℕ) (lo hi : List ℕ) → trusted l s ≡ true → Roomy (2 * l.size) s
@@ -41,18 +45,29 @@ roomy_ranged l s room lo hi h r =
     holds_ok ((roomy_range l lo (hi ∷ []) s h r).at g e)
 
 module _ (image : List ℕ) (l : Lent) (t : Tree) (h b : List ℕ) (c : Trusts image l t h b) (h' b' : List ℕ) where
-  pub ranged_trusts : (lo hi out : List ℕ) (room : ℕ) (x : Ranged)
+  ranged_trusts : (lo hi out : List ℕ) (room : ℕ) (x : std.Result Ranged Refusal)
       → range_means l.size h' b' out x ≡ range_in (lent_of image l) (state_of l.size t h b) room lo hi → ReadyRanged l.size l.slots h' b' x
-      → (u : Tree) (k m : ℕ) → x ≡ ranging.Done u k m → Trusts image l u h' b'
+      → (r : Ranged) → x ≡ Ok r → Trusts image l r.tree h' b'
   unfolding range_means lent_of
-  ranged_trusts lo hi out room x e r u k m q =
-      looked_trusts image l u h' b' _ _ (trusted_range (lent_of image l) (state_of l.size t h b) room lo hi c.trust)
+  ranged_trusts lo hi out room x e y r q =
+      looked_trusts image l r.tree h' b' _ _ (trusted_range (lent_of image l) (state_of l.size t h b) room lo hi c.trust)
       (roomy_ranged (lent_of image l) (state_of l.size t h b) room lo hi c.trust c.roomy)
-      (ap (range_means l.size h' b' out) (sym q) ∙ e) (subst (ReadyRanged l.size l.slots h' b') q r)
+      (ap (range_means l.size h' b' out) (sym q) ∙ e) (subst (ReadyRanged l.size l.slots h' b') q y)
 
-  pub left_ranged : (x : Ranged) → RangeCalled image l t h b h' b' x → ranged_leaves l.size l.slots t h b h' b' x
-  left_ranged (ranging.Refused y) k = (k.0, back_hold image l t h b c h' b' k.0 k.1)
-  left_ranged (ranging.Done u n m) k = trusts_hold image l u h' b' k
+  pub ranged_kept : (lo hi out : List ℕ) (room : ℕ) (x : std.Result Ranged Refusal) → false ≡ is_err x
+      → range_means l.size h' b' out x ≡ range_in (lent_of image l) (state_of l.size t h b) room lo hi → ReadyRanged l.size l.slots h' b' x
+      → RangeCalled image l t h b h' b' x
+  ranged_kept lo hi out room (Err y) z e r = cc
+  ranged_kept lo hi out room (Ok v) z e r = ranged_trusts lo hi out room (Ok v) e r v refl
+
+  pub ranged_undone : (x : std.Result Ranged Refusal) → true ≡ is_err x → state_of l.size t h' b' ≡ state_of l.size t h b
+      → Ready l.size l.slots t.used h' b' → RangeCalled image l t h b h' b' x
+  ranged_undone (Err y) z e r = (e, r)
+  ranged_undone (Ok v) z e r = cc
+
+  pub left_ranged : (x : std.Result Ranged Refusal) → RangeCalled image l t h b h' b' x → ranged_leaves l.size l.slots t h b h' b' x
+  left_ranged (Err y) k = (k.0, back_hold image l t h b c h' b' k.0 k.1)
+  left_ranged (Ok r) k = trusts_hold image l r.tree h' b' k
 
 module _ (image : List ℕ) (l : Lent) (t : Tree) (h0 b0 : List ℕ) (a : Bool)
     (ea : a ≡ workspace_holds l.size l.slots t.used h0 b0 && lent_holds (lent_of image l) (state_of l.size t h0 b0)) where
@@ -75,7 +90,7 @@ module _ (image : List ℕ) (l : Lent) (t : Tree) (h0 b0 : List ℕ) (a : Bool)
         (λ u. let v : numbers ≡ false = rw u at z in call_is room lo hi ∙ rw (u, v))
         (λ u. call_is room lo hi ∙ rw u)
 
-    pub range_lent : (out lo hi : List ℕ) → range_means l.size h0 b0 out (ranging.Refused 1) ≡ ranged_in (lent_of image l) t h0 b0 (length out) lo hi
+    pub range_lent : (out lo hi : List ℕ) → range_means l.size h0 b0 out (Err is.Lent) ≡ ranged_in (lent_of image l) t h0 b0 (length out) lo hi
     unfolding range_means
     range_lent out lo hi = sym (lent_no (length out) lo hi)
 

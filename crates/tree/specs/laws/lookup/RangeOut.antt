@@ -1,4 +1,5 @@
 -- Laws of range as it writes out what is loaded: a leaf, a child, the children of a node. Assumes nothing.
+use Rattle.node.specs.laws.base.Bytes.{Bytes, bytes_window}
 use Rattle.std.proofs.Math.Path.{◌≡◌, sym, ap}
 use Rattle.std.specs.Prelude.{refl, List, [], ◌++◌, Bool, not}
 use Rattle.std.proofs.Common.{ap₂, ◌∙◌, add-one, length-append}
@@ -25,9 +26,10 @@ use Rattle.tree.specs.laws.slots.Tree.{node_in_lem, node_out}
 use Rattle.tree.specs.laws.slots.OneSlot.{slot_long}
 use Rattle.tree.specs.laws.lookup.Between.{splice_two, splice_none, records_append}
 use Rattle.tree.specs.declared.editor.Tree.{Tree}
-use Rattle.tree.specs.declared.editor.ChildAt.{ChildAt}
-use Rattle.tree.specs.declared.editor.ChildAt.TheVariants.{None, Disk, Mem}
 use Rattle.tree.specs.declared.range.Sum.{Sum}
+use Rattle.std.specs.Prelude.{Some, None, Option}
+use Rattle.node.specs.declared.val.Child.{Child}
+use Rattle.node.specs.declared.val.Child.TheVariants as child
 
 -- no entries: nothing is written
 nothing_end : (x : List Entry) (k : ℕ) → x ≡ [] → k ≡ k + length (records_of x)
@@ -37,6 +39,11 @@ nothing_end x k e = omega (arith, ap (λ (y : List Entry). length (records_of y)
 nothing_out : (x : List Entry) (k : ℕ) (out : List ℕ) → x ≡ [] → out ≡ splice out k (records_of x)
 unfolding records_of
 nothing_out x k out e = sym (ap (λ (y : List Entry). splice out k (records_of y)) e ∙ splice_none out k)
+
+-- a slot's bytes are bytes
+pub slot_known : (size : ℕ) (bytes : List ℕ) (n : ℕ) (part : List ℕ) → Bytes bytes → part ≡ slot_bytes size bytes n → Bytes part
+unfolding slot_bytes
+slot_known size bytes n part h e = rw e (bytes_window _ _ bytes h)
 
 -- ---- the entries of a slot
 
@@ -90,22 +97,22 @@ module _ (f : ℕ → List Entry) (v : Val) where
   unfolding child_of held_below
   below_none e =
       by_val v (λ q. rw q) (λ b q. rw q) (λ r q. rw q)
-      (λ c q. let z : Mem c ≡ None = sym (ap child_of q) ∙ e in let y : ◌≡◌ {A = ℕ} 0 1 = cc in absurd (omega arith))
+      (λ c q. let z : Some (child.Mem c) ≡ None = sym (ap child_of q) ∙ e in let y : ◌≡◌ {A = ℕ} 0 1 = cc in absurd (omega arith))
 
-  below_disk : (r : ℕ) → child_of v ≡ Disk r → held_below f v ≡ []
+  below_disk : (r : ℕ) → child_of v ≡ Some (child.Disk r) → held_below f v ≡ []
   unfolding child_of held_below
   below_disk r e =
       by_val v (λ q. rw q) (λ b q. rw q) (λ r q. rw q)
-      (λ c q. let z : Mem c ≡ Disk r = sym (ap child_of q) ∙ e in let y : ◌≡◌ {A = ℕ} 0 1 = cc in absurd (omega arith))
+      (λ c q. let z : Some (child.Mem c) ≡ Some (child.Disk r) = sym (ap child_of q) ∙ e in let y : ◌≡◌ {A = ℕ} 0 1 = cc in absurd (omega arith))
 
-  below_mem : (c : ℕ) → child_of v ≡ Mem c → held_below f v ≡ f c
+  below_mem : (c : ℕ) → child_of v ≡ Some (child.Mem c) → held_below f v ≡ f c
   unfolding child_of held_below
   below_mem c e =
       by_val v
-      (λ q. let z : None ≡ Mem c = sym (ap child_of q) ∙ e in let y : ◌≡◌ {A = ℕ} 0 1 = cc in absurd (omega arith))
-      (λ b q. let z : None ≡ Mem c = sym (ap child_of q) ∙ e in let y : ◌≡◌ {A = ℕ} 0 1 = cc in absurd (omega arith))
-      (λ r q. let z : Disk r ≡ Mem c = sym (ap child_of q) ∙ e in let y : ◌≡◌ {A = ℕ} 0 1 = cc in absurd (omega arith))
-      (λ k q. let z : Mem k ≡ Mem c = sym (ap child_of q) ∙ e in let y : k ≡ c = cc in rw q (ap f y))
+      (λ q. let z : None ≡ Some (child.Mem c) = sym (ap child_of q) ∙ e in let y : ◌≡◌ {A = ℕ} 0 1 = cc in absurd (omega arith))
+      (λ b q. let z : None ≡ Some (child.Mem c) = sym (ap child_of q) ∙ e in let y : ◌≡◌ {A = ℕ} 0 1 = cc in absurd (omega arith))
+      (λ r q. let z : Some (child.Disk r) ≡ Some (child.Mem c) = sym (ap child_of q) ∙ e in let y : ◌≡◌ {A = ℕ} 0 1 = cc in absurd (omega arith))
+      (λ k q. let z : Some (child.Mem k) ≡ Some (child.Mem c) = sym (ap child_of q) ∙ e in let y : k ≡ c = cc in rw q (ap f y))
 
 module _ (size : ℕ) (t : Tree) (heads bytes : List ℕ) (n i d : ℕ) (lo : List ℕ) (hi : List (List ℕ)) (enters : Bool)
     (ee : enters ≡ range_enters t.order lo hi (node_at (state_of size t heads bytes) n).entries i) where
@@ -125,7 +132,7 @@ module _ (size : ℕ) (t : Tree) (heads bytes : List ℕ) (n i d : ℕ) (lo : Li
         (held_child (range_held d (state_of size t heads bytes) lo hi) (state_of size t heads bytes) lo hi n i))
     passed_out k out = nothing_out _ k out passed
 
-  module _ (h : not enters ≡ false) (x : ChildAt) (ex : x ≡ child_of (val_at (node_at (state_of size t heads bytes) n).entries i)) where
+  module _ (h : not enters ≡ false) (x : Option Child) (ex : x ≡ child_of (val_at (node_at (state_of size t heads bytes) n).entries i)) where
     entered : held_child (range_held d (state_of size t heads bytes) lo hi) (state_of size t heads bytes) lo hi n i
         ≡ held_below (range_held d (state_of size t heads bytes) lo hi) (val_at (node_at (state_of size t heads bytes) n).entries i)
     unfolding held_child state_of
@@ -143,7 +150,7 @@ module _ (size : ℕ) (t : Tree) (heads bytes : List ℕ) (n i d : ℕ) (lo : Li
           (held_child (range_held d (state_of size t heads bytes) lo hi) (state_of size t heads bytes) lo hi n i))
       none_out k out = nothing_out _ k out no_child
 
-    module _ (r : ℕ) (q : x ≡ Disk r) where
+    module _ (r : ℕ) (q : x ≡ Some (child.Disk r)) where
       not_loaded : held_child (range_held d (state_of size t heads bytes) lo hi) (state_of size t heads bytes) lo hi n i ≡ []
       not_loaded = entered ∙ below_disk (range_held d s lo hi) (val_at (node_at s n).entries i) r (sym ex ∙ q)
 
@@ -155,7 +162,7 @@ module _ (size : ℕ) (t : Tree) (heads bytes : List ℕ) (n i d : ℕ) (lo : Li
           (held_child (range_held d (state_of size t heads bytes) lo hi) (state_of size t heads bytes) lo hi n i))
       disk_out k out = nothing_out _ k out not_loaded
 
-    module _ (c : ℕ) (q : x ≡ Mem c) where
+    module _ (c : ℕ) (q : x ≡ Some (child.Mem c)) where
       in_slot : held_child (range_held d (state_of size t heads bytes) lo hi) (state_of size t heads bytes) lo hi n i
           ≡ range_held d (state_of size t heads bytes) lo hi c
       in_slot = entered ∙ below_mem (range_held d s lo hi) (val_at (node_at s n).entries i) c (sym ex ∙ q)

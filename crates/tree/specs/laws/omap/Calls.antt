@@ -29,24 +29,18 @@ use Rattle.tree.specs.laws.refusal1.EditCalls.{edited_trusts, edited_left}
 use Rattle.tree.specs.laws.omap.Keys.{omap_fits}
 use Rattle.tree.specs.declared.editor.Tree.{Tree}
 use Rattle.tree.specs.declared.lent.Lent.{Lent}
-use Rattle.tree.specs.declared.edited.Edited.{Edited}
-use Rattle.tree.specs.declared.edited.Edited.TheVariants as editing
+use Rattle.std.specs.Prelude as std
+use Rattle.std.specs.Prelude.{Ok, Err}
+use Rattle.node.specs.declared.refusal.Refusal.{Refusal}
+use Rattle.node.specs.declared.refusal.Refusal.TheVariants as is
 
 -- ---- an answer handed on
 
-pub edited_refused : (size : ℕ) (h b h' b' : List ℕ) (r : Edited) (x : ℕ) → r ≡ editing.Refused x
-    → edited_of size h' b' (editing.Refused x) ≡ edited_of size h b r
-unfolding edited_of
-edited_refused size h b h' b' r x e = sym (rw e)
-
-pub edited_done : (size : ℕ) (h b : List ℕ) (r : Edited) (t : Tree) → r ≡ editing.Done t → ok (state_of size t h b) ≡ edited_of size h b r
+pub edited_done : (size : ℕ) (h b : List ℕ) (r : std.Result Tree Refusal) (t : Tree) → r ≡ Ok t → ok (state_of size t h b) ≡ edited_of size h b r
 unfolding edited_of
 edited_done size h b r t e = sym (rw e)
 
-pub edited_same : (size : ℕ) (h b : List ℕ) (r : Edited) (t : Tree) → r ≡ editing.Done t → edited_of size h b (editing.Done t) ≡ edited_of size h b r
-edited_same size h b r t e = ap (edited_of size h b) (sym e)
-
-pub edited_ready : (size slots : ℕ) (h b : List ℕ) (r : Edited) (t : Tree) → r ≡ editing.Done t → ReadyEdited size slots h b r
+pub edited_ready : (size slots : ℕ) (h b : List ℕ) (r : std.Result Tree Refusal) (t : Tree) → r ≡ Ok t → ReadyEdited size slots h b r
     → Ready size slots t.used h b
 edited_ready size slots h b r t e y = rw e at y
 
@@ -59,12 +53,12 @@ is_omap_lem t a e q size h b = sym (e size h b) ∙ not-false a q
 module _ (image : List ℕ) (l : Lent) (t : Tree) (h0 b0 : List ℕ) (a : Bool)
     (e : (size : ℕ) (heads bytes : List ℕ) → a ≡ is_omap (state_of size t heads bytes)) where
   pub drop_argument : (id : ℕ) → not a ≡ true
-      → edited_of l.size h0 b0 (editing.Refused 12) ≡ omap_drop_in (lent_of image l) (state_of l.size t h0 b0) id
+      → edited_of l.size h0 b0 (Err is.Argument) ≡ omap_drop_in (lent_of image l) (state_of l.size t h0 b0) id
   unfolding edited_of omap_drop_in
   drop_argument id q = let z : is_omap (state_of l.size t h0 b0) ≡ false = sym (e l.size h0 b0) ∙ not-true a q in sym (rw z)
 
   pub put_argument : (id xid address size : ℕ) → not a ≡ true
-      → edited_of l.size h0 b0 (editing.Refused 12) ≡ omap_put_in (lent_of image l) (state_of l.size t h0 b0) id xid address size
+      → edited_of l.size h0 b0 (Err is.Argument) ≡ omap_put_in (lent_of image l) (state_of l.size t h0 b0) id xid address size
   unfolding edited_of omap_put_in
   put_argument id xid address size q = let z : is_omap (state_of l.size t h0 b0) ≡ false = sym (e l.size h0 b0) ∙ not-true a q in sym (rw z)
 
@@ -102,8 +96,9 @@ module _ (l : lending.Lent) (s : State) (id : ℕ) (k v : List ℕ) (f : is_omap
       let a = (dropped_safe l s id h).at t e in
       roomy_upsert l t k (leaf v) a.trust (omap_fits l s t k v f a p q) ((roomy_drop l s id h r).at t e)
 
-module _ (image : List ℕ) (l : Lent) (t : Tree) (h0 b0 : List ℕ) (c : Trusts image l t h0 b0) (id : ℕ) (r : Edited) (u : Tree) (h b : List ℕ)
-    (z : r ≡ editing.Done u) (y : ReadyEdited l.size l.slots h b r) where
+module _ (image : List ℕ) (l : Lent) (t : Tree) (h0 b0 : List ℕ) (c : Trusts image l t h0 b0) (id : ℕ) (r : std.Result Tree Refusal) (u : Tree)
+    (h b : List ℕ)
+    (z : r ≡ Ok u) (y : ReadyEdited l.size l.slots h b r) where
   abbrev s : State
   s = state_of l.size t h0 b0
 
@@ -128,6 +123,6 @@ module _ (image : List ℕ) (l : Lent) (t : Tree) (h0 b0 : List ℕ) (c : Trusts
 pub answer_left : (image : List ℕ) (l : Lent) (t : Tree) (heads bytes scratch : List ℕ) (a : Bool)
     → (a ≡ (workspace_holds l.size l.slots t.used heads bytes && lent_holds (lent_of image l) (state_of l.size t heads bytes))
     && scratch_holds l.size l.slots scratch)
-    → not a ≡ false → (h' b' : List ℕ) (r : Edited) (x : Result State) → edited_of l.size h' b' r ≡ x
+    → not a ≡ false → (h' b' : List ℕ) (r : std.Result Tree Refusal) (x : Result State) → edited_of l.size h' b' r ≡ x
     → EditedCalled image l t heads bytes h' b' r → edited_leaves l.size l.slots t heads bytes h' b' r
 answer_left image l t heads bytes scratch a e q h' b' r x z c = edited_left image l t heads bytes scratch a e q h' b' r c

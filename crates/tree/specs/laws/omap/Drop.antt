@@ -1,5 +1,5 @@
 -- Laws of a drop: the range of an id's versions is loaded and counted, then listed in the scratch, then removed. Assumes nothing.
-use Rattle.std.specs.Prelude.{◌≡◌, refl, Bool, true, false, ◌&&◌, ℕ, ◌+◌, ◌*◌, ◌^◌, ◌≤◌, drop, replicate}
+use Rattle.std.specs.Prelude.{◌≡◌, refl, true, ◌&&◌, ℕ, ◌+◌, ◌*◌, ◌^◌, ◌≤◌, drop, replicate}
 use Rattle.std.proofs.Math.Path.{sym, ap, ap₂}
 use Rattle.std.proofs.Common.{◌∙◌, add-mul, mul_assoc, mul_left_comm, arith}
 use mathlib.Core.List.{List}
@@ -26,8 +26,8 @@ use Rattle.tree.specs.Workspace.{state_of}
 use Rattle.tree.specs.Answers.{edited_of}
 use Rattle.tree.specs.internal.Dropping.{Listed}
 use Rattle.tree.specs.internal.Edits.{Trusts}
-use Rattle.tree.specs.internal.Range.{end_of, most, at_most, sum_of, Counted, counted, ranged_of, ReadyRanged, range_held}
-use Rattle.tree.specs.internal.Tree.{bound_of, bounds_of, BoundsIn}
+use Rattle.tree.specs.internal.Range.{most, at_most, sum_of, Counted, counted, ranged_of, ReadyRanged, range_held}
+use Rattle.tree.specs.internal.Tree.{bounds_of}
 use Rattle.tree.specs.internal.Undo.{Follows}
 use Rattle.tree.specs.laws.slots.Tree.{used_nodes}
 use Rattle.tree.specs.laws.slots.Undo.{follows_on}
@@ -39,27 +39,13 @@ use Rattle.tree.specs.laws.lookup.RangeHeld.{held_again, range_storable}
 use Rattle.tree.specs.laws.omap.Keys.{pair_is}
 use Rattle.tree.specs.laws.omap.Listed.{keyed16, held_keyed, listed_entries, listed_as}
 use Rattle.tree.specs.declared.editor.Tree.{Tree}
-use Rattle.tree.specs.declared.editor.Bounds.{Bounds}
 use Rattle.tree.specs.declared.lent.Lent.{Lent}
-use Rattle.tree.specs.declared.edited.Edited.TheVariants as editing
 use Rattle.tree.specs.declared.range.Ranged.{Ranged}
-use Rattle.tree.specs.declared.range.Ranged.TheVariants as ranging
-
--- ---- no bounds
-
-pub no_bounds : (s : State) (b : Bounds) → b.lower.some ≡ false → b.upper.some ≡ false → bounds_of s b ≡ unbounded
-unfolding bounds_of bound_of unbounded
-no_bounds s b p q = rw (p, q)
-
-pub none_bound : (used : ℕ) (b : Bounds) → b.lower.some ≡ false → b.upper.some ≡ false → BoundsIn used b
-none_bound used b p q =
-    record {
-      lower = record { slot = λ e. never_both e p };
-      upper = record { slot = λ e. never_both e q };
-    }
-  where
-    never_both : {C : Type 0} {t : Bool} → t ≡ true → t ≡ false → C
-    never_both e f = let z : ◌≡◌ {A = ℕ} 0 1 = cc in absurd (omega arith)
+use Rattle.std.specs.Prelude as std
+use Rattle.std.specs.Prelude.{None, Ok, Err}
+use Rattle.tree.specs.laws.remove.HandDown.{no_bounds}
+use Rattle.node.specs.Refusals.{number_of}
+use Rattle.node.specs.declared.refusal.Refusal.{Refusal}
 
 -- ---- what was counted
 
@@ -90,11 +76,11 @@ list_room slots size = omega (arith, add-mul (2 * slots) 2 size, mul_assoc 2 slo
 
 -- ---- the range of an id's versions
 
-module _ (image : List ℕ) (l : Lent) (t : Tree) (h0 b0 : List ℕ) (id level : ℕ) (lo hi : List ℕ) (ended : Bool) (bs : Bounds)
+module _ (image : List ℕ) (l : Lent) (t : Tree) (h0 b0 : List ℕ) (id level : ℕ) (lo : List ℕ) (end : List (List ℕ))
     (ev : level ≡ (node_at (state_of l.size t h0 b0) t.root).level) (el : lo ≡ splice (replicate 16 0) 0 (pair_key id 0))
-    (eh : end_of ended hi ≡ versions_end id) (p : bs.lower.some ≡ false) (q : bs.upper.some ≡ false) (r : Ranged) (h1 b1 : List ℕ)
-    (e : ranged_of l.size h1 b1 r ≡ counted (range_from level (lent_of image l) lo (end_of ended hi) (state_of l.size t h0 b0)
-    (bounds_of (state_of l.size t h0 b0) bs) t.root)) where
+    (eh : end ≡ versions_end id) (r : std.Result Ranged Refusal) (h1 b1 : List ℕ)
+    (e : ranged_of l.size h1 b1 r ≡ counted (range_from level (lent_of image l) lo end (state_of l.size t h0 b0)
+    (bounds_of (state_of l.size t h0 b0) (record { lower = None; upper = None })) t.root)) where
   abbrev L : lending.Lent
   L = lent_of image l
 
@@ -104,28 +90,29 @@ module _ (image : List ℕ) (l : Lent) (t : Tree) (h0 b0 : List ℕ) (id level :
   abbrev versions : Result (Got Entry)
   versions = range_from (node_at s s.root).level L (pair_key id 0) (versions_end id) s unbounded s.root
 
-  range_is : range_from level L lo (end_of ended hi) s (bounds_of s bs) t.root ≡ versions
+  range_is : range_from level L lo end s (bounds_of s (record { lower = None; upper = None })) t.root ≡ versions
   unfolding state_of
   range_is =
-      ap (λ (j : ℕ). range_from j L lo (end_of ended hi) s (bounds_of s bs) t.root) ev
-      ∙ ap₂ (λ (x : List ℕ) (y : List (List ℕ)). range_from (node_at s t.root).level L x y s (bounds_of s bs) t.root) (pair_is lo id 0 el) eh
-      ∙ ap (λ (x : load.Bounds). range_from (node_at s t.root).level L (pair_key id 0) (versions_end id) s x t.root) (no_bounds s bs p q)
+      ap (λ (j : ℕ). range_from j L lo end s (bounds_of s (record { lower = None; upper = None })) t.root) ev
+      ∙ ap₂ (λ (x : List ℕ) (y : List (List ℕ)). range_from (node_at s t.root).level L x y s
+      (bounds_of s (record { lower = None; upper = None })) t.root) (pair_is lo id 0 el) eh
+      ∙ ap (λ (x : load.Bounds). range_from (node_at s t.root).level L (pair_key id 0) (versions_end id) s x t.root) (no_bounds s)
 
   answer : ranged_of l.size h1 b1 r ≡ counted versions
   answer = e ∙ ap counted range_is
 
-  pub dropped_refused : (x : ℕ) → r ≡ ranging.Refused x
-      → edited_of l.size h1 b1 (editing.Refused x) ≡ dropped (lent_of image l) (state_of l.size t h0 b0) id
+  pub dropped_refused : (x : Refusal) → r ≡ Err x
+      → edited_of l.size h1 b1 (Err x) ≡ dropped (lent_of image l) (state_of l.size t h0 b0) id
   unfolding edited_of ranged_of dropped
   dropped_refused x z =
-      let y : versions ≡ refused x = counted_refused versions x (sym (ap (ranged_of l.size h1 b1) z) ∙ answer) in
+      let y : versions ≡ refused (number_of x) = counted_refused versions (number_of x) (sym (ap (ranged_of l.size h1 b1) z) ∙ answer) in
       sym (rw y)
 
-  module _ (c : Trusts image l t h0 b0) (u : Tree) (k m : ℕ) (z : r ≡ ranging.Done u k m) (y : ReadyRanged l.size l.slots h1 b1 r) where
+  module _ (c : Trusts image l t h0 b0) (v : Ranged) (z : r ≡ Ok v) (y : ReadyRanged l.size l.slots h1 b1 r) where
     abbrev s1 : State
-    s1 = state_of l.size u h1 b1
+    s1 = state_of l.size v.tree h1 b1
 
-    found : Found versions (record { state = s1; sum = record { count = k; length = m } })
+    found : Found versions (record { state = s1; sum = record { count = v.count; length = v.length } })
     unfolding ranged_of
     found = counted_ok versions _ (sym (ap (ranged_of l.size h1 b1) z) ∙ answer)
 
@@ -136,7 +123,7 @@ module _ (image : List ℕ) (l : Lent) (t : Tree) (h0 b0 : List ℕ) (id level :
     loaded = rw found.state ((range_loaded (node_at s s.root).level L all all (pair_key id 0) (versions_end id) s unbounded s.root
         (trusted_of L s c.trust).1).at g found.is)
 
-    pub ranged_trusts : Trusts image l u h1 b1
+    pub ranged_trusts : Trusts image l v.tree h1 b1
     unfolding lent_of
     ranged_trusts =
         record {
@@ -145,33 +132,33 @@ module _ (image : List ℕ) (l : Lent) (t : Tree) (h0 b0 : List ℕ) (id level :
           roomy = rw found.state ((roomy_range L (pair_key id 0) (versions_end id) s c.trust c.roomy).at g found.is);
         }
 
-    used_more : t.used ≤ u.used
-    used_more = omega (arith, loaded.loads.longer, used_nodes l.size t h0 b0, used_nodes l.size u h1 b1)
+    used_more : t.used ≤ v.tree.used
+    used_more = omega (arith, loaded.loads.longer, used_nodes l.size t h0 b0, used_nodes l.size v.tree h1 b1)
 
-    pub ranged_follows : (h2 b2 : List ℕ) → Follows l.size l.slots t.used h0 b0 h1 b1 → Follows l.size l.slots u.used h1 b1 h2 b2
+    pub ranged_follows : (h2 b2 : List ℕ) → Follows l.size l.slots t.used h0 b0 h1 b1 → Follows l.size l.slots v.tree.used h1 b1 h2 b2
         → Follows l.size l.slots t.used h0 b0 h2 b2
-    ranged_follows h2 b2 f f' = follows_on l.size l.slots t.used u.used h0 b0 h1 b1 h2 b2 f f' used_more
+    ranged_follows h2 b2 f f' = follows_on l.size l.slots t.used v.tree.used h0 b0 h1 b1 h2 b2 f f' used_more
 
-    same_root : u.root ≡ t.root
+    same_root : v.tree.root ≡ t.root
     unfolding state_of
     same_root = loaded.loads.root
 
     -- what was counted lies in the slots
-    held : range_held level s1 lo (end_of ended hi) u.root ≡ g.answer
+    held : range_held level s1 lo end v.tree.root ≡ g.answer
     unfolding state_of
     held =
-        ap₂ (λ (i j : ℕ). range_held i s1 lo (end_of ended hi) j) ev same_root
+        ap₂ (λ (i j : ℕ). range_held i s1 lo end j) ev same_root
         ∙ ap₂ (λ (x : List ℕ) (w : List (List ℕ)). range_held (node_at s t.root).level s1 x w t.root) (pair_is lo id 0 el) eh
         ∙ ap (λ (x : State). range_held (node_at s t.root).level x (pair_key id 0) (versions_end id) t.root) found.state
         ∙ held_again L (pair_key id 0) (versions_end id) s g c.trust found.is
 
     abbrev es : List Entry
-    es = range_held level s1 lo (end_of ended hi) u.root
+    es = range_held level s1 lo end v.tree.root
 
-    count_is : k ≡ length es
+    count_is : v.count ≡ length es
     unfolding lent_of sum_of at_most
     count_is =
-        let a : k ≡ at_most (length g.answer) = ap (λ x. x.count) found.sum in
+        let a : v.count ≡ at_most (length g.answer) = ap (λ x. x.count) found.sum in
         let n : length g.answer ≤ 2 ^ 29 = range_few L s (pair_key id 0) (versions_end id) g c.trust c.roomy found.is in
         a ∙ rw (le-leb (length g.answer) most (omega arith)) (sym (ap length held))
 
@@ -180,33 +167,33 @@ module _ (image : List ℕ) (l : Lent) (t : Tree) (h0 b0 : List ℕ) (id level :
     weight = rw held (range_weight L s (pair_key id 0) (versions_end id) g c.trust c.roomy found.is)
 
     pub ranged_room : (n : ℕ) → n ≡ (2 * l.slots + 2) * l.size
-        → 2 * l.size + length (records_of (range_held level (state_of l.size u h1 b1) lo (end_of ended hi) u.root)) ≤ n
+        → 2 * l.size + length (records_of (range_held level (state_of l.size v.tree h1 b1) lo end v.tree.root)) ≤ n
     ranged_room n w = omega (arith, weight, list_room l.slots l.size)
 
     module _ (bb : Bytes b1) (f : is_omap (state_of l.size t h0 b0) ≡ true) (sc sc' : List ℕ) (w : length sc ≡ (2 * l.slots + 2) * l.size)
-        (eo : sc' ≡ splice sc (2 * l.size) (records_of (range_held level (state_of l.size u h1 b1) lo (end_of ended hi) u.root))) where
-      same_order : u.order ≡ pair
+        (eo : sc' ≡ splice sc (2 * l.size) (records_of (range_held level (state_of l.size v.tree h1 b1) lo end v.tree.root))) where
+      same_order : v.tree.order ≡ pair
       unfolding is_omap state_of
       same_order =
           loaded.loads.order ∙ eqb-true t.order pair (and_left (eqb t.order pair) (eqb t.info.key_size 16)
           (and_left (eqb t.order pair && eqb t.info.key_size 16) (eqb t.info.val_size 16) f))
 
       stored : Storables es
-      stored = range_storable l.size l.slots u h1 b1 ranged_trusts.ready bb level lo (end_of ended hi) u.root
+      stored = range_storable l.size l.slots v.tree h1 b1 ranged_trusts.ready bb level lo end v.tree.root
 
       keyed : every keyed16 es ≡ true
-      keyed = held_keyed L l.size u h1 b1 ranged_trusts.trust same_order level lo (end_of ended hi) u.root
+      keyed = held_keyed L l.size v.tree h1 b1 ranged_trusts.trust same_order level lo end v.tree.root
 
-      pub ranged_listed : Listed (2 * l.size) k sc'
+      pub ranged_listed : Listed (2 * l.size) v.count sc'
       ranged_listed = rw count_is (listed_as es sc sc' (2 * l.size) stored keyed (ranged_room (length sc) w) eo)
 
-      listed : entries_of k (drop (2 * l.size) sc') ≡ g.answer
+      listed : entries_of v.count (drop (2 * l.size) sc') ≡ g.answer
       listed =
           ap (λ (j : ℕ). entries_of j (drop (2 * l.size) sc')) count_is
           ∙ listed_entries es sc sc' (2 * l.size) stored keyed (ranged_room (length sc) w) eo ∙ held
 
       pub dropped_answer : (x : Result State)
-          → x ≡ remove_all (lent_of image l) (entries_of k (drop (2 * l.size) sc')) (state_of l.size u h1 b1)
+          → x ≡ remove_all (lent_of image l) (entries_of v.count (drop (2 * l.size) sc')) (state_of l.size v.tree h1 b1)
           → x ≡ dropped (lent_of image l) (state_of l.size t h0 b0) id
       unfolding dropped
       dropped_answer x d = d ∙ ap₂ (remove_all L) listed found.state ∙ sym (rw found.is)

@@ -1,5 +1,6 @@
 -- Laws of the object map's keys and values: which trees are object maps, where an id's versions end, what a put writes. Assumes nothing.
-use Rattle.std.specs.Prelude.{◌≡◌, refl, List, ◌++◌, Bool, true, false, ◌&&◌, ◌||◌, not, ℕ, suc, ◌+◌, ◌^◌, ◌-◌, length, drop, replicate, eqb}
+use Rattle.std.specs.Prelude.{◌≡◌, refl, List, ◌++◌, Bool, true, false, ◌&&◌, ◌||◌, not, ℕ, suc, ◌+◌, ◌^◌, ◌-◌, length, drop, replicate, eqb, Some, None}
+use Rattle.std.specs.Borrow.{Bor}
 use Rattle.std.proofs.Math.Path.{sym}
 use Rattle.std.proofs.Common.{ap, ◌∙◌, append-nil, add-one, zero-add}
 use Rattle.std.proofs.Math.Seq.{drop-length}
@@ -48,17 +49,17 @@ value_long v v' size address p q = ap length (value_is v v' size address p q)
 
 -- ---- an id's versions
 
-pub versions_last : (out : List ℕ) (id : ℕ) → id ≡ 18446744073709551615 → end_of false out ≡ versions_end id
+pub versions_last : (id : ℕ) → id ≡ 18446744073709551615 → end_of None ≡ versions_end id
 unfolding end_of versions_end
-versions_last out id e = sym (rw (eq-eqb id (2 ^ 64 - 1) e))
+versions_last id e = sym (rw (eq-eqb id (2 ^ 64 - 1) e))
 
-pub versions_next : (out out' : List ℕ) (id : ℕ) → (id ≡ 18446744073709551615 → ⊥) → length out ≡ 16 → out' ≡ splice out 0 (pair_key (id + 1) 0)
-    → end_of true out' ≡ versions_end id
+pub versions_next : (out : List ℕ) (k : Bor (List ℕ)) (id : ℕ) → (id ≡ 18446744073709551615 → ⊥) → length out ≡ 16
+    → k.now ≡ splice out 0 (pair_key (id + 1) 0) → end_of (Some k) ≡ versions_end id
 unfolding end_of versions_end
-versions_next out out' id d n e =
+versions_next out k id d n e =
     let w : splice out 0 (pair_key (id + 1) 0) ≡ pair_key (id + 1) 0 = splice_all out (pair_key (id + 1) 0) (n ∙ sym (length_pair (id + 1) 0)) in
-    let k : out' ≡ pair_key (suc id) 0 = e ∙ w ∙ ap (λ (x : ℕ). pair_key x 0) (add-one id) in
-    rw (ne_eqb id (2 ^ 64 - 1) d, k)
+    let q : k.now ≡ pair_key (suc id) 0 = e ∙ w ∙ ap (λ (x : ℕ). pair_key x 0) (add-one id) in
+    rw (ne_eqb id (2 ^ 64 - 1) d, q)
 
 -- ---- object maps
 

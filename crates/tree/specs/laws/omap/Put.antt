@@ -1,5 +1,5 @@
 -- A put after a drop: the tree that the drop left, and the answer of both. Assumes nothing.
-use Rattle.std.specs.Prelude.{◌≡◌, List, true, false, ℕ, ◌+◌, ◌*◌, ◌≤◌, length, take}
+use Rattle.std.specs.Prelude.{◌≡◌, List, true, ℕ, ◌+◌, ◌*◌, ◌≤◌, length, take}
 use Rattle.std.proofs.Math.Path.{sym, ap}
 use Rattle.std.proofs.Common.{◌∙◌, mul-le-mul_right, arith, length-take-le}
 use Rattle.node.specs.Result.{Result, ok, refused}
@@ -9,7 +9,7 @@ use Rattle.tree.specs.Trust.{trusted}
 use Rattle.tree.specs.Upsert.{entry_fits, upserted}
 use Rattle.tree.specs.Omap.{is_omap, dropped}
 use Rattle.tree.specs.Workspace.{state_of}
-use Rattle.tree.specs.Answers.{edited_of, put_value}
+use Rattle.tree.specs.Answers.{edited_of, put_value, lent_value}
 use Rattle.tree.specs.internal.Undo.{Follows}
 use Rattle.tree.specs.internal.Dropping.{put_anew}
 use Rattle.tree.specs.laws.slots.Tree.{used_nodes}
@@ -20,8 +20,11 @@ use Rattle.tree.specs.laws.omap.Keys.{omap_fits}
 use Rattle.tree.specs.laws.omap.Calls.{edited_done}
 use Rattle.tree.specs.declared.editor.Tree.{Tree}
 use Rattle.tree.specs.declared.lent.Lent.{Lent}
-use Rattle.tree.specs.declared.edited.Edited.{Edited}
-use Rattle.tree.specs.declared.edited.Edited.TheVariants as editing
+use Rattle.std.specs.Prelude as std
+use Rattle.std.specs.Prelude.{Ok, Err, Some}
+use Rattle.std.specs.Borrow.{Bor}
+use Rattle.node.specs.Refusals.{number_of}
+use Rattle.node.specs.declared.refusal.Refusal.{Refusal}
 
 -- ---- the scratch, in numbers
 
@@ -30,31 +33,28 @@ keys_within_lem size slots n m h e =
     let m : 2 * size ≤ (2 * slots + 2) * size = mul-le-mul_right size (omega arith) in
     omega arith
 
--- a part's length
-pub part_length : (n : ℕ) (l : List ℕ) → n ≤ length l → n ≡ length (take n l)
-part_length n l h = sym (length-take-le n l h)
-
 pub part_room : (n : ℕ) (l : List ℕ) → n ≤ length l → n ≤ length (take n l)
 part_room n l h = omega (arith, length-take-le n l h)
 
 -- ---- after a drop
 
-module _ (image : List ℕ) (l : Lent) (t : Tree) (h0 b0 : List ℕ) (id : ℕ) (r : Edited) (h1 b1 : List ℕ)
+module _ (image : List ℕ) (l : Lent) (t : Tree) (h0 b0 : List ℕ) (id : ℕ) (r : std.Result Tree Refusal) (h1 b1 : List ℕ)
     (e : edited_of l.size h1 b1 r ≡ dropped (lent_of image l) (state_of l.size t h0 b0) id) where
-  pub put_refused : (k v : List ℕ) (x : ℕ) → r ≡ editing.Refused x
-      → edited_of l.size h1 b1 (editing.Refused x) ≡ put_anew (lent_of image l) (state_of l.size t h0 b0) id k v
+  pub put_refused : (k v : List ℕ) (x : Refusal) → r ≡ Err x
+      → edited_of l.size h1 b1 (Err x) ≡ put_anew (lent_of image l) (state_of l.size t h0 b0) id k v
   unfolding edited_of put_anew
   put_refused k v x z =
-      let q : dropped (lent_of image l) (state_of l.size t h0 b0) id ≡ refused x = sym e ∙ ap (edited_of l.size h1 b1) z in
+      let q : dropped (lent_of image l) (state_of l.size t h0 b0) id ≡ refused (number_of x) = sym e ∙ ap (edited_of l.size h1 b1) z in
       sym (rw q)
 
-  module _ (u : Tree) (z : r ≡ editing.Done u) where
+  module _ (u : Tree) (z : r ≡ Ok u) where
     left : dropped (lent_of image l) (state_of l.size t h0 b0) id ≡ ok (state_of l.size u h1 b1)
     left = sym e ∙ sym (edited_done l.size h1 b1 r u z)
 
-    pub put_after : (k v : List ℕ) (x : Result State) → x ≡ upserted (lent_of image l) (state_of l.size u h1 b1) k (put_value false v)
-        → x ≡ put_anew (lent_of image l) (state_of l.size t h0 b0) id k v
-    unfolding put_anew put_value
+    pub put_after : (k : List ℕ) (v : Bor (List ℕ)) (x : Result State)
+        → x ≡ upserted (lent_of image l) (state_of l.size u h1 b1) k (lent_value (Some v))
+        → x ≡ put_anew (lent_of image l) (state_of l.size t h0 b0) id k v.now
+    unfolding put_anew put_value lent_value
     put_after k v x y = y ∙ sym (rw left)
 
     used_more : t.used ≤ u.used
@@ -70,9 +70,10 @@ module _ (image : List ℕ) (l : Lent) (t : Tree) (h0 b0 : List ℕ) (id : ℕ) 
         → Follows l.size l.slots t.used h0 b0 h2 b2
     drop_follows h2 b2 f g = follows_on l.size l.slots t.used u.used h0 b0 h1 b1 h2 b2 f g used_more
 
-    pub drop_fits : (k v : List ℕ) → is_omap (state_of l.size t h0 b0) ≡ true → trusted (lent_of image l) (state_of l.size t h0 b0) ≡ true
-        → length k ≡ 16 → length v ≡ 16 → entry_fits (state_of l.size u h1 b1) k (put_value false v) ≡ true
-    unfolding put_value
+    pub drop_fits : (k : List ℕ) (v : Bor (List ℕ)) → is_omap (state_of l.size t h0 b0) ≡ true
+        → trusted (lent_of image l) (state_of l.size t h0 b0) ≡ true
+        → length k ≡ 16 → length v.now ≡ 16 → entry_fits (state_of l.size u h1 b1) k (lent_value (Some v)) ≡ true
+    unfolding put_value lent_value
     drop_fits k v f h p q =
-        omap_fits (lent_of image l) (state_of l.size t h0 b0) (state_of l.size u h1 b1) k v f
+        omap_fits (lent_of image l) (state_of l.size t h0 b0) (state_of l.size u h1 b1) k v.now f
         ((dropped_safe (lent_of image l) (state_of l.size t h0 b0) id h).at (state_of l.size u h1 b1) left) p q

@@ -1,9 +1,8 @@
 -- Laws of the removes of a drop, one listed entry after the other. Assumes nothing.
 use Rattle.std.specs.Prelude.{◌≡◌, refl, Bool, ℕ, ◌+◌, ◌*◌, ◌-◌, ◌≤◌, ◌<◌, length, take, replicate}
-use Rattle.std.proofs.Math.Path.{sym, ap, subst}
+use Rattle.std.proofs.Math.Path.{sym, ap}
 use Rattle.std.proofs.Common.{◌∙◌, add-zero, le_refl, le_trans, arith, length-append, length-drop, drop-drop, drop_at, get_or-drop, length-take-le}
 use mathlib.Core.List.{List, [], ◌∷◌, ◌++◌}
-use Rattle.std.proofs.Math.Bool.{true, false}
 use Rattle.std.proofs.Math.ListN.{drop, get_or, drop_of_length-le}
 use Rattle.node.specs.Bytes.{splice}
 use Rattle.node.specs.Entry.{Entry, ghost}
@@ -31,9 +30,10 @@ use Rattle.tree.specs.laws.room.SlotsOnlyGrow.{removed_grows}
 use Rattle.tree.specs.laws.omap.Keys.{splice_all}
 use Rattle.tree.specs.declared.editor.Tree.{Tree}
 use Rattle.tree.specs.declared.lent.Lent.{Lent}
-use Rattle.tree.specs.declared.edited.Edited.TheVariants as editing
-use Rattle.tree.specs.declared.edited.Removed.{Removed}
-use Rattle.tree.specs.declared.edited.Removed.TheVariants as taking
+use Rattle.std.specs.Prelude as std
+use Rattle.std.specs.Prelude.{Ok, Err}
+use Rattle.node.specs.Refusals.{number_of}
+use Rattle.node.specs.declared.refusal.Refusal.{Refusal}
 
 -- ---- one remove after another, of a list
 
@@ -77,7 +77,7 @@ module _ (image : List ℕ) (l : Lent) (count : ℕ) (t₀ : Tree) (h₀ b₀ s�
   abbrev es : List Entry
   es = entries_of count list
 
-  pub removing_done : count ≤ i → edited_of l.size h b (editing.Done t)
+  pub removing_done : count ≤ i → edited_of l.size h b (Ok t)
       ≡ remove_all (lent_of image l) (entries_of count (drop (2 * l.size) s₀)) (state_of l.size t₀ h₀ b₀)
   unfolding edited_of
   removing_done q =
@@ -116,7 +116,8 @@ module _ (image : List ℕ) (l : Lent) (count : ℕ) (t₀ : Tree) (h₀ b₀ s�
     pub removing_key : (key : List ℕ) → key ≡ (entry_of (drop at s)).key → 0 + length key ≤ 16
     removing_key key e = omega (arith, ap length e, key_length_lem)
 
-    module _ (key key' : List ℕ) (ek : key ≡ (entry_of (drop at s)).key) (ec : key' ≡ splice (replicate 16 0) 0 key) (r : Removed) (h' b' : List ℕ)
+    module _ (key key' : List ℕ) (ek : key ≡ (entry_of (drop at s)).key) (ec : key' ≡ splice (replicate 16 0) 0 key)
+        (r : std.Result (Tree × Bool) Refusal) (h' b' : List ℕ)
         (e : removed_of l.size h' b' r ≡ removed (lent_of image l) (state_of l.size t h b) key') where
       copied : key' ≡ (entry_of (drop at s)).key
       copied = ec ∙ splice_all (replicate 16 0) key (sym (ap length ek ∙ key_length_lem)) ∙ ek
@@ -124,16 +125,16 @@ module _ (image : List ℕ) (l : Lent) (count : ℕ) (t₀ : Tree) (h₀ b₀ s�
       answer : removed (lent_of image l) (state_of l.size t h b) (entry_of (drop at s)).key ≡ removed_of l.size h' b' r
       answer = ap (removed (lent_of image l) (state_of l.size t h b)) (sym copied) ∙ sym e
 
-      pub removing_refused : (x : ℕ) → r ≡ taking.Refused x → edited_of l.size h' b' (editing.Refused x)
+      pub removing_refused : (x : Refusal) → r ≡ Err x → edited_of l.size h' b' (Err x)
           ≡ remove_all (lent_of image l) (entries_of count (drop (2 * l.size) s₀)) (state_of l.size t₀ h₀ b₀)
       unfolding edited_of removed_of
       removing_refused x z =
-          sym (one_refused (lent_of image l) (entry_of (drop at s)) (drop (i + 1) es) (drop i es) (state_of l.size t h b) head x
+          sym (one_refused (lent_of image l) (entry_of (drop at s)) (drop (i + 1) es) (drop i es) (state_of l.size t h b) head (number_of x)
           (answer ∙ ap (removed_of l.size h' b') z)) ∙ v.rest
 
       module _ (d : List ℕ) (next : ℕ) (eh : length h' ≡ length h) (eb : length b' ≡ length b) (ed : length d ≡ length (take (2 * l.size) s))
           (en : next ≡ at + record_length (drop at s)) (f : Follows l.size l.slots t.used h b h' b')
-          (y : ReadyRemoved l.size l.slots h' b' r) (t' u : Tree) (et : t' ≡ u) where
+          (y : ReadyRemoved l.size l.slots h' b' r) (u : Tree) where
         module _ (a : Bool) (z : removed_of l.size h' b' r ≡ ok (record { state = state_of l.size u h' b'; present = a }))
             (y' : Ready l.size l.slots u.used h' b') where
           abbrev k : List ℕ
@@ -190,16 +191,7 @@ module _ (image : List ℕ) (l : Lent) (count : ℕ) (t₀ : Tree) (h₀ b₀ s�
                 follows = follows_on l.size l.slots t₀.used t.used h₀ b₀ h b h' b' v.follows f v.more;
               }
 
-        pub removing_yes : r ≡ taking.Yes u → Removing image l count t₀ h₀ b₀ s₀ t' h' b' (d ++ drop (2 * l.size) s) next (i + 1)
+        pub removing_next : (there : Bool) → r ≡ Ok (u, there)
+            → Removing image l count t₀ h₀ b₀ s₀ u h' b' (d ++ drop (2 * l.size) s) next (i + 1)
         unfolding removed_of
-        removing_yes z =
-            let y' : Ready l.size l.slots u.used h' b' = rw z at y in
-            subst (λ (x : Tree). Removing image l count t₀ h₀ b₀ s₀ x h' b' (d ++ drop (2 * l.size) s) next (i + 1)) (sym et)
-            (turned true (ap (removed_of l.size h' b') z) y')
-
-        pub removing_no : r ≡ taking.No u → Removing image l count t₀ h₀ b₀ s₀ t' h' b' (d ++ drop (2 * l.size) s) next (i + 1)
-        unfolding removed_of
-        removing_no z =
-            let y' : Ready l.size l.slots u.used h' b' = rw z at y in
-            subst (λ (x : Tree). Removing image l count t₀ h₀ b₀ s₀ x h' b' (d ++ drop (2 * l.size) s) next (i + 1)) (sym et)
-            (turned false (ap (removed_of l.size h' b') z) y')
+        removing_next there z = turned there (ap (removed_of l.size h' b') z) (rw z at y)

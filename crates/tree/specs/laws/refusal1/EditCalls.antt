@@ -11,7 +11,7 @@ use Rattle.node.specs.Bytes.{splice}
 use Rattle.node.specs.Entry.{Val}
 use Rattle.node.specs.Result.{Result, ok, refused, ◌>>◌, check}
 use Rattle.node.specs.Refusals as refusal
-use Rattle.node.specs.laws.base.Tests.{by_test, and_split, and-true}
+use Rattle.node.specs.laws.base.Tests.{by_test, never, and_split, and-true}
 use Rattle.node.specs.laws.base.Results.{Holds}
 use Rattle.tree.specs.Lent.{lent_of}
 use Rattle.tree.specs.State.{State}
@@ -32,10 +32,10 @@ use Rattle.tree.specs.laws.refusal1.Calls.{called_trusts, trusts_hold, back_hold
 use Rattle.tree.specs.laws.slots.CallBounds.{call_ready, call_state, call_shadowed, back_ready, back_state}
 use Rattle.tree.specs.declared.editor.Tree.{Tree}
 use Rattle.tree.specs.declared.lent.Lent.{Lent}
-use Rattle.tree.specs.declared.edited.Edited.{Edited}
-use Rattle.tree.specs.declared.edited.Edited.TheVariants as editing
-use Rattle.tree.specs.declared.edited.Removed.{Removed}
-use Rattle.tree.specs.declared.edited.Removed.TheVariants as taking
+use Rattle.std.specs.Prelude as std
+use Rattle.std.specs.Prelude.{Ok, Err, is_err}
+use Rattle.node.specs.declared.refusal.Refusal.{Refusal}
+use Rattle.node.specs.declared.refusal.Refusal.TheVariants as is
 
 -- ---- 1, with the scratch
 
@@ -118,19 +118,18 @@ module _ (image : List ℕ) (l : Lent) (t : Tree) (heads bytes scratch : List �
     edits_list = eqb-true (length scratch) ((2 * l.slots + 2) * l.size) both.1
 
     -- what an edit leaves
-    pub edited_left : (h' b' : List ℕ) (r : Edited) → EditedCalled image l t heads bytes h' b' r
+    pub edited_left : (h' b' : List ℕ) (r : std.Result Tree Refusal) → EditedCalled image l t heads bytes h' b' r
         → edited_leaves l.size l.slots t heads bytes h' b' r
-    edited_left h' b' (editing.Refused x) c = (c.0, back_hold image l t heads bytes edits_trusts h' b' c.0 c.1)
-    edited_left h' b' (editing.Done u) c = trusts_hold image l u h' b' c
+    edited_left h' b' (Err x) c = (c.0, back_hold image l t heads bytes edits_trusts h' b' c.0 c.1)
+    edited_left h' b' (Ok u) c = trusts_hold image l u h' b' c
 
-    pub removed_left : (h' b' : List ℕ) (r : Removed) → RemovedCalled image l t heads bytes h' b' r
+    pub removed_left : (h' b' : List ℕ) (r : std.Result (Tree × Bool) Refusal) → RemovedCalled image l t heads bytes h' b' r
         → removed_leaves l.size l.slots t heads bytes h' b' r
-    removed_left h' b' (taking.Refused x) c = (c.0, back_hold image l t heads bytes edits_trusts h' b' c.0 c.1)
-    removed_left h' b' (taking.Yes u) c = trusts_hold image l u h' b' c
-    removed_left h' b' (taking.No u) c = trusts_hold image l u h' b' c
+    removed_left h' b' (Err x) c = (c.0, back_hold image l t heads bytes edits_trusts h' b' c.0 c.1)
+    removed_left h' b' (Ok (u, there)) c = trusts_hold image l u h' b' c
 
   -- each call: 1, or what follows
-  pub upsert_lent : (k : List ℕ) (v : Val) → not a ≡ true → edited_of l.size heads bytes (editing.Refused 1)
+  pub upsert_lent : (k : List ℕ) (v : Val) → not a ≡ true → edited_of l.size heads bytes (Err is.Lent)
       ≡ edits l.size l.slots t heads bytes scratch (λ x. upsert (lent_of image l) x k v)
   unfolding edited_of upsert
   upsert_lent k v q = edits_no (λ x. upsert_in (lent_of image l) x k v) q
@@ -140,7 +139,7 @@ module _ (image : List ℕ) (l : Lent) (t : Tree) (heads bytes scratch : List �
   unfolding upsert
   upsert_answer k v r q z = z ∙ edits_yes (λ x. upsert_in (lent_of image l) x k v) q
 
-  pub remove_lent : (k : List ℕ) → not a ≡ true → removed_of l.size heads bytes (taking.Refused 1)
+  pub remove_lent : (k : List ℕ) → not a ≡ true → removed_of l.size heads bytes (Err is.Lent)
       ≡ edits l.size l.slots t heads bytes scratch (λ x. remove (lent_of image l) x k)
   unfolding removed_of remove
   remove_lent k q = edits_no (λ x. remove_in (lent_of image l) x k) q
@@ -150,7 +149,7 @@ module _ (image : List ℕ) (l : Lent) (t : Tree) (heads bytes scratch : List �
   unfolding remove
   remove_answer k r q z = z ∙ edits_yes (λ x. remove_in (lent_of image l) x k) q
 
-  pub drop_lent : (id : ℕ) → not a ≡ true → edited_of l.size heads bytes (editing.Refused 1)
+  pub drop_lent : (id : ℕ) → not a ≡ true → edited_of l.size heads bytes (Err is.Lent)
       ≡ edits l.size l.slots t heads bytes scratch (λ x. omap_drop (lent_of image l) x id)
   unfolding edited_of omap_drop
   drop_lent id q = edits_no (λ x. omap_drop_in (lent_of image l) x id) q
@@ -160,7 +159,7 @@ module _ (image : List ℕ) (l : Lent) (t : Tree) (heads bytes scratch : List �
   unfolding omap_drop
   drop_answer id r q z = z ∙ edits_yes (λ x. omap_drop_in (lent_of image l) x id) q
 
-  pub put_lent : (id xid address size : ℕ) → not a ≡ true → edited_of l.size heads bytes (editing.Refused 1)
+  pub put_lent : (id xid address size : ℕ) → not a ≡ true → edited_of l.size heads bytes (Err is.Lent)
       ≡ edits l.size l.slots t heads bytes scratch (λ x. omap_put (lent_of image l) x id xid address size)
   unfolding edited_of omap_put
   put_lent id xid address size q = edits_no (λ x. omap_put_in (lent_of image l) x id xid address size) q
@@ -192,16 +191,45 @@ module _ (image : List ℕ) (l : Lent) (t : Tree) (h0 b0 h1 : List ℕ) (c : Tru
 
     module _ (h3 b3 : List ℕ) (g : Back l.size l.slots t.used t.used h2 b2 h3 b3) (p : length h2 ≡ length h1) (q : length b2 ≡ length b0)
         (p' : length h3 ≡ length h2) (q' : length b3 ≡ length b2) where
-      pub undone : (x : ℕ) → EditedCalled image l t h0 b0 h3 b3 (editing.Refused x)
-      undone x = (
+      as_before : (state_of l.size t h3 b3 ≡ state_of l.size t h0 b0) × Ready l.size l.slots t.used h3 b3
+      as_before = (
         back_state l.size l.slots t h0 b0 h1 c.ready e h2 b2 f h3 b3 g,
         back_ready l.size l.slots t h0 b0 h1 c.ready e h2 b2 f h3 b3 g p q p' q',
       )
 
-      pub remove_undone : (x : ℕ) → RemovedCalled image l t h0 b0 h3 b3 (taking.Refused x)
-      remove_undone x = undone x
+      pub undone : (r : std.Result Tree Refusal) → true ≡ is_err r → EditedCalled image l t h0 b0 h3 b3 r
+      undone (Err x) z = as_before
+      undone (Ok u) z = never refl z
+
+      pub remove_undone : (r : std.Result (Tree × Bool) Refusal) → true ≡ is_err r → RemovedCalled image l t h0 b0 h3 b3 r
+      remove_undone (Err x) z = as_before
+      remove_undone (Ok (u, there)) z = never refl z
+
+-- ---- a refusal says the same of whatever slots
+
+pub edited_refused : (size : ℕ) (h b h' b' : List ℕ) (r : std.Result Tree Refusal) → true ≡ is_err r → edited_of size h' b' r ≡ edited_of size h b r
+unfolding edited_of
+edited_refused size h b h' b' (Err x) z = refl
+edited_refused size h b h' b' (Ok u) z = never refl z
+
+pub removed_refused : (size : ℕ) (h b h' b' : List ℕ) (r : std.Result (Tree × Bool) Refusal) → true ≡ is_err r
+    → removed_of size h' b' r ≡ removed_of size h b r
+unfolding removed_of
+removed_refused size h b h' b' (Err x) z = refl
+removed_refused size h b h' b' (Ok (u, there)) z = never refl z
 
 -- ---- an accepted edit leaves a tree to be trusted, as its definition does
+
+module _ (image : List ℕ) (l : Lent) (t : Tree) (h0 b0 h b : List ℕ) where
+  pub edited_called : (r : std.Result Tree Refusal) → false ≡ is_err r → ((u : Tree) → r ≡ Ok u → Trusts image l u h b)
+      → EditedCalled image l t h0 b0 h b r
+  edited_called (Err x) z f = never z refl
+  edited_called (Ok u) z f = f u refl
+
+  pub removed_called : (r : std.Result (Tree × Bool) Refusal) → false ≡ is_err r
+      → ((u : Tree) (there : Bool) → r ≡ Ok (u, there) → Trusts image l u h b) → RemovedCalled image l t h0 b0 h b r
+  removed_called (Err x) z f = never z refl
+  removed_called (Ok (u, there)) z f = f u there refl
 
 pub edited_trusts : (image : List ℕ) (l : Lent) (u : Tree) (h b : List ℕ) (r : Result State) → Holds (λ x. trusted (lent_of image l) x ≡ true) r
     → Holds (Roomy (2 * l.size)) r → ok (state_of l.size u h b) ≡ r → Ready l.size l.slots u.used h b → Trusts image l u h b

@@ -1,12 +1,11 @@
 -- Laws of what is lent beside the slots: one for each way out of its tests. Assumes nothing.
-use Rattle.std.specs.Prelude.{◌≡◌, refl, List, [], ◌∷◌, Bool, cond, ◌||◌, not, ℕ, ◌/◌, ◌%◌, ◌^◌, ◌≤◌, ◌<◌, length, leb, ltb, eqb}
+use Rattle.std.specs.Prelude.{◌≡◌, refl, List, Bool, cond, ◌||◌, not, ℕ, ◌/◌, ◌%◌, ◌^◌, ◌≤◌, ◌<◌, length, leb, ltb, eqb, Option, Some, None, is_some, option_to_list}
 use Rattle.std.proofs.Math.Path.{sym}
 use Rattle.std.proofs.Common.{◌∙◌, arith}
 use Rattle.std.proofs.Math.Bool.{true, false}
 use borrow.Author.Tests.{le-leb, lt-leb, lt-ltb, le-ltb, eq-eqb, ne_eqb, eqb-true, not-true, not-false}
 use Rattle.node.specs.Order.{known}
 use Rattle.node.specs.declared.info.BTreeInfo.{BTreeInfo}
-use Rattle.tree.specs.laws.base.Node.{never}
 use Rattle.tree.specs.Lent.{is_size, blocks, sizes_hold, lent_of}
 use Rattle.tree.specs.Workspace.{state_of}
 use Rattle.tree.specs.Hold.{info_holds, numbers_hold}
@@ -164,16 +163,6 @@ module _ (t : BTreeInfo) where
           lt-ltb t.longest_key (2 ^ 32) h,
         )
 
-pub map_lent : (a b : Bool) → a ≡ true → b ≡ eqb (cond a 1 0) (cond b 1 0)
-map_lent true true h = refl
-map_lent true false h = refl
-map_lent false b h = never h refl
-
-pub map_none : (a b : Bool) → a ≡ false → not b ≡ eqb (cond a 1 0) (cond b 1 0)
-map_none false true h = refl
-map_none false false h = refl
-map_none true b h = never refl h
-
 module _ (t : Tree) (image : List ℕ) (l : Lent) (z : Bool) (ez : z ≡ sizes_hold (lent_of image l)) where
   abbrev is : List ℕ → List ℕ → Bool
   is heads bytes = numbers_hold (lent_of image l) (state_of l.size t heads bytes)
@@ -201,13 +190,13 @@ module _ (t : Tree) (image : List ℕ) (l : Lent) (z : Bool) (ez : z ≡ sizes_h
         numbers_info n heads bytes = let e : sizes_hold (lent_of image l) ≡ true = sym ez
             ∙ not-false z hz in rw (e, eq-eqb t.info.node_size l.size hs, ← ek, not-false k hk, ← ei, not-true i n)
 
-        module _ (hi : not i ≡ false) (m : Bool) (em : m ≡ eqb (cond l.mapped 1 0) (cond t.by_id 1 0)) where
-          long : (b : Bool) (x : ℕ) → length (cond b (x ∷ []) []) ≡ cond b 1 0
-          long true x = refl
-          long false x = refl
+        module _ (hi : not i ≡ false) (m : Bool) (em : m ≡ eqb (cond (is_some l.map) 1 0) (cond t.by_id 1 0)) where
+          long : (o : Option ℕ) → length (option_to_list o) ≡ cond (is_some o) 1 0
+          long (Some x) = refl
+          long None = refl
 
-          map_is : (b : Bool) → m ≡ b → eqb (length (cond l.mapped (l.map ∷ []) [])) (cond t.by_id 1 0) ≡ b
-          map_is b q = rw (long l.mapped l.map) (sym em ∙ q)
+          map_is : (b : Bool) → m ≡ b → eqb (length (option_to_list l.map)) (cond t.by_id 1 0) ≡ b
+          map_is b q = rw (long l.map) (sym em ∙ q)
 
           pub numbers_map : not m ≡ true → (heads bytes : List ℕ) → false ≡ numbers_hold (lent_of image l) (state_of l.size t heads bytes)
           unfolding numbers_hold state_of lent_of

@@ -19,8 +19,6 @@ use Rattle.node.specs.Slot.{head_at, records_hold, value_means, child_means}
 use Rattle.node.specs.laws.fit.Pass.{checked_stands, checked_lengths, checked_not}
 use Rattle.node.specs.declared.head.Head.{Head}
 use Rattle.node.specs.declared.fit.Lengths.{Lengths}
-use Rattle.node.specs.declared.stands.Checked.{Checked}
-use Rattle.node.specs.declared.stands.Checked.TheVariants.{Not, Held}
 use Rattle.node.specs.declared.val.Val as Kept
 use Rattle.node.specs.declared.val.Val.TheVariants as kept
 use Rattle.node.specs.declared.val.Child as Child
@@ -29,6 +27,7 @@ use Rattle.tree.specs.internal.Marks.{mark_of, mark_slot, mark_value}
 use Rattle.tree.specs.internal.Bank.{number_holds, words_hold}
 use Rattle.tree.specs.internal.Holding.{count_holds, place_holds, body_holds, child_stands, if_holds, link_value, link_entries}
 use Rattle.tree.specs.declared.editor.Tree.{Tree}
+use Rattle.std.specs.Prelude.{Some, None, Option}
 
 -- ---- a slot's words
 
@@ -108,8 +107,8 @@ module _ (t : Tree) (n : ℕ) (h : Head) (l : List ℕ) where
     unfolding body_holds
     body_empty q = rw (le-leb h.level 32 a, ← ek, not-true k q)
 
-    module _ (b : not k ≡ false) (x : Checked) (ex : x ≡ checked_of t.order t.info (eqb h.level 0) h.count h.used l) where
-      pub body_not : x ≡ Not → false ≡ body_holds t n h l
+    module _ (b : not k ≡ false) (x : Option Lengths) (ex : x ≡ checked_of t.order t.info (eqb h.level 0) h.count h.used l) where
+      pub body_not : x ≡ None → false ≡ body_holds t n h l
       unfolding body_holds
       body_not q = rw (
         le-leb h.level 32 a,
@@ -119,7 +118,7 @@ module _ (t : Tree) (n : ℕ) (h : Head) (l : List ℕ) where
             (sym q ∙ ex),
       )
 
-      module _ (s : Lengths) (q : x ≡ Held s) where
+      module _ (s : Lengths) (q : x ≡ Some s) where
         lengths : s ≡ lengths_of t.info h.count l
         lengths = checked_lengths t.order t.info (eqb h.level 0) h.count h.used l s (sym q ∙ ex)
 
@@ -176,13 +175,15 @@ module _ (heads : List ℕ) (used level : ℕ) (l ms : List ℕ) (v : Kept.Val) 
   abbrev L : Val → Result (List ℕ)
   L x = link_value heads used level x ms
 
-  pub link_ghost : v ≡ kept.Ghost → mark_of true ms ≡ link_value heads used level w ms
+  -- what is no child has nothing to mark
+  other : (x : Kept.Val) → ((c : Child.Child) → x ≡ kept.Child c → ⊥) → mark_of true ms ≡ L (value_means l x)
   unfolding value_means link_value mark_of
-  link_ghost e = ap (λ (x : Kept.Val). L (value_means l x)) (sym e) ∙ ap L ev
+  other kept.Ghost d = refl
+  other (kept.Leaf a n) d = refl
+  other (kept.Child c) d = absurd (d c refl)
 
-  pub link_leaf : (a n : ℕ) → v ≡ kept.Leaf a n → mark_of true ms ≡ link_value heads used level w ms
-  unfolding value_means link_value mark_of
-  link_leaf a n e = ap (λ (x : Kept.Val). L (value_means l x)) (sym e) ∙ ap L ev
+  pub link_other : ((c : Child.Child) → v ≡ kept.Child c → ⊥) → mark_of true ms ≡ link_value heads used level w ms
+  link_other d = other v d ∙ ap L ev
 
   module _ (c : Child.Child) (e : v ≡ kept.Child c) where
     pub link_disk : (r : ℕ) → c ≡ child.Disk r → mark_of true ms ≡ link_value heads used level w ms

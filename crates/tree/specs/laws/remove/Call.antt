@@ -24,9 +24,9 @@ use Rattle.tree.specs.Workspace.{slot_bytes, state_of}
 use Rattle.tree.specs.Answers.{edited_of, removed_of}
 use Rattle.tree.specs.internal.Bank.{live, Ready}
 use Rattle.tree.specs.internal.Undo.{Follows}
-use Rattle.tree.specs.internal.Way.{steps_of, went_of, way_of, WayReady}
+use Rattle.tree.specs.internal.Way.{steps_of, walked_of, way_of, WayReady}
 use Rattle.tree.specs.internal.Found.{FoundAt}
-use Rattle.tree.specs.internal.Edits.{Trusts, ReadyEdited, ReadyRemoved, RemovedCalled}
+use Rattle.tree.specs.internal.Edits.{Trusts, ReadyRemoved}
 use Rattle.tree.specs.internal.Removing.{taken_on, shrunk_at, removed_at, OnWay}
 use Rattle.tree.specs.laws.slots.Undo.{follows_on}
 use Rattle.tree.specs.laws.slots.Tree.{used_nodes}
@@ -42,11 +42,10 @@ use Rattle.tree.specs.laws.remove.Ways.{leaf_is}
 use Rattle.tree.specs.declared.editor.Tree.{Tree}
 use Rattle.tree.specs.declared.lent.Lent.{Lent}
 use Rattle.tree.specs.declared.way.Way.{Way}
-use Rattle.tree.specs.declared.way.Went.TheVariants as went
-use Rattle.tree.specs.declared.edited.Edited.{Edited}
-use Rattle.tree.specs.declared.edited.Edited.TheVariants as editing
-use Rattle.tree.specs.declared.edited.Removed.{Removed}
-use Rattle.tree.specs.declared.edited.Removed.TheVariants as taking
+use Rattle.std.specs.Prelude as std
+use Rattle.std.specs.Prelude.{Ok, Err}
+use Rattle.node.specs.declared.refusal.Refusal.{Refusal}
+use Rattle.node.specs.declared.refusal.Refusal.TheVariants as is
 
 -- ---- the edit by the place is the edit by the key
 
@@ -87,20 +86,20 @@ module _ (image : List ℕ) (l : Lent) (t : Tree) (h0 b0 : List ℕ) (c : Trusts
   pub remove_low : level ≤ 32
   remove_low = way_low m l.size t h0 b0 c.trust level ev
 
-  module _ (key h b : List ℕ) (w : Way)
-      (ew : way_of l.size h b w ≡ lookup.way_from level (lent_of image l) (state_of l.size t h0 b0) unbounded t.root key) where
-    way_is : lookup.way m s key ≡ way_of l.size h b w
+  module _ (key h b : List ℕ) (r : std.Result Way Refusal)
+      (ew : way_of l.size h b r ≡ lookup.way_from level (lent_of image l) (state_of l.size t h0 b0) unbounded t.root key) where
+    way_is : lookup.way m s key ≡ way_of l.size h b r
     unfolding lookup.way
     way_is =
         ap₂ (λ (n d : ℕ). lookup.way_from d m s unbounded n key) (root_is l.size t h0 b0)
         (ap (λ (n : ℕ). (node_at s n).level) (root_is l.size t h0 b0) ∙ sym ev) ∙ sym ew
 
-    pub remove_lost : (x : ℕ) → w.went ≡ went.Refused x → removed_of l.size h b (taking.Refused x)
+    pub remove_lost : (x : Refusal) → r ≡ Err x → removed_of l.size h b (Err x)
         ≡ removed (lent_of image l) (state_of l.size t h0 b0) key
-    unfolding removed_of removed way_of went_of
+    unfolding removed_of removed way_of
     remove_lost x e = sym (rw (way_is, e))
 
-    module _ (e : w.went ≡ went.Arrived) where
+    module _ (w : Way) (e : r ≡ Ok w) where
       abbrev s' : State
       s' = state_of l.size w.tree h b
 
@@ -111,20 +110,20 @@ module _ (image : List ℕ) (l : Lent) (t : Tree) (h0 b0 : List ℕ) (c : Trusts
       n = get_or w.slots (w.steps - 1) 0
 
       arrives : lookup.way m s key ≡ ok (record { state = s'; steps = ps })
-      unfolding way_of went_of
+      unfolding way_of walked_of
       arrives = way_is ∙ rw e
 
       loads : WayLoaded m all all s s.root s' ps
       loads = (way_root m s key (trusted_of m s c.trust).1).at (record { state = s'; steps = ps }) arrives
 
       pub remove_some : 1 ≤ w.steps
-      remove_some = get_some m l.size t h0 b0 c.trust level ev key [] h b w ew e
+      remove_some = get_some m l.size t h0 b0 c.trust level ev key [] h b r ew w e
 
       pub remove_few : w.steps ≤ 33
-      remove_few = get_few m l.size t h0 b0 c.trust level ev key [] h b w ew e
+      remove_few = get_few m l.size t h0 b0 c.trust level ev key [] h b r ew w e
 
-      pub remove_ready : WayReady l.size l.slots h b w → Ready l.size l.slots w.tree.used h b
-      remove_ready r = get_ready m l.size t h0 b0 c.trust level ev key [] h b w ew e l.slots r
+      pub remove_ready : WayReady l.size l.slots h b r → Ready l.size l.slots w.tree.used h b
+      remove_ready y = get_ready m l.size t h0 b0 c.trust level ev key [] h b r ew w e l.slots y
 
       last : lookup.leaf_of ps ≡ n
       last = leaf_is w.slots w.kids w.steps remove_some
@@ -147,7 +146,7 @@ module _ (image : List ℕ) (l : Lent) (t : Tree) (h0 b0 : List ℕ) (c : Trusts
         there = ap₂ (λ (o j : ℕ). is_there o key (node_at s' j).entries) (sym order_same) last ∙ sym ef.there
 
         pub remove_absent : not f.found ≡ true
-            → removed_of l.size h b (taking.No w.tree) ≡ removed (lent_of image l) (state_of l.size t h0 b0) key
+            → removed_of l.size h b (Ok (w.tree, false)) ≡ removed (lent_of image l) (state_of l.size t h0 b0) key
         unfolding removed_of removed
         remove_absent z = sym (rw (arrives, there, not-true f.found z))
 
@@ -168,7 +167,7 @@ module _ (image : List ℕ) (l : Lent) (t : Tree) (h0 b0 : List ℕ) (c : Trusts
           pub remove_start : f.at ≡ records_length f.index (slot_bytes l.size b (get_or w.slots (w.steps - 1) 0))
           remove_start = ef.start
 
-          module _ (a : Edited) (h1 b1 : List ℕ)
+          module _ (a : std.Result Tree Refusal) (h1 b1 : List ℕ)
               (ea : edited_of l.size h1 b1 a ≡ removed_at (lent_of image l) f.index (record {
                 state = state_of l.size w.tree h b;
                 steps = steps_of w.slots w.kids w.steps;
@@ -180,19 +179,15 @@ module _ (image : List ℕ) (l : Lent) (t : Tree) (h0 b0 : List ℕ) (c : Trusts
             unfolding removed
             removes_is = rw (arrives, there, found, ← edits_is)
 
-            pub remove_stops : (x : ℕ) → a ≡ editing.Refused x
-                → removed_of l.size h1 b1 (taking.Refused x) ≡ removed (lent_of image l) (state_of l.size t h0 b0) key
+            pub remove_stops : (x : Refusal) → a ≡ Err x
+                → removed_of l.size h1 b1 (Err x) ≡ removed (lent_of image l) (state_of l.size t h0 b0) key
             unfolding removed_of edited_of
             remove_stops x q = sym (removes_is ∙ rw q)
 
-            pub remove_done : (u : Tree) → a ≡ editing.Done u
-                → removed_of l.size h1 b1 (taking.Yes u) ≡ removed (lent_of image l) (state_of l.size t h0 b0) key
+            pub remove_done : (u : Tree) → a ≡ Ok u
+                → removed_of l.size h1 b1 (Ok (u, true)) ≡ removed (lent_of image l) (state_of l.size t h0 b0) key
             unfolding removed_of edited_of
             remove_done u q = sym (removes_is ∙ rw q)
-
-pub edited_ready : (size slots : ℕ) (h b : List ℕ) (a : Edited) (u : Tree) → a ≡ editing.Done u → ReadyEdited size slots h b a
-    → Ready size slots u.used h b
-edited_ready size slots h b a u q r = subst (ReadyEdited size slots h b) q r
 
 -- ---- remove as a call: 12 first, marks cleared
 
@@ -202,12 +197,9 @@ module _ (image : List ℕ) (l : Lent) (t : Tree) (h0 b0 key : List ℕ) (c : Tr
   unfolding state_of keyed
   keyed_is = sym ek
 
-  pub call_argument : not k ≡ true → removed_of l.size h0 b0 (taking.Refused 12) ≡ remove_in (lent_of image l) (state_of l.size t h0 b0) key
+  pub call_argument : not k ≡ true → removed_of l.size h0 b0 (Err is.Argument) ≡ remove_in (lent_of image l) (state_of l.size t h0 b0) key
   unfolding removed_of remove_in
   call_argument n = sym (rw (keyed_is, not-true k n))
-
-  pub call_kept : (x : ℕ) → RemovedCalled image l t h0 b0 h0 b0 (taking.Refused x)
-  call_kept x = (refl, c.ready)
 
   module _ (n : not k ≡ false) (h1 : List ℕ) (es : state_of l.size t h1 b0 ≡ state_of l.size t h0 b0) where
     in_is : removed (lent_of image l) (state_of l.size t h1 b0) key ≡ remove_in (lent_of image l) (state_of l.size t h0 b0) key
@@ -220,14 +212,9 @@ module _ (image : List ℕ) (l : Lent) (t : Tree) (h0 b0 key : List ℕ) (c : Tr
         → r ≡ remove_in (lent_of image l) (state_of l.size t h0 b0) key
     call_answer r e = e ∙ in_is
 
-module _ (image : List ℕ) (l : Lent) (t : Tree) (h0 b0 key : List ℕ) (c : Trusts image l t h0 b0) (h b : List ℕ) (r : Removed)
+module _ (image : List ℕ) (l : Lent) (t : Tree) (h0 b0 key : List ℕ) (c : Trusts image l t h0 b0) (h b : List ℕ)
+    (r : std.Result (Tree × Bool) Refusal)
     (e : removed_of l.size h b r ≡ removed (lent_of image l) (state_of l.size t h0 b0) key) where
-  -- a refusal says the same of whatever slots
-  pub call_refused : (x : ℕ) (h2 b2 : List ℕ) → r ≡ taking.Refused x
-      → removed_of l.size h2 b2 (taking.Refused x) ≡ removed (lent_of image l) (state_of l.size t h0 b0) key
-  unfolding removed_of
-  call_refused x h2 b2 q = ap (removed_of l.size h b) (sym q) ∙ e
-
   trusts_of : (u : Tree) (p : Bool) → ok (record {
     state = state_of l.size u h b;
     present = p;
@@ -241,13 +228,10 @@ module _ (image : List ℕ) (l : Lent) (t : Tree) (h0 b0 key : List ℕ) (c : Tr
         roomy = (roomy_remove (lent_of image l) (state_of l.size t h0 b0) key c.trust c.roomy).at _ (sym q);
       }
 
-  pub call_same : (r' : Removed) → r ≡ r' → removed_of l.size h b r' ≡ removed (lent_of image l) (state_of l.size t h0 b0) key
+  pub call_same : (r' : std.Result (Tree × Bool) Refusal) → r ≡ r'
+      → removed_of l.size h b r' ≡ removed (lent_of image l) (state_of l.size t h0 b0) key
   call_same r' q = ap (removed_of l.size h b) (sym q) ∙ e
 
-  pub call_yes : (u : Tree) → r ≡ taking.Yes u → ReadyRemoved l.size l.slots h b r → Trusts image l u h b
+  pub call_done : (u : Tree) (there : Bool) → r ≡ Ok (u, there) → ReadyRemoved l.size l.slots h b r → Trusts image l u h b
   unfolding removed_of
-  call_yes u q y = trusts_of u true (call_same (taking.Yes u) q) (subst (ReadyRemoved l.size l.slots h b) q y)
-
-  pub call_no : (u : Tree) → r ≡ taking.No u → ReadyRemoved l.size l.slots h b r → Trusts image l u h b
-  unfolding removed_of
-  call_no u q y = trusts_of u false (call_same (taking.No u) q) (subst (ReadyRemoved l.size l.slots h b) q y)
+  call_done u there q y = trusts_of u there (call_same (Ok (u, there)) q) (subst (ReadyRemoved l.size l.slots h b) q y)

@@ -31,11 +31,12 @@ use Rattle.tree.specs.laws.trust.CutRoot.{Ended}
 use Rattle.tree.specs.laws.trust.Upsert.{ended_held}
 use Rattle.tree.specs.laws.trust.HandDown.{hand_ended}
 use Rattle.tree.specs.declared.editor.Tree.{Tree}
-use Rattle.tree.specs.declared.editor.Bounds.{Bounds}
-use Rattle.tree.specs.declared.editor.Loaded.{Loaded}
-use Rattle.tree.specs.declared.editor.Loaded.TheVariants as loaded
 use Rattle.tree.specs.declared.lent.Lent.{Lent}
-use Rattle.tree.specs.declared.edited.Edited.TheVariants as editing
+use Rattle.std.specs.Prelude as std
+use Rattle.std.specs.Prelude.{None, Ok, Err}
+use Rattle.node.specs.Refusals.{number_of}
+use Rattle.node.specs.declared.refusal.Refusal.{Refusal}
+use Rattle.node.specs.declared.refusal.Refusal.TheVariants as is
 
 -- ---- what trust grants
 
@@ -124,9 +125,9 @@ module _ (l : lent.Lent) (s : State) (a : At) (tr : trusted l s ≡ true) (e : o
 
 -- ---- as the code has it
 
-no_bounds : (s : State) (b : Bounds) → b.lower.some ≡ false → b.upper.some ≡ false → bounds_of s b ≡ unbounded
+pub no_bounds : (s : State) → bounds_of s (record { lower = None; upper = None }) ≡ unbounded
 unfolding bounds_of bound_of unbounded
-no_bounds s b x y = rw (x, y)
+no_bounds s = refl
 
 root_of_lem : (size : ℕ) (t : Tree) (h b : List ℕ) → (state_of size t h b).root ≡ t.root
 unfolding state_of
@@ -144,57 +145,51 @@ module _ (image : List ℕ) (l : Lent) (t₀ : Tree) (h0 b0 : List ℕ) (n : ℕ
     abbrev m : lent.Lent
     m = lent_of image l
 
-    pub hand_ready : Ready l.size l.slots t.used h b
-    hand_ready = k.ready
-
-    pub hand_follows : Follows l.size l.slots t₀.used h0 b0 h b
-    hand_follows = k.follows
-
-    pub hand_ends : d ≤ 0 → edited_of l.size h b (editing.Done t) ≡ hand_down n (lent_of image l) (state_of l.size t₀ h0 b0)
+    pub hand_ends : d ≤ 0 → edited_of l.size h b (Ok t) ≡ hand_down n (lent_of image l) (state_of l.size t₀ h0 b0)
     unfolding edited_of hand_down
     hand_ends u = let z : d ≡ 0 = omega arith in ap (λ (x : ℕ). hand_down x m s) (sym z) ∙ k.rest
 
     module _ (hd : 0 < d) (only : Bool) (eo : only ≡ has_only_child (state_of l.size t h b)) where
-      pub hand_stops : not only ≡ true → edited_of l.size h b (editing.Done t) ≡ hand_down n (lent_of image l) (state_of l.size t₀ h0 b0)
+      pub hand_stops : not only ≡ true → edited_of l.size h b (Ok t) ≡ hand_down n (lent_of image l) (state_of l.size t₀ h0 b0)
       unfolding edited_of
       hand_stops q = sym (no_turn m s d hd (sym eo ∙ not-true only q)) ∙ k.rest
 
-      module _ (q : not only ≡ false) (bs : Bounds) (el : bs.lower.some ≡ false) (eu : bs.upper.some ≡ false) (h1 b1 : List ℕ) (got : Loaded)
-          (eg : loaded_of l.size h1 b1 got ≡ load_child (lent_of image l) (state_of l.size t h b) (bounds_of (state_of l.size t h b) bs)
-          t.root 0) where
+      module _ (q : not only ≡ false) (h1 b1 : List ℕ) (got : std.Result (Tree × ℕ) Refusal)
+          (eg : loaded_of l.size h1 b1 got ≡ load_child (lent_of image l) (state_of l.size t h b) (bounds_of (state_of l.size t h b)
+          (record { lower = None; upper = None })) t.root 0) where
         one : has_only_child s ≡ true
         one = sym eo ∙ not-false only q
 
         loads : loaded_of l.size h1 b1 got ≡ load_child m s unbounded s.root 0
-        loads = eg ∙ ap₂ (λ bs r. load_child m s bs r 0) (no_bounds s bs el eu) (sym (root_of_lem l.size t h b))
+        loads = eg ∙ ap₂ (λ bs r. load_child m s bs r 0) (no_bounds s) (sym (root_of_lem l.size t h b))
 
-        pub hand_refused : (x : ℕ) → got ≡ loaded.Refused x → edited_of l.size h1 b1 (editing.Refused x)
+        pub hand_refused : (x : Refusal) → got ≡ Err x → edited_of l.size h1 b1 (Err x)
             ≡ hand_down n (lent_of image l) (state_of l.size t₀ h0 b0)
         unfolding edited_of loaded_of
-        hand_refused x e = sym (load_refused m s d hd one x (ap (loaded_of l.size h1 b1) (sym e) ∙ loads)) ∙ k.rest
+        hand_refused x e = sym (load_refused m s d hd one (number_of x) (ap (loaded_of l.size h1 b1) (sym e) ∙ loads)) ∙ k.rest
 
         pub hand_on : Follows l.size l.slots t.used h b h1 b1 → Follows l.size l.slots t₀.used h0 b0 h1 b1
         hand_on f = follows_on l.size l.slots t₀.used t.used h0 b0 h b h1 b1 k.follows f k.more
 
-        module _ (u : Tree) (c : ℕ) (e : got ≡ loaded.At u c) where
+        module _ (u : Tree) (c : ℕ) (e : got ≡ Ok (u, c)) where
           abbrev a : At
           a = record { state = state_of l.size u h1 b1; slot = c }
 
-          is : ok a ≡ load_child m s unbounded s.root 0
+          at_is : ok a ≡ load_child m s unbounded s.root 0
           unfolding loaded_of
-          is = ap (loaded_of l.size h1 b1) (sym e) ∙ loads
+          at_is = ap (loaded_of l.size h1 b1) (sym e) ∙ loads
 
           trust : trusted m (state_of l.size u h1 b1) ≡ true
-          trust = loaded_trust m s a k.trust is
+          trust = loaded_trust m s a k.trust at_is
 
           pub hand_sized : Sized u.info
           hand_sized = unfold state_of in trusted_sized m (state_of l.size u h1 b1) trust
 
           pub hand_child : c < u.used
-          hand_child = omega (arith, child_used m s a k.trust is, used_nodes l.size u h1 b1)
+          hand_child = omega (arith, child_used m s a k.trust at_is, used_nodes l.size u h1 b1)
 
           pub hand_apart : c ≡ u.root → ⊥
-          hand_apart z = child_apart m s a k.trust is (z ∙ sym (root_of_lem l.size u h1 b1))
+          hand_apart z = child_apart m s a k.trust at_is (z ∙ sym (root_of_lem l.size u h1 b1))
 
           pub hand_root : u.root < u.used
           hand_root = omega (arith, trusted_root m (state_of l.size u h1 b1) trust, used_nodes l.size u h1 b1, root_of_lem l.size u h1 b1)
@@ -203,7 +198,7 @@ module _ (image : List ℕ) (l : Lent) (t₀ : Tree) (h0 b0 : List ℕ) (n : ℕ
           hand_more = omega (
             arith,
             k.more,
-            (load_keeps m s unbounded s.root 0 a (sym is)).more,
+            (load_keeps m s unbounded s.root 0 a (sym at_is)).more,
             used_nodes l.size t h b,
             used_nodes
                 l.size u h1 b1,
@@ -211,27 +206,27 @@ module _ (image : List ℕ) (l : Lent) (t₀ : Tree) (h0 b0 : List ℕ) (n : ℕ
 
           module _ (fit : Bool) (ef : fit ≡ fits u.info true (node_at (state_of l.size u h1 b1) c).level (node_at (state_of
               l.size u h1 b1) c).entries) where
-            pub hand_unfit : not fit ≡ true → edited_of l.size h1 b1 (editing.Done u) ≡ hand_down n (lent_of image l) (state_of l.size t₀ h0 b0)
+            pub hand_unfit : not fit ≡ true → edited_of l.size h1 b1 (Ok u) ≡ hand_down n (lent_of image l) (state_of l.size t₀ h0 b0)
             unfolding edited_of
-            hand_unfit z = sym (turn_unfit m s d hd one a is (unfold state_of in sym ef ∙ not-true fit z)) ∙ k.rest
+            hand_unfit z = sym (turn_unfit m s d hd one a at_is (unfold state_of in sym ef ∙ not-true fit z)) ∙ k.rest
 
             module _ (z : not fit ≡ false) where
               fits_so : fits (state_of l.size u h1 b1).info true (node_at (state_of l.size u h1 b1) c).level (node_at (state_of
                   l.size u h1 b1) c).entries ≡ true
               fits_so = unfold state_of in sym ef ∙ not-false fit z
 
-              pub hand_count : u.info.node_count ≡ 0 → edited_of l.size h1 b1 (editing.Refused 17)
+              pub hand_count : u.info.node_count ≡ 0 → edited_of l.size h1 b1 (Err is.Count)
                   ≡ hand_down n (lent_of image l) (state_of l.size t₀ h0 b0)
               unfolding edited_of
-              hand_count y = sym (turn_count m s d hd one a is fits_so (unfold state_of in y)) ∙ k.rest
+              hand_count y = sym (turn_count m s d hd one a at_is fits_so (unfold state_of in y)) ∙ k.rest
 
               pub hand_next : (u.info.node_count ≡ 0 → ⊥) → Follows l.size l.slots t.used h b h1 b1 → (h2 b2 : List ℕ) (v : Tree)
                   → Handed l.size l.slots u h1 b1 h2 b2 c v → Handing image l t₀ h0 b0 n v h2 b2 (d - 1)
               hand_next y f h2 b2 v g =
                   record {
                     ready = g.ready;
-                    trust = rw g.state (handed_trust m s a k.trust is one fits_so (unfold state_of in y));
+                    trust = rw g.state (handed_trust m s a k.trust at_is one fits_so (unfold state_of in y));
                     more = omega (arith, hand_more, g.same);
                     follows = follows_on l.size l.slots t₀.used u.used h0 b0 h1 b1 h2 b2 (hand_on f) g.follows hand_more;
-                    rest = rw g.state (sym (turn_down m s d hd one a is fits_so (unfold state_of in y)) ∙ k.rest);
+                    rest = rw g.state (sym (turn_down m s d hd one a at_is fits_so (unfold state_of in y)) ∙ k.rest);
                   }

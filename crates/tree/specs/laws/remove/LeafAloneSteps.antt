@@ -22,7 +22,7 @@ use Rattle.tree.specs.internal.Bank.{node_in, live, Ready, Wrote, Put}
 use Rattle.tree.specs.internal.Cutting.{stays_whole}
 use Rattle.tree.specs.internal.Kids.{slots_of, kid_means}
 use Rattle.tree.specs.internal.Loaded.{TakenOf}
-use Rattle.tree.specs.internal.Still.{Settled, StillOf, StillTo, Stilling, StillIn, StillLeaf, StaysAbove, StillRemoved}
+use Rattle.tree.specs.internal.Still.{Settled, GoesOn, StillOf, StillTo, Stilling, StillIn, StillLeaf, StaysAbove, StillRemoved}
 use Rattle.tree.specs.laws.trust.Stands.{stands_of}
 use Rattle.tree.specs.laws.load.LoadedWay.{taken_lies, taken_is, taken_of}
 use Rattle.tree.specs.laws.slots.Bank.{live_entries}
@@ -38,14 +38,11 @@ use Rattle.tree.specs.internal.Writers.{edited}
 use Rattle.tree.specs.Remove.{has_only_child, Removed, removed, remove_in}
 use Rattle.tree.specs.Lent.{Lent, lent_of}
 use Rattle.tree.specs.declared.lent.Lent as lends
-use Rattle.tree.specs.declared.still.Still.{Still}
-use Rattle.tree.specs.declared.still.Still.TheVariants as stilled
-use Rattle.tree.specs.declared.edited.Removed.TheVariants as taking
 use Rattle.tree.specs.Hold.{numbers_hold}
 use Rattle.tree.specs.Answers.{removed_of}
 use Rattle.tree.specs.internal.Edits.{Trusts, RemovedCalled}
 use Rattle.tree.specs.laws.remove.HandDown.{trusted_sized}
-use Rattle.tree.specs.laws.remove.Call.{call_yes}
+use Rattle.tree.specs.laws.remove.Call.{call_done}
 use Rattle.node.specs.Fit.{Sized}
 use Rattle.node.specs.declared.slot.Found.{Found}
 use Rattle.node.specs.declared.info.BTreeInfo.{BTreeInfo}
@@ -53,6 +50,8 @@ use Rattle.node.specs.Result.{Result, ok}
 use Rattle.tree.specs.declared.editor.Tree.{Tree}
 use Rattle.tree.specs.declared.kids.Kid.{Kid}
 use Rattle.tree.specs.declared.loaded.Taken.{Taken}
+use Rattle.std.specs.Prelude.{Ok, Some, None, Option}
+use Rattle.std.proofs.lemmas.Option.{none-some, same_Some}
 
 abbrev yes : State → Result Removed
 yes x = ok (record { state = x; present = true })
@@ -93,9 +92,6 @@ module _ (size : ℕ) (t : Tree) (h b : List ℕ) where
 
   -- ---- the entry gone on by
 
-  pub still_none : (key : List ℕ) (n : ℕ) → StillOf (state_of size t h b) key n (record { loaded = false; index = 0; slot = 0 })
-  still_none key n = record { on = λ q. never q refl }
-
   module _ (slots : ℕ) (key : List ℕ) (n : ℕ) (r : Ready size slots t.used h b) (hn : n < t.used) (q : Settled (state_of size t h b) n) (x : Head)
       (ex : x ≡ live (head_at h n)) (z : x.count ≡ 0 → ⊥) (l : List ℕ) (el : l ≡ slot_bytes size b n) (y : Last)
       (ey : y ≡ last_in t.order key x.count l) where
@@ -120,60 +116,72 @@ module _ (size : ℕ) (t : Tree) (h b : List ℕ) where
     unfolding node_in
     entries_are = ap (λ m. m.entries) (node_in_lem size t h b n hn) ∙ live_entries (head_at h n) (slot_bytes size b n) ∙ rw (← ex, ← el)
 
-    module _ (kid : Kid) (ek : kid_means kid ≡ slots_of (entry_of (drop y.at l)).value) (k f : List ℕ) (ekey : k ≡ (entry_of (drop y.at l)).key)
-        (ef : f ≡ key_at (node_at (state_of size t h b) kid.slot).entries 0) (e : Bool) (ee : e ≡ same_key k f) where
+    module _ (kid : Kid) (ek : kid_means kid ≡ slots_of (entry_of (drop y.at l)).value) (m : ℕ) (ec : kid.slot ≡ Some m) (k f : List ℕ)
+        (ekey : k ≡ (entry_of (drop y.at l)).key)
+        (ef : f ≡ key_at (node_at (state_of size t h b) m).entries 0) (e : Bool) (ee : e ≡ same_key k f) where
       key_is : k ≡ key_at (node_at s n).entries (way_index t.order key (node_at s n).entries)
       key_is =
           key_found size t h b slots n r hn x ex l el i y.at inside start k ekey
           ∙ ap (λ (z : List Entry). key_at (node_at s n).entries (way_index t.order key z)) (sym entries_are)
 
       pub still_on : not e ≡ false → (j : ℕ) → j ≡ y.count - 1
-          → StillOf (state_of size t h b) key n (record { loaded = kid.loaded; index = j; slot = kid.slot })
+          → StillOf (state_of size t h b) key n (Some (record { index = j; slot = m }))
       still_on u j ej =
-          let v : Taken = record { loaded = kid.loaded; index = j; slot = kid.slot } in
-          let q' : TakenOf t.order key (node_at s n).entries v = taken_of size t h b key n hn x ex l el v
-          (taken_is t.order key l x.count still_room z y ey j ej kid ek) in
+          let v : Taken = record { index = j; slot = m } in
+          let q' : TakenOf t.order key (node_at s n).entries (Some v) = taken_of size t h b key n hn x ex l el (Some v)
+          (taken_is t.order key l x.count still_room z y ey j ej kid ek m ec) in
+          let on : GoesOn s key n m =
           record {
-            on = λ g.
-                record {
-                  child = (unfold state_of in q'.child g);
-                  same = (unfold state_of in rw (← key_is, ← ef) (sym ee ∙ not-false e u));
-                  settled = q;
-                };
-          }
+            child = (unfold state_of in q'.child v refl);
+            same = (unfold state_of in rw (← key_is, ← ef) (sym ee ∙ not-false e u));
+            settled = q;
+          } in
+          record { on = λ w g. subst (λ (o : Taken). GoesOn s key n o.slot) (same_Some v w g) on }
 
   -- ---- the leaf
 
   module _ (level : ℕ) (key : List ℕ) where
-    pub stilling_start : Stilling (state_of size t h b) level key level t.root
+    pub stilling_start : Stilling (state_of size t h b) level key (level - 0) t.root
     unfolding state_of
-    stilling_start = record { on = λ m g. g }
+    stilling_start =
+        let e : level - 0 ≡ level = omega arith in
+        record { on = λ m g. subst (λ (j : ℕ). StillTo j s key m s.root) e g }
 
-    pub stilling_turn : (d n : ℕ) → 0 < d → Stilling (state_of size t h b) level key d n → (r : Taken) → StillOf (state_of size t h b) key n r
-        → not r.loaded ≡ false → Stilling (state_of size t h b) level key (d - 1) r.slot
-    stilling_turn d n hd g r q u =
-        let e : suc (d - 1) ≡ d = omega arith in
+    pub stilling_turn : (i n : ℕ) → i < level → Stilling (state_of size t h b) level key (level - i) n → (r : Taken)
+        → StillOf (state_of size t h b) key n (Some r) → Stilling (state_of size t h b) level key (level - (i + 1)) r.slot
+    stilling_turn i n hi g r q =
+        let e : suc (level - (i + 1)) ≡ level - i = omega arith in
         record {
           on = λ m z. g.on m (subst (λ (j : ℕ). StillTo j s key m n) e
-              (record { slot = r.slot; on = q.on (not-false r.loaded u); below = z }));
+              (record { slot = r.slot; on = q.on r refl; below = z }));
         }
 
-    pub still_lost : StillIn t.used level (state_of size t h b) key t.used
-    still_lost = record { leads = λ z. absurd (omega arith) }
+    pub still_lost : StillIn t.used level (state_of size t h b) key None
+    still_lost = record { within = λ m z. absurd (none-some m z); leads = λ m z. absurd (none-some m z) }
 
-    pub still_end : (d n : ℕ) → d ≤ 0 → Stilling (state_of size t h b) level key d n → StillIn t.used level (state_of size t h b) key n
-    still_end d n hd g =
-        let e : 0 ≡ d = omega arith in
-        record { leads = λ z. g.on n (subst (λ (j : ℕ). StillTo j s key n n) e refl) }
+    pub still_end : (i n : ℕ) → level ≤ i → n < t.used → Stilling (state_of size t h b) level key (level - i) n
+        → StillIn t.used level (state_of size t h b) key (Some n)
+    still_end i n hi hn g =
+        let e : 0 ≡ level - i = omega arith in
+        record {
+          within = λ m z. (let q : n ≡ m = same_Some n m z in rw (← q) hn);
+          leads = λ m z. (let q : n ≡ m = same_Some n m z in rw (← q) (g.on n (subst (λ (j : ℕ). StillTo j s key n n) e refl)));
+        }
 
   module _ (key : List ℕ) (k : Bool) (ek : k ≡ keyed_length t.order (length key)) where
-    pub still_unkeyed : StillLeaf t.used (state_of size t h b) key t.used
-    still_unkeyed = record { keys = λ z. absurd (omega arith); leads = λ z. absurd (omega arith) }
+    pub still_unkeyed : StillLeaf t.used (state_of size t h b) key None
+    still_unkeyed =
+        record {
+          within = λ m z. absurd (none-some m z);
+          keys = λ m z. absurd (none-some m z);
+          leads = λ m z. absurd (none-some m z);
+        }
 
-    pub still_leaf : not k ≡ false → (level : ℕ) → level ≡ (node_at (state_of size t h b) t.root).level → (r : ℕ)
+    pub still_leaf : not k ≡ false → (level : ℕ) → level ≡ (node_at (state_of size t h b) t.root).level → (r : Option ℕ)
         → StillIn t.used level (state_of size t h b) key r → StillLeaf t.used (state_of size t h b) key r
     unfolding state_of keyed
-    still_leaf u level ev r q = record { keys = λ z. sym ek ∙ not-false k u; leads = λ z. rw (← ev) (q.leads z) }
+    still_leaf u level ev r q =
+        record { within = q.within; keys = λ m z. sym ek ∙ not-false k u; leads = λ m z. rw (← ev) (q.leads m z) }
 
   -- ---- the entry taken
 
@@ -196,7 +204,8 @@ module _ (size : ℕ) (t : Tree) (h b : List ℕ) where
   root_used st = (unfold state_of in omega (arith, used_nodes size t h b, live_used s t.root (stands_of s st).root))
 
   module _ (slots : ℕ) (key : List ℕ) (n : ℕ) (r : Ready size slots t.used h b) (st : stand_together (state_of size t h b) ≡ true) (hn : n < t.used)
-      (q : StillLeaf t.used (state_of size t h b) key n) (f : Found) (ff : FoundAt size (state_of size t h b) h b n key f) (found : f.found ≡ true)
+      (q : StillLeaf t.used (state_of size t h b) key (Some n)) (f : Found) (ff : FoundAt size (state_of size t h b) h b n key f)
+      (found : f.found ≡ true)
       (a : StaysAbove (state_of size t h b) n f.index) (h' b' : List ℕ) (eh : length h' ≡ length h) (eb : length b' ≡ length b)
       (w : Wrote size h b h' b' n (edited false (node_in size h b n) (remove_at f.index (node_in size h b n).entries))) where
     put : Put size slots h b h' b' n (edited false (node_in size h b n) (remove_at f.index (node_in size h b n).entries))
@@ -234,11 +243,14 @@ module _ (size : ℕ) (t : Tree) (h b : List ℕ) where
           }) ≡ removed l (state_of size t h b) key
       still_answer l =
           ap yes after_is
-          ∙ sym (still_removed l s key n f.index (stands_of s st) a (sym ff.there ∙ found) ff.place (q.leads hn))
+          ∙ sym (still_removed l s key n f.index (stands_of s st) a (sym ff.there ∙ found) ff.place (q.leads n refl))
 
-  pub leaf_keyed : (key : List ℕ) (n : ℕ) → n < t.used → StillLeaf t.used (state_of size t h b) key n → keyed t.order key ≡ true
+  pub leaf_used : (key : List ℕ) (n : ℕ) → StillLeaf t.used (state_of size t h b) key (Some n) → n < t.used
+  leaf_used key n q = q.within n refl
+
+  pub leaf_keyed : (key : List ℕ) (n : ℕ) → StillLeaf t.used (state_of size t h b) key (Some n) → keyed t.order key ≡ true
   unfolding state_of
-  leaf_keyed key n hn q = q.keys hn
+  leaf_keyed key n q = q.keys n refl
 
   pub above_keys : (n j : ℕ) → StaysAbove (state_of size t h b) n j → 1 ≤ t.info.key_count
   unfolding state_of
@@ -255,26 +267,26 @@ module _ (image : List ℕ) (l : lends.Lent) (t : Tree) (h b : List ℕ) (c : Tr
   unfolding state_of
   sized_of = trusted_sized (lent_of image l) (state_of l.size t h b) c.trust
 
-  module _ (key h' b' : List ℕ) (r : Still) (q : StillRemoved l.size l.slots t h b h' b' key r) where
-    pub not_trusts : r ≡ stilled.Not → Trusts image l t h' b'
+  module _ (key h' b' : List ℕ) (r : Option Tree) (q : StillRemoved l.size l.slots t h b h' b' key r) where
+    pub not_trusts : r ≡ None → Trusts image l t h' b'
     not_trusts e = let (a, d) = subst (StillRemoved l.size l.slots t h b h' b' key) e q in rw (a, d) c
 
-    pub not_state : r ≡ stilled.Not → (h' ≡ h) × (b' ≡ b)
+    pub not_state : r ≡ None → (h' ≡ h) × (b' ≡ b)
     not_state e = subst (StillRemoved l.size l.slots t h b h' b' key) e q
 
-    module _ (u : Tree) (e : r ≡ stilled.Yes u) where
-      made : StillRemoved l.size l.slots t h b h' b' key (stilled.Yes u)
+    module _ (u : Tree) (e : r ≡ Some u) where
+      made : StillRemoved l.size l.slots t h b h' b' key (Some u)
       made = subst (StillRemoved l.size l.slots t h b h' b' key) e q
 
-      is : removed_of l.size h' b' (taking.Yes u) ≡ removed (lent_of image l) (state_of l.size t h b) key
+      is : removed_of l.size h' b' (Ok (u, true)) ≡ removed (lent_of image l) (state_of l.size t h b) key
       unfolding removed_of
       is = made.0 (lent_of image l)
 
-      pub yes_answer : removed_of l.size h' b' (taking.Yes u) ≡ remove_in (lent_of image l) (state_of l.size t h b) key
+      pub yes_answer : removed_of l.size h' b' (Ok (u, true)) ≡ remove_in (lent_of image l) (state_of l.size t h b) key
       yes_answer = is ∙ sym passes
         where
           passes : remove_in (lent_of image l) (state_of l.size t h b) key ≡ removed (lent_of image l) (state_of l.size t h b) key
           passes = unfold remove_in state_of in rw made.1
 
-      pub yes_left : RemovedCalled image l t h b h' b' (taking.Yes u)
-      yes_left = call_yes image l t h b key c h' b' (taking.Yes u) is u refl made.2
+      pub yes_left : RemovedCalled image l t h b h' b' (Ok (u, true))
+      yes_left = call_done image l t h b key c h' b' (Ok (u, true)) is u true refl made.2

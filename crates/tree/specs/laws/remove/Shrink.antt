@@ -33,7 +33,8 @@ use Rattle.tree.specs.laws.state.OneLeaf.{touch_marks}
 use Rattle.tree.specs.laws.remove.Words.{put_rewritten}
 use Rattle.tree.specs.laws.remove.Ways.{leaf_is}
 use Rattle.tree.specs.declared.editor.Tree.{Tree}
-use Rattle.tree.specs.declared.edited.Edited.TheVariants as editing
+use Rattle.std.specs.Prelude.{Ok, Err}
+use Rattle.node.specs.declared.refusal.Refusal.TheVariants as is
 
 -- ---- where an entry starts, of the entries before it
 
@@ -149,7 +150,7 @@ module _ (size₀ slots steps i : ℕ) (t : Tree) (way kids h0 b0 h2 b2 : List �
     pub dropped_ready : Ready size₀ slots t.used h3 b3
     dropped_ready = e.rest.ready
 
-    pub shrunk_none : t.info.key_count ≡ 0 → edited_of size₀ h3 b3 (editing.Refused 17) ≡ shrunk_at i (record {
+    pub shrunk_none : t.info.key_count ≡ 0 → edited_of size₀ h3 b3 (Err is.Count) ≡ shrunk_at i (record {
       state = state_of size₀ t h0 b0;
       steps = steps_of way kids steps;
     })
@@ -163,7 +164,7 @@ module _ (size₀ slots steps i : ℕ) (t : Tree) (way kids h0 b0 h2 b2 : List �
           positive : (x : ℕ) → (x ≡ 0 → ⊥) → 0 < x
           positive x h = omega arith
 
-      pub shrunk_many : t.info.node_count < dropped → edited_of size₀ h3 b3 (editing.Refused 17)
+      pub shrunk_many : t.info.node_count < dropped → edited_of size₀ h3 b3 (Err is.Count)
           ≡ shrunk_at i (record { state = state_of size₀ t h0 b0; steps = steps_of way kids steps })
       unfolding edited_of
       shrunk_many z = sym (refuses (lt-leb d₀.nodes t.info.node_count (omega (arith, counted))))
@@ -192,7 +193,7 @@ module _ (size₀ slots steps i : ℕ) (t : Tree) (way kids h0 b0 h2 b2 : List �
         unfolding state_of
         counts_are = ap (λ (x : ℕ). with_counts t.info (t.info.key_count - 1) (t.info.node_count - x)) counted
 
-        pub shrunk_done : edited_of size₀ h4 b4 (editing.Done u) ≡ shrunk_at i (record {
+        pub shrunk_done : edited_of size₀ h4 b4 (Ok u) ≡ shrunk_at i (record {
           state = state_of size₀ t h0 b0;
           steps = steps_of way kids steps;
         })

@@ -43,8 +43,10 @@ use Rattle.tree.specs.laws.remove.HandDown.{trusted_root}
 use Rattle.tree.specs.laws.remove.Chain.{drop_room, shrunk_roomy, shrunk_cuts, shrunk_trust}
 use Rattle.tree.specs.declared.editor.Tree.{Tree}
 use Rattle.tree.specs.declared.lent.Lent.{Lent}
-use Rattle.tree.specs.declared.edited.Edited.{Edited}
-use Rattle.tree.specs.declared.edited.Edited.TheVariants as editing
+use Rattle.std.specs.Prelude as std
+use Rattle.std.specs.Prelude.{Ok, Err}
+use Rattle.node.specs.Refusals.{number_of}
+use Rattle.node.specs.declared.refusal.Refusal.{Refusal}
 
 -- ---- cuts take slots and give none back
 
@@ -182,17 +184,17 @@ module _ (image : List ℕ) (l : Lent) (t₀ : Tree) (h0 b0 way kids : List ℕ)
       (drop_room m on.key i s came.top came.rest trust_s roomy_s top_root down_top place_top way kids steps whole)
 
   -- the leaf's entry out, emptied nodes dropped
-  module _ (a : Edited) (h1 b1 : List ℕ)
+  module _ (a : std.Result Tree Refusal) (h1 b1 : List ℕ)
       (ea : edited_of l.size h1 b1 a ≡ shrunk_at i (record { state = state_of l.size t₀ h0 b0; steps = steps_of way kids steps })) where
-    pub on_refused : (x : ℕ) → a ≡ editing.Refused x
-        → edited_of l.size h1 b1 (editing.Refused x) ≡ removed_at (lent_of image l) i (record {
+    pub on_refused : (x : Refusal) → a ≡ Err x
+        → edited_of l.size h1 b1 (Err x) ≡ removed_at (lent_of image l) i (record {
           state = state_of l.size t₀ h0 b0;
           steps = steps_of way kids steps;
         })
     unfolding edited_of
-    on_refused x q = shrunk_refused m i (record { state = s; steps = ps }) x (ap (edited_of l.size h1 b1) (sym q) ∙ ea)
+    on_refused x q = shrunk_refused m i (record { state = s; steps = ps }) (number_of x) (ap (edited_of l.size h1 b1) (sym q) ∙ ea)
 
-    module _ (t : Tree) (q : a ≡ editing.Done t) (r : ReadyEdited l.size l.slots h1 b1 a) (same : SameUsed t₀.used a) where
+    module _ (t : Tree) (q : a ≡ Ok t) (r : ReadyEdited l.size l.slots h1 b1 a) (same : SameUsed t₀.used a) where
       abbrev v : State
       v = state_of l.size t h1 b1
 
@@ -236,7 +238,7 @@ module _ (image : List ℕ) (l : Lent) (t₀ : Tree) (h0 b0 way kids : List ℕ)
             (bare_slots l.size t h1 b1)))
 
         -- cut
-        module _ (c : Edited) (h3 b3 : List ℕ)
+        module _ (c : std.Result Tree Refusal) (h3 b3 : List ℕ)
             (ec : edited_of l.size h3 b3 c ≡ cuts (lent_of [] l) [] (steps_from way kids 0 steps) (state_of l.size t h2 b2)) where
           same_cuts : cuts (lent_of [] l) [] (steps_from way kids 0 steps) (state_of l.size t h2 b2) ≡ cuts m [] ps (index_keys ps v)
           same_cuts =
@@ -244,15 +246,16 @@ module _ (image : List ℕ) (l : Lent) (t₀ : Tree) (h0 b0 way kids : List ℕ)
               ∙ ap (λ (qs : List Step). cuts m [] qs (state_of l.size t h2 b2)) (sym (from_start way kids steps))
               ∙ ap (cuts m [] ps) w.state
 
-          pub on_uncut : (x : ℕ) → c ≡ editing.Refused x
-              → edited_of l.size h3 b3 (editing.Refused x) ≡ removed_at (lent_of image l) i (record {
+          pub on_uncut : (x : Refusal) → c ≡ Err x
+              → edited_of l.size h3 b3 (Err x) ≡ removed_at (lent_of image l) i (record {
                 state = state_of l.size t₀ h0 b0;
                 steps = steps_of way kids steps;
               })
           unfolding edited_of
-          on_uncut x y = cut_refused m i (record { state = s; steps = ps }) v is_done x (ap (edited_of l.size h3 b3) (sym y) ∙ ec ∙ same_cuts)
+          on_uncut x y = cut_refused m i (record { state = s; steps = ps }) v is_done (number_of x)
+              (ap (edited_of l.size h3 b3) (sym y) ∙ ec ∙ same_cuts)
 
-          module _ (u : Tree) (y : c ≡ editing.Done u) where
+          module _ (u : Tree) (y : c ≡ Ok u) where
             is_cut : ok (state_of l.size u h3 b3) ≡ cuts m [] ps (index_keys ps v)
             unfolding edited_of
             is_cut = ap (edited_of l.size h3 b3) (sym y) ∙ ec ∙ same_cuts

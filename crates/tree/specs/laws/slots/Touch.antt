@@ -1,5 +1,6 @@
 -- Laws of dirty marks on a way. Assumes nothing.
-use Rattle.std.specs.Prelude.{◌≡◌, refl, List, [], ◌∷◌, ◌++◌, true, false, not, length, set}
+use Rattle.std.specs.Prelude.{◌≡◌, refl, List, [], ◌∷◌, ◌++◌, true, false, not, length, set, take}
+use Rattle.std.proofs.lemmas.List.{get_or-take, length-take-le}
 use Rattle.std.proofs.Common.{sym, subst, ◌∙◌, add-one}
 use Rattle.std.proofs.Math.Path.{ap}
 use Prim.Native.Nat.{ℕ, suc, ◌+◌, ◌-◌, ◌≤◌, ◌<◌}
@@ -48,29 +49,37 @@ module _ (size slots : ℕ) (t : Tree) (way : List ℕ) (h0 b0 : List ℕ) where
   unfolding steps_of mark_way
   dirtied_none r = record { state = λ kids. refl; ready = r; follows = follows_same size slots t.used h0 b0 }
 
-  module _ (steps j : ℕ) (w : WayIn t.used way steps) (h b : List ℕ) (d : Dirtied size slots t way j h0 b0 h b) where
-    pub way_room : j < steps → j < length way
-    way_room u = omega (arith, w.long)
+  -- the steps are the first so many slots of the list
+  module _ (steps : ℕ) (w : WayIn t.used way steps) where
+    first : length (take steps way) ≡ steps
+    first = length-take-le steps way w.long
 
-    pub way_slot : j < steps → get_or way j 0 < t.used
-    way_slot u = w.slot j u
+    module _ (j : ℕ) (h b : List ℕ) (d : Dirtied size slots t way j h0 b0 h b) where
+      module _ (u : j < length (take steps way)) where
+        within : j < steps
+        within = omega (arith, first)
 
-    pub dirtied_next : (h' b' : List ℕ) → j < steps → length h' ≡ length h → length b' ≡ length b → Put size slots h b h' b' (get_or way j 0)
-        (marked_dirty (node_in size h b (get_or way j 0)))
-        → Follows size slots t.used h b h' b' → Dirtied size slots t way (j + 1) h0 b0 h' b'
-    unfolding steps_of
-    dirtied_next h' b' u eh eb p f =
-        record {
-          state = λ kids.
-              dirty_state size slots (get_or way j 0) t h b h' b' d.ready.within (way_slot u) p
-              ∙ rw (d.state kids, add-one) (sym (way_snoc (steps_of way kids j) (record { slot = get_or way j 0; child = get_or kids j 0 })
-              (state_of size t h0 b0)));
-          ready = put_ready size slots h b h' b' (get_or way j 0) (marked_dirty (node_in size h b (get_or way j 0))) p t.used d.ready eh eb;
-          follows = follows_on size slots t.used t.used h0 b0 h b h' b' d.follows f (omega arith);
-        }
+        pub way_slot : get_or (take steps way) j 0 < t.used
+        way_slot = rw (get_or-take steps way j 0 within) (w.slot j within)
 
-    pub dirtied_all : j ≤ steps → steps ≤ j → Dirtied size slots t way steps h0 b0 h b
-    dirtied_all u v = let z : j ≡ steps = omega arith in subst (λ (k : ℕ). Dirtied size slots t way k h0 b0 h b) z d
+        pub dirtied_next : (h' b' : List ℕ) → length h' ≡ length h → length b' ≡ length b
+            → Put size slots h b h' b' (get_or (take steps way) j 0) (marked_dirty (node_in size h b (get_or (take steps way) j 0)))
+            → Follows size slots t.used h b h' b' → Dirtied size slots t way (j + 1) h0 b0 h' b'
+        unfolding steps_of
+        dirtied_next h' b' eh eb p₀ f =
+            let n : ℕ = get_or way j 0 in
+            let p : Put size slots h b h' b' n (marked_dirty (node_in size h b n)) = rw (get_or-take steps way j 0 within) at p₀ in
+            record {
+              state = λ kids.
+                  dirty_state size slots n t h b h' b' d.ready.within (w.slot j within) p
+                  ∙ rw (d.state kids, add-one) (sym (way_snoc (steps_of way kids j) (record { slot = n; child = get_or kids j 0 })
+                  (state_of size t h0 b0)));
+              ready = put_ready size slots h b h' b' n (marked_dirty (node_in size h b n)) p t.used d.ready eh eb;
+              follows = follows_on size slots t.used t.used h0 b0 h b h' b' d.follows f (omega arith);
+            }
+
+      pub dirtied_all : j ≤ length (take steps way) → length (take steps way) ≤ j → Dirtied size slots t way steps h0 b0 h b
+      dirtied_all u v = let z : j ≡ steps = omega (arith, first) in subst (λ (k : ℕ). Dirtied size slots t way k h0 b0 h b) z d
 
 -- ---- touch
 

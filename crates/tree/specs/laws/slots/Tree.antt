@@ -26,7 +26,13 @@ use Rattle.tree.specs.laws.slots.Undo.{put_of}
 use Rattle.tree.specs.laws.slots.OneSlot.{slot_entry, slot_past}
 use Rattle.tree.specs.internal.Tree.{child_of}
 use Rattle.tree.specs.declared.editor.Tree.{Tree}
-use Rattle.tree.specs.declared.editor.ChildAt.TheVariants.{None, Disk, Mem}
+use Rattle.std.specs.Prelude.{Some, None}
+use Rattle.node.specs.declared.val.Child.TheVariants as child
+
+some_child : (c : Child.Child) → Some c ≡ child_of (child_means c)
+unfolding child_of child_means
+some_child (child.Disk r) = refl
+some_child (child.Mem m) = refl
 
 none_child : (v : Val) → ghost ≡ v → None ≡ child_of v
 unfolding child_of
@@ -89,17 +95,9 @@ module _ (size : ℕ) (t : Tree) (heads bytes : List ℕ) where
         unfolding value_means child_of
         child_leaf a m e = ap (λ (x : Held.Val). child_of (value_means l x)) (sym e) ∙ ap child_of (ev ∙ val_found)
 
-        pub child_disk : (c : Child.Child) (x : ℕ) → v ≡ held.Child c → c ≡ child.Disk x
-            → Disk x ≡ child_of (val_at (node_at (state_of size t heads bytes) n).entries i)
-        unfolding value_means child_means child_of
-        child_disk c x e f = ap (λ (y : Child.Child). child_of (child_means y)) (sym f) ∙ ap (λ (y : Held.Val). child_of (value_means l y)) (sym e)
-            ∙ ap child_of (ev ∙ val_found)
-
-        pub child_mem : (c : Child.Child) (x : ℕ) → v ≡ held.Child c → c ≡ child.Mem x
-            → Mem x ≡ child_of (val_at (node_at (state_of size t heads bytes) n).entries i)
-        unfolding value_means child_means child_of
-        child_mem c x e f = ap (λ (y : Child.Child). child_of (child_means y)) (sym f) ∙ ap (λ (y : Held.Val). child_of (value_means l y)) (sym e)
-            ∙ ap child_of (ev ∙ val_found)
+        pub child_some : (c : Child.Child) → v ≡ held.Child c → Some c ≡ child_of (val_at (node_at (state_of size t heads bytes) n).entries i)
+        unfolding value_means
+        child_some c e = some_child c ∙ ap (λ (y : Held.Val). child_of (value_means l y)) (sym e) ∙ ap child_of (ev ∙ val_found)
 
 pub child_in : (size : ℕ) (t : Tree) (heads bytes : List ℕ) (n i : ℕ) → n < t.used
     → is_child (val_at (node_at (state_of size t heads bytes) n).entries i) ≡ true → is_child (val_at (node_in size heads bytes n).entries i) ≡ true

@@ -7,7 +7,7 @@ use mathlib.Core.List.{List, [], ◌∷◌, ◌++◌}
 use Rattle.std.proofs.Math.Bool.{cond}
 use Rattle.std.proofs.lemmas.Bool.{not-true}
 use Rattle.node.specs.Order.{pair, keyed, keyed_length, byte_less, less}
-use Rattle.node.specs.Entry.{Entry, Val, mem, value_length}
+use Rattle.node.specs.Entry.{Entry, Val, mem}
 use Rattle.node.specs.Find.{key_at, place_of, is_there}
 use Rattle.node.specs.Fit.{fits}
 use Rattle.node.specs.Cut.{cut}
@@ -23,7 +23,6 @@ use Rattle.tree.specs.Lookup.{Step, Way}
 use Rattle.tree.specs.Edit.{room_for, cut_at, cut_node, cuts}
 use Rattle.tree.specs.Upsert.{upsert_on}
 use Rattle.tree.specs.Workspace.{slot_bytes, state_of}
-use Rattle.tree.specs.Answers.{put_value}
 use Rattle.tree.specs.internal.Bank.{node_in, live, Lies, Ready}
 use Rattle.tree.specs.internal.Undo.{Follows}
 use Rattle.tree.specs.internal.Way.{steps_of}
@@ -141,13 +140,7 @@ there_long o k (x ∷ xs) f =
     (λ t. let g : is_there o k xs ≡ true = rw t at f in rw t (there_long o k xs g))
     (λ t. let g : not (less o k x.key) ≡ true = rw t at f in rw t (less_same o x.key k t (not-true (less o k x.key) g)))
 
--- ---- what is put, and the slots of a way
-
--- the bytes of what is put: a ghost comes with none
-pub value_long : (g : Bool) (value : List ℕ) → (g ≡ true → length value ≡ 0) → length value ≡ value_length (put_value g value)
-unfolding put_value value_length
-value_long true value h = h refl
-value_long false value h = refl
+-- ---- the slots of a way
 
 on_append : (c : ℕ) (a b : List Step) → on_way c (a ++ b) ≡ on_way c a + on_way c b
 on_append c [] b = omega arith

@@ -1,20 +1,23 @@
 -- An entry put in its leaf as the code puts it: whether it fits, its mark, the tree's numbers, the slot's records. Assumes nothing.
-use Rattle.std.specs.Prelude.{◌≡◌, refl, Bool, cond, not, ◌&&◌, ◌||◌, take, leb, ltb, eqb}
+use Rattle.std.specs.Prelude.{◌≡◌, refl, Bool, cond, not, ◌&&◌, ◌||◌, take, leb, ltb, eqb, max}
+use Rattle.std.specs.Prelude.{Option, Some, None}
+use Rattle.std.specs.Borrow.{Bor}
 use Rattle.std.proofs.Math.Path.{sym, ap}
 use Rattle.std.proofs.Common.{ap₂, ◌∙◌, arith}
-use mathlib.Core.List.{List}
+use mathlib.Core.List.{List, []}
 use Rattle.std.proofs.Math.Bool.{true, false}
 use Prim.Native.Nat.{ℕ, ◌+◌, ◌-◌, ◌*◌, ◌^◌, ◌≤◌, ◌<◌}
 use Rattle.std.proofs.Math.ListN.{length, set}
-use borrow.Author.Tests.{leb-true, le-leb, ltb-true, ltb-false, lt-ltb, le-ltb, eqb-true, eqb-false, not-true, not-false}
-use Rattle.node.specs.Entry.{Entry, Val, value_length}
+use borrow.Author.Tests.{leb-true, leb-false, le-leb, ltb-true, ltb-false, lt-ltb, le-ltb, eqb-true, eqb-false, not-true, not-false}
+use Rattle.node.specs.Entry.{Entry, Val, ghost, leaf, value_length, value_bytes}
 use Rattle.node.specs.Order.{keyed_length, keyed}
 use Rattle.node.specs.Find.{place_of, is_there}
 use Rattle.node.specs.Fit.{greater, fixed}
-use Rattle.node.specs.Records.{mark_length, value_of, records_length, entries_of}
+use Rattle.node.specs.Records.{mark_of, mark_length, value_of, records_length, entries_of}
 use Rattle.node.specs.Slot.{MemNode, head_at, insert_at, with_value, is_child, key_length_holds, value_length_holds}
 use Rattle.node.specs.declared.head.Head.{Head}
 use Rattle.node.specs.declared.info.BTreeInfo.{BTreeInfo}
+use Rattle.node.specs.declared.refusal.Refusal.TheVariants as is
 use Rattle.node.specs.declared.slot.Found.{Found}
 use Rattle.node.specs.laws.base.Tests.{by_test}
 use Rattle.node.specs.laws.slot.Records.{value_length_lem, entries_front, records_less}
@@ -22,7 +25,7 @@ use Rattle.tree.specs.State.{State, node_at, put_node, with_nodes, with_info, wi
 use Rattle.tree.specs.Hold.{key_fits, value_fits}
 use Rattle.tree.specs.Upsert.{put_entry, grown_longest, put_in_leaf, entry_fits}
 use Rattle.tree.specs.Workspace.{slot_bytes, nodes_of, state_of}
-use Rattle.tree.specs.Answers.{put_value}
+use Rattle.tree.specs.Answers.{put_value, lent_value}
 use Rattle.tree.specs.internal.Bank.{node_in, live, Lies, Ready, Put}
 use Rattle.tree.specs.internal.Found.{FoundAt}
 use Rattle.tree.specs.internal.Writers.{edited}
@@ -36,21 +39,14 @@ use Rattle.tree.specs.declared.editor.Tree.{Tree}
 
 -- ---- numbers
 
-pub greater_new : (a b : ℕ) → a < b → b ≡ greater a b
+greater_is : (a b : ℕ) → max a b ≡ greater a b
 unfolding greater
-greater_new a b h = sym (rw (le-leb a b (omega arith)))
+greater_is a b =
+    by_test (leb a b)
+    (λ t. let z = leb-true a b t in rw t (omega arith))
+    (λ t. let z = leb-false a b t in rw t (omega arith))
 
-pub greater_old : (a b : ℕ) → b ≤ a → a ≡ greater a b
-unfolding greater
-greater_old a b h = by_test (leb a b) (λ t. rw t (omega (arith, leb-true a b t))) (λ t. rw t)
-
-pub mark_ghost : (g : Bool) (n : ℕ) → g ≡ true → 0xFFFF ≡ cond g 0xFFFF n
-mark_ghost g n e = rw e
-
-pub mark_bytes : (g : Bool) (n : ℕ) → g ≡ false → n ≡ cond g 0xFFFF n
-mark_bytes g n e = rw e
-
-pub grown_new_is : (t : BTreeInfo) (key value k v : ℕ) → k ≡ greater t.longest_key key → v ≡ greater t.longest_val value
+pub grown_new_is : (t : BTreeInfo) (key value k v : ℕ) → k ≡ max t.longest_key key → v ≡ max t.longest_val value
     → record {
       flags = t.flags;
       node_size = t.node_size;
@@ -62,9 +58,9 @@ pub grown_new_is : (t : BTreeInfo) (key value k v : ℕ) → k ≡ greater t.lon
       node_count = t.node_count;
     } ≡ with_longest (with_counts t (t.key_count + 1) t.node_count) (greater t.longest_key key) (greater t.longest_val value)
 unfolding with_longest with_counts
-grown_new_is t key value k v a b = rw (a, b)
+grown_new_is t key value k v a b = rw (a, b, greater_is, greater_is)
 
-pub grown_old_is : (t : BTreeInfo) (value v : ℕ) → v ≡ greater t.longest_val value
+pub grown_old_is : (t : BTreeInfo) (value v : ℕ) → v ≡ max t.longest_val value
     → record {
       flags = t.flags;
       node_size = t.node_size;
@@ -76,10 +72,7 @@ pub grown_old_is : (t : BTreeInfo) (value v : ℕ) → v ≡ greater t.longest_v
       node_count = t.node_count;
     } ≡ with_longest (with_counts t t.key_count t.node_count) t.longest_key (greater t.longest_val value)
 unfolding with_longest with_counts
-grown_old_is t value v b = rw b
-
-pub count_found : (found : Bool) (keys : ℕ) → found ≡ true → true ≡ (found || ltb keys (2 ^ 64 - 1))
-count_found found keys e = rw e
+grown_old_is t value v b = rw (b, greater_is)
 
 -- a word is at most 2^64 - 1
 pub count_new : (found : Bool) (keys : ℕ) → keys < 2 ^ 64 → found ≡ false → not (eqb keys 0xFFFFFFFFFFFFFFFF) ≡ (found || ltb keys (2 ^ 64 - 1))
@@ -91,39 +84,15 @@ count_new found keys small e =
     (λ u. absurd (z (omega (arith, ltb-false keys (2 ^ 64 - 1) u)))) in
     rw (e, t, lt-ltb keys (2 ^ 64 - 1) y))
 
-pub large_key : (size key value : ℕ) → size < key → true ≡ ltb size (4 + key + value + 56)
-large_key size key value h = sym (lt-ltb size (4 + key + value + 56) (omega arith))
-
-pub large_value : (size key value : ℕ) → size < value → true ≡ ltb size (4 + key + value + 56)
-large_value size key value h = sym (lt-ltb size (4 + key + value + 56) (omega arith))
-
 -- how many entries there are after: alone, 13; beside others, 14
-pub refusal_first : (count : ℕ) (found : Bool) → count ≡ 0 → ◌≡◌ {A = ℕ} 13 (cond (ltb 1 (count + cond found 0 1)) 14 13)
-refusal_first count true e = let z : ltb 1 (count + 0) ≡ false = le-ltb 1 (count + 0) (omega arith) in rw z
-refusal_first count false e = let z : ltb 1 (count + 1) ≡ false = le-ltb 1 (count + 1) (omega arith) in rw z
-
-pub refusal_beside : (count : ℕ) (found : Bool) → (count ≡ 0 → ⊥) → not found ≡ true → ◌≡◌ {A = ℕ} 14 (cond (ltb 1 (count + cond found 0 1)) 14 13)
+pub refusal_beside : (count : ℕ) (found : Bool) → (count ≡ 0 → ⊥) → not found ≡ true
+    → is.NoCut ≡ cond (ltb 1 (count + cond found 0 1)) is.NoCut is.Single
 refusal_beside count found n e = let z : ltb 1 (count + 1) ≡ true = lt-ltb 1 (count + 1) (omega arith) in rw (not-true found e, z)
 
-pub refusal_alone : (count : ℕ) (found : Bool) → count ≡ 1 → not found ≡ false → ◌≡◌ {A = ℕ} 13 (cond (ltb 1 (count + cond found 0 1)) 14 13)
+pub refusal_alone : (count : ℕ) (found : Bool) → count ≡ 1 → not found ≡ false → is.Single ≡ cond (ltb 1 (count + cond found 0 1)) is.NoCut is.Single
 refusal_alone count found n e = let z : ltb 1 (count + 0) ≡ false = le-ltb 1 (count + 0) (omega arith) in rw (not-false found e, z)
 
-pub refusal_others : (count : ℕ) (found : Bool) → (count ≡ 0 → ⊥) → (count ≡ 1 → ⊥) → not found ≡ false
-    → ◌≡◌ {A = ℕ} 14 (cond (ltb 1 (count + cond found 0 1)) 14 13)
-refusal_others count found n m e = let z : ltb 1 (count + 0) ≡ true = lt-ltb 1 (count + 0) (omega arith) in rw (not-false found e, z)
-
 -- ---- 12
-
-module _ (o : ℕ) (t : BTreeInfo) (key value : ℕ) (g k : Bool) (ek : k ≡ key_length_holds o t key) where
-  pub fits_key : not k ≡ true → false ≡ key_length_holds o t key && (g || value_length_holds t value)
-  fits_key n = rw (← ek, not-true k n)
-
-  pub fits_ghost : not k ≡ false → g ≡ true → true ≡ key_length_holds o t key && (g || value_length_holds t value)
-  fits_ghost n e = rw (← ek, not-false k n, e)
-
-  pub fits_value : (v : Bool) → not k ≡ false → g ≡ false → v ≡ value_length_holds t value
-      → v ≡ key_length_holds o t key && (g || value_length_holds t value)
-  fits_value v n e q = rw (← ek, not-false k n, e) q
 
 and_true : (b : Bool) → b && true && true ≡ b && true
 and_true true = refl
@@ -135,36 +104,77 @@ and_once true false = refl
 and_once false b = refl
 
 -- the test of lengths is that of the entry
-pub entry_fits_is : (size : ℕ) (t : Tree) (heads bytes key value : List ℕ) (g : Bool)
-    → entry_fits (state_of size t heads bytes) key (put_value g value)
-    ≡ key_length_holds t.order t.info (length key) && (g || value_length_holds t.info (length value))
-unfolding entry_fits key_fits value_fits key_length_holds value_length_holds state_of put_value is_child keyed
-entry_fits_is size t heads bytes key value true =
-    and_true (keyed_length t.order (length key) && (not (fixed t.info) || eqb (length key) t.info.key_size))
-entry_fits_is size t heads bytes key value false =
-    and_once (keyed_length t.order (length key) && (not (fixed t.info) || eqb (length key) t.info.key_size))
-    (not (fixed t.info) || eqb (length value) t.info.val_size)
+module _ (size : ℕ) (t : Tree) (heads bytes key : List ℕ) where
+  abbrev fit : Val → Bool
+  fit = entry_fits (state_of size t heads bytes) key
 
--- ---- the entry's mark
+  ghost_is : fit ghost ≡ key_length_holds t.order t.info (length key) && true
+  unfolding entry_fits key_fits value_fits key_length_holds state_of is_child keyed
+  ghost_is = and_true (keyed_length t.order (length key) && (not (fixed t.info) || eqb (length key) t.info.key_size))
 
-module _ (g : Bool) (value : List ℕ) (mark : ℕ) (e : mark ≡ cond g 0xFFFF (length value)) (h : g ≡ true → length value ≡ 0)
-    (short : length value ≤ 0xFFFC) where
-  pub mark_short : mark < 2 ^ 16
-  mark_short = by_test g (λ t. let z : mark ≡ 0xFFFF = rw t at e in omega arith) (λ t. let z : mark ≡ length value = rw t at e in omega arith)
+  leaf_is : (value : List ℕ) → fit (leaf value)
+      ≡ key_length_holds t.order t.info (length key) && value_length_holds t.info (length value)
+  unfolding entry_fits key_fits value_fits key_length_holds value_length_holds state_of is_child keyed
+  leaf_is value =
+      and_once (keyed_length t.order (length key) && (not (fixed t.info) || eqb (length key) t.info.key_size))
+      (not (fixed t.info) || eqb (length value) t.info.val_size)
 
-  pub mark_long : mark_length mark ≡ length value
-  unfolding mark_length
-  mark_long =
-      by_test g
-      (λ t. let z : mark ≡ 0xFFFF = rw t at e in rw z (sym (h t)))
-      (λ t. let z : mark ≡ length value = rw t at e in rw (z, le-leb (length value) 0xFFFC short))
+  module _ (k : Bool) (ek : k ≡ key_length_holds t.order t.info (length key)) where
+    pub fits_key : (v : Option (Bor (List ℕ))) → not k ≡ true → false ≡ entry_fits (state_of size t heads bytes) key (lent_value v)
+    unfolding lent_value put_value
+    fits_key None n = sym (ghost_is ∙ rw (← ek, not-true k n))
+    fits_key (Some x) n = sym (leaf_is x.now ∙ rw (← ek, not-true k n))
 
-  pub mark_value_lem : value_of mark value ≡ put_value g value
-  unfolding value_of put_value
-  mark_value_lem =
-      by_test g
-      (λ t. let z : mark ≡ 0xFFFF = rw t at e in rw (z, t))
-      (λ t. let z : mark ≡ length value = rw t at e in rw (z, t, le-leb (length value) 0xFFFC short))
+    pub fits_ghost : (v : Option (Bor (List ℕ))) → not k ≡ false → v ≡ None
+        → true ≡ entry_fits (state_of size t heads bytes) key (lent_value v)
+    unfolding lent_value put_value
+    fits_ghost v n e = sym (rw e (ghost_is ∙ rw (← ek, not-false k n)))
+
+    pub fits_value : (v : Option (Bor (List ℕ))) (x : Bor (List ℕ)) (r : Bool) → not k ≡ false → v ≡ Some x
+        → r ≡ value_length_holds t.info (length x.now) → r ≡ entry_fits (state_of size t heads bytes) key (lent_value v)
+    unfolding lent_value put_value
+    fits_value v x r n e q = q ∙ sym (rw e (leaf_is x.now ∙ rw (← ek, not-false k n)))
+
+-- ---- the entry's mark and bytes
+
+pub mark_none : (v : Option (Bor (List ℕ))) → v ≡ None → 0xFFFF ≡ mark_of (lent_value v)
+unfolding lent_value put_value mark_of
+mark_none v e = sym (rw e)
+
+pub mark_some : (v : Option (Bor (List ℕ))) (x : Bor (List ℕ)) → v ≡ Some x → length x.now ≡ mark_of (lent_value v)
+unfolding lent_value put_value mark_of
+mark_some v x e = sym (rw e)
+
+pub bytes_none : (v : Option (Bor (List ℕ))) → v ≡ None → [] ≡ value_bytes (lent_value v)
+unfolding lent_value put_value value_bytes
+bytes_none v e = sym (rw e)
+
+pub bytes_some : (v : Option (Bor (List ℕ))) (x : Bor (List ℕ)) → v ≡ Some x → x.now ≡ value_bytes (lent_value v)
+unfolding lent_value put_value value_bytes
+bytes_some v x e = sym (rw e)
+
+pub bytes_long : (v : Option (Bor (List ℕ))) (bytes : List ℕ) → bytes ≡ value_bytes (lent_value v) → length bytes ≡ value_length (lent_value v)
+unfolding lent_value put_value value_bytes value_length
+bytes_long None bytes e = ap length e
+bytes_long (Some x) bytes e = ap length e
+
+module _ (mark : ℕ) (bytes : List ℕ) where
+  pub mark_short : (v : Option (Bor (List ℕ))) → mark ≡ mark_of (lent_value v) → value_length (lent_value v) ≤ 0xFFFC → mark < 2 ^ 16
+  unfolding lent_value put_value mark_of value_length
+  mark_short None e h = omega arith
+  mark_short (Some x) e h = omega arith
+
+  pub mark_long : (v : Option (Bor (List ℕ))) → mark ≡ mark_of (lent_value v) → bytes ≡ value_bytes (lent_value v)
+      → value_length (lent_value v) ≤ 0xFFFC → mark_length mark ≡ length bytes
+  unfolding lent_value put_value mark_of value_bytes value_length mark_length
+  mark_long None e q h = rw (e, q)
+  mark_long (Some x) e q h = rw (e, q, le-leb (length x.now) 0xFFFC h)
+
+  pub mark_value_lem : (v : Option (Bor (List ℕ))) → mark ≡ mark_of (lent_value v) → bytes ≡ value_bytes (lent_value v)
+      → value_length (lent_value v) ≤ 0xFFFC → value_of mark bytes ≡ lent_value v
+  unfolding lent_value put_value mark_of value_bytes value_length value_of
+  mark_value_lem None e q h = rw e
+  mark_value_lem (Some x) e q h = rw (e, q, le-leb (length x.now) 0xFFFC h)
 
 -- ---- room
 

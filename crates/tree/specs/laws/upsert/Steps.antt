@@ -56,7 +56,10 @@ use Rattle.tree.specs.laws.upsert.Parts.{cuts_slots, short_keys, there_long, on_
 use Rattle.tree.specs.laws.upsert.Fit.{upsert_index_room, upsert_cuts_fit}
 use Rattle.tree.specs.declared.editor.Tree.{Tree}
 use Rattle.tree.specs.declared.lent.Lent.{Lent}
-use Rattle.tree.specs.declared.edited.Edited.TheVariants as editing
+use Rattle.std.specs.Prelude.{Err}
+use Rattle.node.specs.Refusals.{number_of}
+use Rattle.node.specs.declared.refusal.Refusal.{Refusal}
+use Rattle.node.specs.declared.refusal.Refusal.TheVariants as is
 
 module _ (l : Lent) (t : Tree) (h0 b0 way kids : List ℕ) (steps : ℕ) (key : List ℕ) (v : Val) (g : Gone l t h0 b0 way kids steps key v) where
   abbrev s : State
@@ -167,16 +170,17 @@ module _ (l : Lent) (t : Tree) (h0 b0 way kids : List ℕ) (steps : ℕ) (key : 
       pub on_alive : (node_at (state_of l.size t h1 b1) n).dead ≡ false
       on_alive = ap (λ (u : State). (node_at u n).dead) state₁ ∙ touch_dead ps s n ∙ leaf_live
 
-      pub on_room : (len : ℕ) → 4 + length key + len + 56 ≤ l.size → (live (head_at h1 n)).used + (4 + length key + len) ≤ 4 * l.size
-      on_room len k =
+      pub on_room : (len : ℕ) → len ≡ value_length v → 4 + length key + value_length v + 56 ≤ l.size
+          → (live (head_at h1 n)).used + (4 + length key + len) ≤ 4 * l.size
+      on_room len el k =
           let a : weight (node_at (state_of l.size t h1 b1) n).entries ≡ weight (node_at s n).entries = ap weight entries₁ in
           omega (arith, node_weight l.size l.slots t h1 b1 q.ready n leaf_used, roomy.most n leaf_live)
 
-      pub on_short : (len : ℕ) → 4 + length key + len + 56 ≤ l.size → length key < 2 ^ 16
-      on_short len k = omega (arith, g.ready.most)
+      pub on_short : 4 + length key + value_length v + 56 ≤ l.size → length key < 2 ^ 16
+      on_short k = omega (arith, g.ready.most)
 
-      pub on_slim : (len : ℕ) → 4 + length key + len + 56 ≤ l.size → len ≤ 0xFFFC
-      on_slim len k = omega (arith, g.ready.most)
+      pub on_slim : 4 + length key + value_length v + 56 ≤ l.size → value_length v ≤ 0xFFFC
+      on_slim k = omega (arith, g.ready.most)
 
       -- ---- the entry put
 
@@ -188,10 +192,10 @@ module _ (l : Lent) (t : Tree) (h0 b0 way kids : List ℕ) (steps : ℕ) (key : 
         pub on_way_lem : WayIn t2.used way steps
         on_way_lem = rw u gone_way
 
-        pub on_index : (len scratch : ℕ) → Bytes b0 → 4 + length key + len + 56 ≤ l.size → 2 * l.size ≤ scratch
+        pub on_index : (scratch : ℕ) → Bytes b0 → 4 + length key + value_length v + 56 ≤ l.size → 2 * l.size ≤ scratch
             → IndexRoom l.size t2 h2 b2 way kids steps scratch
         unfolding lent_of
-        on_index len scratch k e z =
+        on_index scratch k e z =
             upsert_index_room (lent_of [] l) key v s way kids steps stands down₀ roomy (omega (arith, g.ready.most)) (omega arith)
             (short_keys l.size l.slots t h0 b0 g.ready k) scratch z t2 h2 b2
             (subst (λ (xs : List Step). state_of l.size t2 h2 b2 ≡ put_in_leaf (touch xs s) (leaf_of xs) key v) (from_start way kids steps) state₂)
@@ -230,7 +234,7 @@ module _ (l : Lent) (t : Tree) (h0 b0 way kids : List ℕ) (steps : ℕ) (key : 
       passes = ap (λ (b : Bool). b || ltb t.info.key_count (2 ^ 64 - 1)) there_is ∙ sym ec
 
       pub on_count : not c ≡ true
-          → edited_of l.size h0 b0 (editing.Refused 17) ≡ upsert_on (lent_of [] l) key v (way_gone l.size t h0 b0 way kids steps)
+          → edited_of l.size h0 b0 (Err is.Count) ≡ upsert_on (lent_of [] l) key v (way_gone l.size t h0 b0 way kids steps)
       unfolding edited_of upsert_on
       on_count z = sym (rw (passes, not-true c z))
 
@@ -285,13 +289,18 @@ module _ (l : Lent) (t : Tree) (h0 b0 way kids : List ℕ) (steps : ℕ) (key : 
             ap (λ (k : ℕ). cond (ltb 1 k) 14 13) (put_length s.order e es
             ∙ ap₂ (λ (k : ℕ) (b : Bool). k + cond b 0 1) (sym y) there_is)
 
-        pub on_large : (h : Head) (b : Bool) (len x : ℕ) → h ≡ live (head_at h0 n) → b ≡ ltb l.size (4 + length key + len + 56) → b ≡ true
-            → len ≡ value_length v → x ≡ cond (ltb 1 (h.count + cond f.found 0 1)) 14 13
-            → edited_of l.size h0 b0 (editing.Refused x) ≡ upsert_on (lent_of [] l) key v (way_gone l.size t h0 b0 way kids steps)
+        number_is : (b : Bool) → number_of (cond b is.NoCut is.Single) ≡ cond b 14 13
+        number_is true = refl
+        number_is false = refl
+
+        pub on_large : (h : Head) (b : Bool) (len : ℕ) (x : Refusal) → h ≡ live (head_at h0 n) → b ≡ ltb l.size (4 + length key + len + 56) → b ≡ true
+            → len ≡ value_length v → x ≡ cond (ltb 1 (h.count + cond f.found 0 1)) is.NoCut is.Single
+            → edited_of l.size h0 b0 (Err x) ≡ upsert_on (lent_of [] l) key v (way_gone l.size t h0 b0 way kids steps)
         unfolding edited_of
         on_large h b len x eh eb q k ex =
             sym (on_passed ∙ large_cut (large len k (ltb-true l.size (4 + length key + len + 56) (sym eb ∙ q)))
-            ∙ ap refused (refusal_is h eh ∙ sym ex))
+            ∙ ap refused (refusal_is h eh ∙ sym (number_is (ltb 1 (h.count + cond f.found 0 1))) ∙ ap number_of (sym ex)))
 
-        pub on_small : (b : Bool) (len : ℕ) → b ≡ ltb l.size (4 + length key + len + 56) → b ≡ false → 4 + length key + len + 56 ≤ l.size
-        on_small b len eb q = ltb-false l.size (4 + length key + len + 56) (sym eb ∙ q)
+        pub on_small : (b : Bool) (len : ℕ) → b ≡ ltb l.size (4 + length key + len + 56) → b ≡ false → len ≡ value_length v
+            → 4 + length key + value_length v + 56 ≤ l.size
+        on_small b len eb q k = let z = ltb-false l.size (4 + length key + len + 56) (sym eb ∙ q) in omega arith

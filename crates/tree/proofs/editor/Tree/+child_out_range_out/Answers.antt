@@ -1,75 +1,49 @@
 use native.Mathlib.Omega.{arith}
+use Rattle.std.specs.Prelude.{Some}
+use Rattle.std.proofs.Common.{ap}
+use mathlib.Core.Bool.{not}
+use mathlib.Core.Path.{◌∙◌}
 use Rattle.tree.specs.laws.lookup.RangeOut.{passed_end, passed_out, none_end, none_out, disk_end, disk_out, mem_room, mem_end, mem_out, leaf_room, leaf_end, leaf_out, kids_end, kids_out, kid_room, kid_end, kid_out}
 use Rattle.tree.specs.laws.lookup.RangeFirstChild.{next_falls, skipped_end, skipped_out, begin_end, begin_out}
 use borrow.Author.Rules.{rules}
 use Rattle.tree.proofs.editor.Tree.+child_out_range_out.Goals as goal
 
-ruleset laws = (rules, passed_end, passed_out, none_end, none_out, disk_end, disk_out, mem_room, mem_end, mem_out, leaf_room, leaf_end, leaf_out, kids_end, kids_out)
-
-pub child_out-range_enters-enters-requires : goal.child_out-range_enters-enters-requires
-child_out-range_enters-enters-requires t c = search laws
+ruleset laws = (rules, passed_end, passed_out, leaf_room, leaf_end, leaf_out)
 
 pub child_out-returns-then-not-enters : goal.child_out-returns-then-not-enters
 child_out-returns-then-not-enters t c = search laws
 
-pub child_out-child_at-child-requires : goal.child_out-child_at-child-requires
-child_out-child_at-child-requires t c = search laws
-
-pub child_out-enum_told-1 : goal.child_out-enum_told-1
-child_out-enum_told-1 t c = search laws
-
-pub child_out-enum_told-in-Disk : goal.child_out-enum_told-in-Disk
-child_out-enum_told-in-Disk t c = search laws
-
-pub child_out-enum_known-child : goal.child_out-enum_known-child
-child_out-enum_known-child t c = search laws
-
 pub child_out-range_out-requires : goal.child_out-range_out-requires
-child_out-range_out-requires t c = search laws
+child_out-range_out-requires t c =
+    (omega (arith, c.decreases), (c.requires.ready, mem_room _ c.args.self _ _ _ _ _ _ _ _ c.range_enters-enters.ensures (ap not c.if-not-enters.false) _ c.child_at-held.ensures _ (c.in-Some.is ∙ ap Some c.in-Mem.is) _ _ c.requires.i_in_bounds))
 
-pub child_out-returns-in-None : goal.child_out-returns-in-None
-child_out-returns-in-None t c = search laws
+pub child_out-returns-in_default : goal.child_out-returns-in_default
+child_out-returns-in_default t c =
+    record { end = none_end _ c.args.self _ _ _ _ _ _ _ _ c.range_enters-enters.ensures (ap not c.if-not-enters.false) _ c.child_at-held.ensures c.in_default.is _; output = none_out _ c.args.self _ _ _ _ _ _ _ _ c.range_enters-enters.ensures (ap not c.if-not-enters.false) _ c.child_at-held.ensures c.in_default.is _ _ }
 
 pub child_out-returns-in-Disk : goal.child_out-returns-in-Disk
-child_out-returns-in-Disk t c = search laws
-
-pub child_out-shape_of-out : goal.child_out-shape_of-out
-child_out-shape_of-out t c = search laws
+child_out-returns-in-Disk t c =
+    let q = c.in-Some.is ∙ ap Some c.in-Disk.is in
+    record { end = disk_end _ c.args.self _ _ _ _ _ _ _ _ c.range_enters-enters.ensures (ap not c.if-not-enters.false) _ c.child_at-held.ensures _ q _; output = disk_out _ c.args.self _ _ _ _ _ _ _ _ c.range_enters-enters.ensures (ap not c.if-not-enters.false) _ c.child_at-held.ensures _ q _ _ }
 
 pub child_out-returns-in-Mem : goal.child_out-returns-in-Mem
-child_out-returns-in-Mem t c = search laws
+child_out-returns-in-Mem t c =
+    let q = c.in-Some.is ∙ ap Some c.in-Mem.is in
+    record { end = mem_end _ c.args.self _ _ _ _ _ _ _ _ c.range_enters-enters.ensures (ap not c.if-not-enters.false) _ c.child_at-held.ensures _ q _ _ c.range_out.ensures.end; output = mem_out _ c.args.self _ _ _ _ _ _ _ _ c.range_enters-enters.ensures (ap not c.if-not-enters.false) _ c.child_at-held.ensures _ q _ _ _ c.range_out.ensures.output }
 
 pub range_out-write_at_between-requires : goal.range_out-write_at_between-requires
 range_out-write_at_between-requires t c = search laws
 
-pub range_out-shape_of-out-then-d-eq0 : goal.range_out-shape_of-out-then-d-eq0
-range_out-shape_of-out-then-d-eq0 t c = search laws
-
 pub range_out-returns-then-d-eq0 : goal.range_out-returns-then-d-eq0
 range_out-returns-then-d-eq0 t c = search laws
-
-pub range_out-count_at-kids-requires : goal.range_out-count_at-kids-requires
-range_out-count_at-kids-requires t c = search laws
-
-pub range_out-next_entered-i-requires : goal.range_out-next_entered-i-requires
-range_out-next_entered-i-requires t c = search laws
 
 pub range_out-loop-i-init : goal.range_out-loop-i-init
 range_out-loop-i-init t c =
     (search laws, begin_end _ c.args.self _ _ _ _ _ _ c.if-d-eq0.false _ c.count_at-kids.ensures.0 _ _ c.next_entered-i.ensures _, begin_out _ c.args.self _ _ _ _ _ _ c.if-d-eq0.false _ c.count_at-kids.ensures.0 _ _ c.next_entered-i.ensures _ _)
 
-pub range_out-overflow_sub-d : goal.range_out-overflow_sub-d
-range_out-overflow_sub-d t c = search laws
-
 pub range_out-child_out-end-requires : goal.range_out-child_out-end-requires
 range_out-child_out-end-requires t c =
     (omega (arith, c.decreases, c.if-d-eq0.false), (c.requires.ready, kid_room _ _ _ _ _ _ _ c.loop-i-test.true _ _ c.loop-i.invariant.1 c.loop-i.out c.args.out.now c.loop-i.invariant.0 c.requires.n_in_bounds))
-
-pub range_out-overflow_add-i : goal.range_out-overflow_add-i
-range_out-overflow_add-i t c = search (rules, c.loop-i-test.true)
-
-pub range_out-next_entered-i-requires-in-loop-i : goal.range_out-next_entered-i-requires-in-loop-i
-range_out-next_entered-i-requires-in-loop-i t c = search laws
 
 pub range_out-loop-i-smaller : goal.range_out-loop-i-smaller
 range_out-loop-i-smaller t c = next_falls _ _ _ _ _ _ _ _ c.next_entered-i-in-loop-i.ensures c.loop-i-test.true
@@ -77,9 +51,6 @@ range_out-loop-i-smaller t c = next_falls _ _ _ _ _ _ _ _ c.next_entered-i-in-lo
 pub range_out-loop-i-preserved : goal.range_out-loop-i-preserved
 range_out-loop-i-preserved t c =
     (search (rules, c.child_out-end.auto, c.loop-i.invariant), skipped_end _ _ c.args.self _ _ _ _ _ _ _ _ _ c.next_entered-i-in-loop-i.ensures _ _ (kid_end _ _ _ _ _ _ _ c.loop-i-test.true _ _ c.loop-i.invariant.1 _ c.child_out-end.ensures.end), skipped_out _ _ c.args.self _ _ _ _ _ _ _ _ _ c.next_entered-i-in-loop-i.ensures _ _ _ (kid_out _ _ _ _ _ _ _ c.loop-i-test.true _ _ c.loop-i.invariant.1 _ c.child_out-end.ensures.end c.loop-i.out c.args.out.now _ _ c.loop-i.invariant.0 c.requires.n_in_bounds c.child_out-end.ensures.output c.loop-i.invariant.2))
-
-pub range_out-shape_of-out : goal.range_out-shape_of-out
-range_out-shape_of-out t c = search laws
 
 pub range_out-returns : goal.range_out-returns
 range_out-returns t c =

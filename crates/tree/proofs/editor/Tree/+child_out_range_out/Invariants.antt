@@ -15,10 +15,10 @@ decreases-range_out l = l.d + l.d
 
 abbrev pub invariant-range_out-loop-i : goal.invariant-range_out-loop-i
 invariant-range_out-loop-i l = (length l.out ≡ length l.initial.out)
-    × (l.end + length (records_of (held_kids (range_held (l.d - 1) (state_of l.size l.self l.heads l.bytes) l.lo (end_of l.ended l.hi)) (state_of l.size l.self l.heads l.bytes) l.lo
-    (end_of l.ended l.hi) l.n (l.kids - l.i) l.i)) ≡ l.from + length (records_of (range_held l.d (state_of l.size l.self l.heads l.bytes) l.lo (end_of l.ended l.hi) l.n)))
-    × (splice l.out l.end (records_of (held_kids (range_held (l.d - 1) (state_of l.size l.self l.heads l.bytes) l.lo (end_of l.ended l.hi)) (state_of l.size l.self l.heads l.bytes) l.lo
-    (end_of l.ended l.hi) l.n (l.kids - l.i) l.i)) ≡ splice l.initial.out l.from (records_of (range_held l.d (state_of l.size l.self l.heads l.bytes) l.lo (end_of l.ended l.hi) l.n)))
+    × (l.end + length (records_of (held_kids (range_held (l.d - 1) (state_of l.size l.self l.heads l.bytes) l.lo (end_of l.hi)) (state_of l.size l.self l.heads l.bytes) l.lo
+    (end_of l.hi) l.n (l.kids - l.i) l.i)) ≡ l.from + length (records_of (range_held l.d (state_of l.size l.self l.heads l.bytes) l.lo (end_of l.hi) l.n)))
+    × (splice l.out l.end (records_of (held_kids (range_held (l.d - 1) (state_of l.size l.self l.heads l.bytes) l.lo (end_of l.hi)) (state_of l.size l.self l.heads l.bytes) l.lo
+    (end_of l.hi) l.n (l.kids - l.i) l.i)) ≡ splice l.initial.out l.from (records_of (range_held l.d (state_of l.size l.self l.heads l.bytes) l.lo (end_of l.hi) l.n)))
 
 abbrev pub decreases-range_out-loop-i : goal.decreases-range_out-loop-i
 decreases-range_out-loop-i l = l.kids - l.i

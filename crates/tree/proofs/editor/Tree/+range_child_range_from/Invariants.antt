@@ -20,9 +20,9 @@ abbrev pub invariant-range_from-loop-i : goal.invariant-range_from-loop-i
 invariant-range_from-loop-i l = (length l.heads ≡ length l.initial.heads) × (length l.bytes ≡ length l.initial.bytes) × (l.count ≤ most) × (l.length ≤ most) × BoundsIn l.t.used l.b
     × Ready l.lent.size l.lent.slots l.t.used l.heads l.bytes × (l.initial.t.used ≤ l.t.used)
     × Follows l.lent.size l.lent.slots l.initial.t.used l.initial.heads l.initial.bytes l.heads l.bytes
-    × (ahead (record { count = l.count; length = l.length }) (counted (range_kids (range_from (l.d - 1) (lent_of l.image l.lent) l.lo (end_of l.ended l.hi))
-    (lent_of l.image l.lent) (state_of l.lent.size l.t l.heads l.bytes) (bounds_of (state_of l.lent.size l.t l.heads l.bytes) l.b) l.n l.lo (end_of l.ended l.hi) (l.kids - l.i) l.i))
-    ≡ counted (range_from l.d (lent_of l.image l.lent) l.lo (end_of l.ended l.hi) (state_of l.lent.size l.initial.t l.initial.heads l.initial.bytes)
+    × (ahead (record { count = l.count; length = l.length }) (counted (range_kids (range_from (l.d - 1) (lent_of l.image l.lent) l.lo (end_of l.hi))
+    (lent_of l.image l.lent) (state_of l.lent.size l.t l.heads l.bytes) (bounds_of (state_of l.lent.size l.t l.heads l.bytes) l.b) l.n l.lo (end_of l.hi) (l.kids - l.i) l.i))
+    ≡ counted (range_from l.d (lent_of l.image l.lent) l.lo (end_of l.hi) (state_of l.lent.size l.initial.t l.initial.heads l.initial.bytes)
     (bounds_of (state_of l.lent.size l.initial.t l.initial.heads l.initial.bytes) l.b) l.n))
 
 abbrev pub decreases-range_from-loop-i : goal.decreases-range_from-loop-i

@@ -7,11 +7,11 @@ ruleset laws = (rules, bound_none, bound_some)
 pub slice_bounds-result-end : goal.slice_bounds-result-end
 slice_bounds-result-end c = search laws
 
-pub returns-then-not-b : goal.returns-then-not-b
-returns-then-not-b c = search laws
-
 pub key_at-requires : goal.key_at-requires
 key_at-requires c = search laws
 
-pub returns : goal.returns
-returns c = search laws
+pub returns-in-None : goal.returns-in-None
+returns-in-None c = search laws
+
+pub returns-in-Some : goal.returns-in-Some
+returns-in-Some c = search laws

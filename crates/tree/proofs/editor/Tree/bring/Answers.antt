@@ -17,7 +17,7 @@ link-requires c =
 pub adopt_into-requires : goal.adopt_into-requires
 adopt_into-requires c =
     let p = c.requires in
-    record { sound = p.sound; nkeys_bound = p.nkeys_bound.0; block_len = (p.nkeys_bound.1, p.ready_2.most, omega (arith, p.ready_2.many, p.nkeys_bound.2), omega (arith, next_words _ _ _ _ _ p.ready_2 p.nkeys_bound.2, c.link.auto.heads), omega (arith, next_part _ _ _ _ _ p.ready_2 p.nkeys_bound.2, c.link.auto.bytes)) }
+    record { few = p.nkeys_bound.0; room = (p.nkeys_bound.1, p.ready_2.most, omega (arith, p.ready_2.many, p.nkeys_bound.2), omega (arith, next_words _ _ _ _ _ p.ready_2 p.nkeys_bound.2, c.link.auto.heads), omega (arith, next_part _ _ _ _ _ p.ready_2 p.nkeys_bound.2, c.link.auto.bytes)) }
 
 pub overflow_add-self : goal.overflow_add-self
 overflow_add-self c = search laws

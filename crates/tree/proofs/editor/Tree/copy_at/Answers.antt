@@ -6,9 +6,6 @@ use Rattle.tree.proofs.editor.Tree.copy_at.Goals as goal
 
 ruleset laws = (rules, spot_room, ready_part, ready_most, ready_few)
 
-pub slot_of-part-requires : goal.slot_of-part-requires
-slot_of-part-requires c = search laws
-
 pub next-end-requires : goal.next-end-requires
 next-end-requires c = search laws
 
@@ -36,3 +33,6 @@ returns c =
     let q = c.if-out-end.false in
     let o = c.copy_to.ensures in
     record { answer = spot_copied _ _ a.self _ _ a.spot p.entry_ready p.at_value _ l _ n _ q _ o; output = spot_copied_out _ _ a.self _ _ a.spot p.entry_ready p.at_value _ l _ n _ q _ o (bytes_known _ c.type_inv.bytes); ready = p.entry_ready.ready }
+
+pub invariant_of-next : goal.invariant_of-next
+invariant_of-next c = record { lies = search laws }

@@ -6,14 +6,8 @@ use Rattle.tree.proofs.editor.Tree.copy_record.Goals as goal
 
 ruleset laws = (rules, entry_index, entry_room, ready_part, ready_most, ready_few)
 
-pub live_at-h-requires : goal.live_at-h-requires
-live_at-h-requires c = search laws
-
-pub slot_of-requires : goal.slot_of-requires
-slot_of-requires c = search laws
-
-pub offset_of-at-requires : goal.offset_of-at-requires
-offset_of-at-requires c = search laws
-
 pub copy_at-requires : goal.copy_at-requires
 copy_at-requires c = record { entry_ready = search rules; at_value = search (rules, spot_at) }
+
+pub invariant_of-records : goal.invariant_of-records
+invariant_of-records c = record { within = search laws }

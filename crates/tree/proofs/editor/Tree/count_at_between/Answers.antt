@@ -8,14 +8,11 @@ ruleset laws = (rules, slot_short, count_none, count_at, ready_part, ready_most,
 pub returns-then-self-n : goal.returns-then-self-n
 returns-then-self-n c = search laws
 
-pub live_at-h-requires : goal.live_at-h-requires
-live_at-h-requires c = search laws
-
-pub slot_of-requires : goal.slot_of-requires
-slot_of-requires c = search laws
-
 pub count_between-requires : goal.count_between-requires
 count_between-requires c = search laws
 
 pub returns : goal.returns
 returns c = search laws
+
+pub invariant_of-records : goal.invariant_of-records
+invariant_of-records c = record { within = search laws }

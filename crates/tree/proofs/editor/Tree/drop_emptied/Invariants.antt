@@ -1,4 +1,4 @@
-use Prim.Native.Nat.{◌+◌, ◌-◌, ◌<◌}
+use Prim.Native.Nat.{◌+◌, ◌-◌, ◌≤◌}
 use mathlib.Core.Path.{◌≡◌}
 use lib.ListN.{length}
 use Rattle.tree.specs.Workspace.{state_of}
@@ -8,8 +8,5 @@ use Rattle.tree.specs.internal.Removing.{Emptied}
 use Rattle.tree.proofs.editor.Tree.drop_emptied.Given as goal
 
 abbrev pub invariant-loop-j : goal.invariant-loop-j
-invariant-loop-j l = (l.j < l.steps) × (l.dropped + l.j < l.steps) × (length l.heads ≡ length l.initial.heads) × (length l.bytes ≡ length l.initial.bytes)
-    × Emptied l.size l.slots l.self l.initial.heads l.initial.bytes l.heads l.bytes (drop_emptied (steps_from l.way l.kids l.j (l.steps - l.j)) (state_of l.size l.self l.initial.heads l.initial.bytes)) l.dropped
-
-abbrev pub decreases-loop-j : goal.decreases-loop-j
-decreases-loop-j l = l.j
+invariant-loop-j l = (1 ≤ l.j) × (l.dropped + l.j ≤ l.steps) × (length l.heads ≡ length l.initial.heads) × (length l.bytes ≡ length l.initial.bytes)
+    × Emptied l.size l.slots l.self l.initial.heads l.initial.bytes l.heads l.bytes (drop_emptied (steps_from l.way l.kids (l.j - 1) (l.steps - (l.j - 1))) (state_of l.size l.self l.initial.heads l.initial.bytes)) l.dropped

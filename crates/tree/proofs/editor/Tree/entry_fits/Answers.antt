@@ -1,20 +1,13 @@
 use Rattle.tree.specs.laws.upsert.PutInLeaf.{fits_key, fits_ghost, fits_value}
-use borrow.Author.Rules.{rules}
+use Rattle.std.proofs.Common.{ap}
+use mathlib.Core.Bool.{not}
 use Rattle.tree.proofs.editor.Tree.entry_fits.Goals as goal
 
-ruleset laws = (rules, fits_key, fits_ghost, fits_value)
-
-pub key_holds-requires : goal.key_holds-requires
-key_holds-requires c = search laws
-
 pub returns-then-not-key_holds : goal.returns-then-not-key_holds
-returns-then-not-key_holds c = search laws
+returns-then-not-key_holds c = λ size heads bytes. fits_key size c.args.self heads bytes c.args.key.now _ c.key_holds.ensures c.args.value (ap not c.if-not-key_holds.true)
 
-pub returns-then-is_ghost : goal.returns-then-is_ghost
-returns-then-is_ghost c = search laws
+pub returns-in-Some : goal.returns-in-Some
+returns-in-Some c = λ size heads bytes. fits_value size c.args.self heads bytes c.args.key.now _ c.key_holds.ensures c.args.value _ _ (ap not c.if-not-key_holds.false) c.in-Some.is c.value_holds.ensures
 
-pub value_holds-requires : goal.value_holds-requires
-value_holds-requires c = search laws
-
-pub returns : goal.returns
-returns c = search laws
+pub returns-in-None : goal.returns-in-None
+returns-in-None c = λ size heads bytes. fits_ghost size c.args.self heads bytes c.args.key.now _ c.key_holds.ensures c.args.value (ap not c.if-not-key_holds.false) c.in-None.is

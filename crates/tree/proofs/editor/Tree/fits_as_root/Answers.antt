@@ -5,11 +5,14 @@ use Rattle.tree.proofs.editor.Tree.fits_as_root.Goals as goal
 
 ruleset laws = (rules, ready_part, ready_most, ready_few, slot_room, slot_used, fits_small, fits_root)
 
-pub slot_of-part-requires : goal.slot_of-part-requires
-slot_of-part-requires c = search laws
-
 pub fits-requires : goal.fits-requires
 fits-requires c = search laws
 
 pub returns : goal.returns
 returns c = search laws
+
+pub invariant_of-records : goal.invariant_of-records
+invariant_of-records c = record { within = search laws }
+
+pub slot_of-requires : goal.slot_of-requires
+slot_of-requires c = search laws

@@ -8,11 +8,14 @@ ruleset laws = (rules, ready_part, ready_most, ready_few, whole_dead, whole_room
 pub returns-then-h-eq1 : goal.returns-then-h-eq1
 returns-then-h-eq1 c = search laws
 
-pub slot_of-part-requires : goal.slot_of-part-requires
-slot_of-part-requires c = search laws
-
 pub fits-requires : goal.fits-requires
 fits-requires c = search laws
 
 pub returns : goal.returns
 returns c = search laws
+
+pub invariant_of-records : goal.invariant_of-records
+invariant_of-records c = record { within = search laws }
+
+pub slot_of-requires : goal.slot_of-requires
+slot_of-requires c = search laws

@@ -8,12 +8,6 @@ ruleset laws = (rules, floor_at_out, floor_at_none, floor_at_some, floor_at_read
 pub returns-then-self-n : goal.returns-then-self-n
 returns-then-self-n c = search laws
 
-pub live_at-h-requires : goal.live_at-h-requires
-live_at-h-requires c = search laws
-
-pub slot_of-requires : goal.slot_of-requires
-slot_of-requires c = search laws
-
 pub not_above-last-requires : goal.not_above-last-requires
 not_above-last-requires c = search laws
 
@@ -21,8 +15,8 @@ pub returns-then-last-eq0 : goal.returns-then-last-eq0
 returns-then-last-eq0 c =
     record { answer = floor_at_none _ c.args.self _ _ _ _ c.if-self-n.false _ c.live_at-h.ensures _ c.slot_of.ensures _ c.not_above-last.ensures c.if-last-eq0.true; ready = search rules }
 
-pub overflow_sub-result : goal.overflow_sub-result
-overflow_sub-result c = search laws
-
 pub returns : goal.returns
 returns c = search laws
+
+pub invariant_of-records : goal.invariant_of-records
+invariant_of-records c = record { within = search laws }

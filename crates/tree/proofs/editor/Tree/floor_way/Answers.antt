@@ -1,25 +1,28 @@
-use mathlib.Core.Bool.{false}
-use mathlib.Core.Path.{refl}
+use Rattle.tree.specs.laws.base.Refused.{handed_on}
 use Rattle.tree.specs.laws.lookup.FloorCall.{way_refused, way_refused_same, way_none, way_none_same, way_found, way_found_out}
-use Rattle.tree.specs.laws.lookup.FloorDown.{ready_none, ready_entry}
-use Rattle.tree.specs.laws.load.Way.{none_in_lem}
-use borrow.Author.Rules.{rules}
 use Rattle.tree.proofs.editor.Tree.floor_way.Goals as goal
 
-pub floor_from-found-requires : goal.floor_from-found-requires
-floor_from-found-requires c = record { ready_2 = c.requires; bounds_in = none_in_lem _ _ refl refl }
+pub returns-in_err-t-clause-answer : goal.returns-in_err-t-clause-answer
+returns-in_err-t-clause-answer c =
+    rw (handed_on c.from_residual.result _ c.from_residual.ensures.1)
+    (way_refused _ _ c.args.self _ _ _ c.level_at-level.ensures _ _ _ _ c.floor_from.ensures.answer c.args.out.now _ c.in_err-t.was)
 
-pub copy_record-requires : goal.copy_record-requires
-copy_record-requires c = ready_entry _ _ _ _ _ _ _ _ c.in-At.is c.floor_from-found.ensures.ready
+pub returns-in_err-t-clause-output : goal.returns-in_err-t-clause-output
+returns-in_err-t-clause-output c =
+    way_refused_same _ _ c.args.self _ _ _ c.level_at-level.ensures _ _ _ _ c.floor_from.ensures.answer c.args.out.now _ c.in_err-t.was
 
-pub returns-in-Refused : goal.returns-in-Refused
-returns-in-Refused c =
-    record { answer = way_refused _ _ c.args.self _ _ _ c.level_at-level.ensures (record { lower = record { some = false; slot = 0; index = 0 }; upper = record { some = false; slot = 0; index = 0 } }) refl refl _ _ _ _ c.floor_from-found.ensures.answer c.args.out.now _ c.in-Refused.is; output = way_refused_same _ _ c.args.self _ _ _ c.level_at-level.ensures (record { lower = record { some = false; slot = 0; index = 0 }; upper = record { some = false; slot = 0; index = 0 } }) refl refl _ _ _ _ c.floor_from-found.ensures.answer c.args.out.now _ c.in-Refused.is; ready = search rules; follows = c.floor_from-found.ensures.follows }
+pub returns-in-None-clause-answer : goal.returns-in-None-clause-answer
+returns-in-None-clause-answer c =
+    way_none _ _ c.args.self _ _ _ c.level_at-level.ensures _ _ _ _ c.floor_from.ensures.answer c.args.out.now _ _ c.in_ok-t.was c.in-None.is
 
-pub returns-in-None : goal.returns-in-None
-returns-in-None c =
-    record { answer = way_none _ _ c.args.self _ _ _ c.level_at-level.ensures (record { lower = record { some = false; slot = 0; index = 0 }; upper = record { some = false; slot = 0; index = 0 } }) refl refl _ _ _ _ c.floor_from-found.ensures.answer c.args.out.now _ c.in-None.is; output = way_none_same _ _ c.args.self _ _ _ c.level_at-level.ensures (record { lower = record { some = false; slot = 0; index = 0 }; upper = record { some = false; slot = 0; index = 0 } }) refl refl _ _ _ _ c.floor_from-found.ensures.answer c.args.out.now _ c.in-None.is; ready = ready_none _ _ _ _ _ _ c.in-None.is c.floor_from-found.ensures.ready; follows = c.floor_from-found.ensures.follows }
+pub returns-in-None-clause-output : goal.returns-in-None-clause-output
+returns-in-None-clause-output c =
+    way_none_same _ _ c.args.self _ _ _ c.level_at-level.ensures _ _ _ _ c.floor_from.ensures.answer c.args.out.now _ _ c.in_ok-t.was c.in-None.is
 
-pub returns-in-At : goal.returns-in-At
-returns-in-At c =
-    record { answer = way_found _ _ c.args.self _ _ _ c.level_at-level.ensures (record { lower = record { some = false; slot = 0; index = 0 }; upper = record { some = false; slot = 0; index = 0 } }) refl refl _ _ _ _ c.floor_from-found.ensures.answer c.args.out.now _ _ _ c.in-At.is _ c.copy_record.ensures.answer; output = way_found_out _ _ c.args.self _ _ _ c.level_at-level.ensures (record { lower = record { some = false; slot = 0; index = 0 }; upper = record { some = false; slot = 0; index = 0 } }) refl refl _ _ _ _ c.floor_from-found.ensures.answer c.args.out.now _ _ _ c.in-At.is _ c.copy_record.ensures.output; ready = c.copy_record.ensures.ready; follows = c.floor_from-found.ensures.follows }
+pub returns-in-Some-clause-answer : goal.returns-in-Some-clause-answer
+returns-in-Some-clause-answer c =
+    way_found _ _ c.args.self _ _ _ c.level_at-level.ensures _ _ _ _ c.floor_from.ensures.answer c.args.out.now _ _ c.in_ok-t.was _ c.in-Some.is _ c.copy_record.ensures.answer
+
+pub returns-in-Some-clause-output : goal.returns-in-Some-clause-output
+returns-in-Some-clause-output c =
+    way_found_out _ _ c.args.self _ _ _ c.level_at-level.ensures _ _ _ _ c.floor_from.ensures.answer c.args.out.now _ _ c.in_ok-t.was _ c.in-Some.is _ c.copy_record.ensures.output

@@ -1,75 +1,54 @@
-use Rattle.tree.specs.laws.lookup.GetCall.{in_argument, in_argument_same, in_answer, in_output, in_trusted, got_refused, got_same, none_trusts, ghost_trusts, value_trusts}
+use mathlib.Core.Path.{◌∙◌}
+use Rattle.tree.specs.laws.lookup.GetCall.{in_argument, in_argument_same, in_answer, in_output, in_trusted, got_refused, got_undone, got_kept}
 use Rattle.tree.specs.laws.slots.CallBounds.{call_ready, call_state, call_shadowed, back_ready, back_state}
 use borrow.Author.Rules.{rules}
-use mathlib.Core.Path.{refl, ◌∙◌}
 use Rattle.std.proofs.Common.{ap}
 use mathlib.Core.Bool.{not}
 use Rattle.tree.proofs.editor.Tree.get_down.Goals as goal
 
-pub returns-then-not-keyed : goal.returns-then-not-keyed
-returns-then-not-keyed c =
-    record { answer = search (rules, in_argument); output = search (rules, in_argument_same); left = (refl, c.requires.trusts.ready) }
+pub returns-then-not-keyed-clause-answer : goal.returns-then-not-keyed-clause-answer
+returns-then-not-keyed-clause-answer c = search (rules, in_argument)
+
+pub returns-then-not-keyed-clause-output : goal.returns-then-not-keyed-clause-output
+returns-then-not-keyed-clause-output c = search (rules, in_argument_same)
 
 pub get_way-got-requires : goal.get_way-got-requires
 get_way-got-requires c =
     let a = c.args in
-    let p = c.requires in
+    let p = c.requires.trusts in
     let m = c.clear_marks.ensures in
-    record { ready_2 = call_ready _ _ a.self _ _ _ p.trusts.ready m; bytes_value = in_trusted _ _ a.self _ _ _ (call_state _ a.lent.slots a.self _ _ _ p.trusts.ready m) p.trusts.trust }
+    record {
+      ready_2 = call_ready _ _ a.self _ _ _ p.ready m;
+      bytes_value = in_trusted _ _ a.self _ _ _ (call_state _ a.lent.slots a.self _ _ _ p.ready m) p.trust;
+    }
 
 pub restore-requires : goal.restore-requires
 restore-requires c =
-    let a = c.args in
     let w = c.get_way-got in
-    call_shadowed _ _ a.self _ _ _ c.requires.trusts.ready c.clear_marks.ensures _ _ w.ensures.follows w.auto.heads w.auto.bytes
+    call_shadowed _ _ c.args.self _ _ _ c.requires.trusts.ready c.clear_marks.ensures _ _ w.ensures.follows w.auto.heads w.auto.bytes
 
-pub returns-in-Refused : goal.returns-in-Refused
-returns-in-Refused c =
+pub returns-then-is_err : goal.returns-then-is_err
+returns-then-is_err c =
     let a = c.args in
-    let p = c.requires in
+    let r = c.requires.trusts.ready in
     let m = c.clear_marks.ensures in
-    let k = c.keyed.ensures in
-    let n = ap not c.if-not-keyed.false in
     let w = c.get_way-got in
-    let s = call_state _ a.lent.slots a.self _ _ _ p.trusts.ready m in
     let b = c.restore in
-    record { answer = got_refused _ _ _ _ _ _ _ _ c.in-Refused.is ∙ in_answer _ _ a.self _ _ _ _ k n _ _ s _ w.ensures.answer; output = in_output _ _ a.self _ _ _ _ k n _ _ s _ _ w.ensures.output; left = (back_state _ a.lent.slots a.self _ _ _ p.trusts.ready m _ _ w.ensures.follows _ _ b.ensures, back_ready _ _ a.self _ _ _ p.trusts.ready m _ _ w.ensures.follows _ _ b.ensures w.auto.heads w.auto.bytes b.auto.heads b.auto.bytes) }
+    record {
+      answer = got_refused _ _ _ _ _ _ _ c.if-is_err.ensures.value
+          ∙ in_answer _ _ c.args.self _ _ _ _ c.keyed.ensures (ap not c.if-not-keyed.false) _ _ (call_state _ c.args.lent.slots c.args.self _ _ _ c.requires.trusts.ready c.clear_marks.ensures) _ c.get_way-got.ensures.answer;
+      output = in_output _ _ c.args.self _ _ _ _ c.keyed.ensures (ap not c.if-not-keyed.false) _ _ (call_state _ c.args.lent.slots c.args.self _ _ _ c.requires.trusts.ready c.clear_marks.ensures) _ _ c.get_way-got.ensures.output;
+      left = got_undone a.image.now a.lent a.self _ _ c.requires.trusts _ _ _ c.if-is_err.ensures.value
+          (back_state _ a.lent.slots a.self _ _ _ r m _ _ w.ensures.follows _ _ b.ensures)
+          (back_ready _ _ a.self _ _ _ r m _ _ w.ensures.follows _ _ b.ensures w.auto.heads w.auto.bytes b.auto.heads b.auto.bytes);
+    }
 
-pub returns-in-None : goal.returns-in-None
-returns-in-None c =
+pub returns-else-is_err : goal.returns-else-is_err
+returns-else-is_err c =
     let a = c.args in
-    let p = c.requires in
-    let m = c.clear_marks.ensures in
-    let k = c.keyed.ensures in
-    let n = ap not c.if-not-keyed.false in
-    let w = c.get_way-got in
-    let s = call_state _ a.lent.slots a.self _ _ _ p.trusts.ready m in
-    let q = c.in-None.is in
-    let e = in_answer _ _ a.self _ _ _ _ k n _ _ s _ w.ensures.answer in
-    record { answer = got_same _ _ _ _ _ _ q ∙ e; output = in_output _ _ a.self _ _ _ _ k n _ _ s _ _ w.ensures.output; left = none_trusts a.image.now a.lent a.self _ _ p.trusts _ _ _ _ _ _ e w.ensures.ready _ q }
-
-pub returns-in-Ghost : goal.returns-in-Ghost
-returns-in-Ghost c =
-    let a = c.args in
-    let p = c.requires in
-    let m = c.clear_marks.ensures in
-    let k = c.keyed.ensures in
-    let n = ap not c.if-not-keyed.false in
-    let w = c.get_way-got in
-    let s = call_state _ a.lent.slots a.self _ _ _ p.trusts.ready m in
-    let q = c.in-Ghost.is in
-    let e = in_answer _ _ a.self _ _ _ _ k n _ _ s _ w.ensures.answer in
-    record { answer = got_same _ _ _ _ _ _ q ∙ e; output = in_output _ _ a.self _ _ _ _ k n _ _ s _ _ w.ensures.output; left = ghost_trusts a.image.now a.lent a.self _ _ p.trusts _ _ _ _ _ _ e w.ensures.ready _ q }
-
-pub returns-in-Value : goal.returns-in-Value
-returns-in-Value c =
-    let a = c.args in
-    let p = c.requires in
-    let m = c.clear_marks.ensures in
-    let k = c.keyed.ensures in
-    let n = ap not c.if-not-keyed.false in
-    let w = c.get_way-got in
-    let s = call_state _ a.lent.slots a.self _ _ _ p.trusts.ready m in
-    let q = c.in-Value.is in
-    let e = in_answer _ _ a.self _ _ _ _ k n _ _ s _ w.ensures.answer in
-    record { answer = got_same _ _ _ _ _ _ q ∙ e; output = in_output _ _ a.self _ _ _ _ k n _ _ s _ _ w.ensures.output; left = value_trusts a.image.now a.lent a.self _ _ p.trusts _ _ _ _ _ _ e w.ensures.ready _ _ q }
+    let e = in_answer _ _ c.args.self _ _ _ _ c.keyed.ensures (ap not c.if-not-keyed.false) _ _ (call_state _ c.args.lent.slots c.args.self _ _ _ c.requires.trusts.ready c.clear_marks.ensures) _ c.get_way-got.ensures.answer in
+    record {
+      answer = e;
+      output = in_output _ _ c.args.self _ _ _ _ c.keyed.ensures (ap not c.if-not-keyed.false) _ _ (call_state _ c.args.lent.slots c.args.self _ _ _ c.requires.trusts.ready c.clear_marks.ensures) _ _ c.get_way-got.ensures.output;
+      left = got_kept a.image.now a.lent a.self _ _ c.requires.trusts _ _ _ _ _ _ c.if-is_err.ensures.value e c.get_way-got.ensures.ready;
+    }

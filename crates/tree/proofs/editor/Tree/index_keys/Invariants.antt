@@ -1,11 +1,8 @@
 use lib.ListN.{length}
 use Rattle.tree.specs.internal.Index.{Indexed}
-use Prim.Native.Nat.{◌<◌}
+use Prim.Native.Nat.{◌-◌, ◌≤◌}
 use mathlib.Core.Path.{◌≡◌}
 use Rattle.tree.proofs.editor.Tree.index_keys.Given as goal
 
 abbrev pub invariant-loop-j : goal.invariant-loop-j
-invariant-loop-j l = (l.j < l.steps) × (length l.heads ≡ length l.initial.heads) × (length l.bytes ≡ length l.initial.bytes) × (length l.scratch ≡ length l.initial.scratch) × Indexed l.size l.slots l.self l.way l.kids l.steps l.j l.initial.heads l.initial.bytes l.heads l.bytes
-
-abbrev pub decreases-loop-j : goal.decreases-loop-j
-decreases-loop-j l = l.j
+invariant-loop-j l = (1 ≤ l.j) × (length l.heads ≡ length l.initial.heads) × (length l.bytes ≡ length l.initial.bytes) × (length l.scratch ≡ length l.initial.scratch) × Indexed l.size l.slots l.self l.way l.kids l.steps (l.j - 1) l.initial.heads l.initial.bytes l.heads l.bytes

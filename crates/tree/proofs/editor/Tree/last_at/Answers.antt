@@ -4,14 +4,8 @@ use Rattle.tree.proofs.editor.Tree.last_at.Goals as goal
 
 ruleset laws = (rules, last_at_none, last_at_some, last_at_ready)
 
-pub count_at-count-requires : goal.count_at-count-requires
-count_at-count-requires c = search laws
-
 pub returns-then-count-eq0 : goal.returns-then-count-eq0
 returns-then-count-eq0 c = search laws
-
-pub overflow_sub-result : goal.overflow_sub-result
-overflow_sub-result c = search laws
 
 pub returns : goal.returns
 returns c = search laws

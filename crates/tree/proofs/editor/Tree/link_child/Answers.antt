@@ -19,9 +19,9 @@ insert_at-requires c =
     let p = c.requires in
     let a = c.args in
     let k = c.first_key-len.ensures.key in
-    let v = c.put_u64.ensures in
+    let v = c.put_field.ensures in
     record { ready = p.ready; place = (child_slot _ _ _ _ _ _ a.self _ _ p.ready p.room, child_index _ _ _ _ _ _ a.self _ _ p.ready p.room, c.offset_at-at.ensures, child_alive _ _ _ _ _ _ a.self _ _ p.ready p.room); room = child_room _ _ _ _ _ _ a.self _ _ p.ready p.room _ _ _ k refl v; stored = (child_short _ _ _ _ _ _ a.self _ _ p.ready p.room _ _ _ k refl v, omega arith, child_mark _ _ _ _ _ _ a.self _ _ p.ready p.room _ _ _ k refl v) }
 
 pub returns : goal.returns
 returns c =
-    let p = c.requires in let a = c.args in let k = c.first_key-len.ensures.key in let v = c.put_u64.ensures in let w = c.insert_at in child_linked _ _ _ _ _ _ a.self _ _ p.ready p.room _ _ _ k refl v _ _ w.auto.heads w.auto.bytes w.ensures.put w.ensures.follows
+    let p = c.requires in let a = c.args in let k = c.first_key-len.ensures.key in let v = c.put_field.ensures in let w = c.insert_at in child_linked _ _ _ _ _ _ a.self _ _ p.ready p.room _ _ _ k refl v _ _ w.auto.heads w.auto.bytes w.ensures.put w.ensures.follows

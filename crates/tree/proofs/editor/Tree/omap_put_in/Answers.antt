@@ -1,26 +1,17 @@
-use mathlib.Core.Path.{refl, ◌∙◌}
-use Rattle.tree.specs.laws.refusal1.EditCalls.{marks_state, marks_trusts, marks_shadowed, undone}
-use Rattle.tree.specs.laws.omap.Calls.{put_argument, is_omap_lem, put_in_answer, put_trusts, edited_refused, edited_same}
+use Rattle.tree.specs.laws.refusal1.EditCalls.{marks_state, marks_trusts, marks_shadowed, undone, edited_refused, edited_called}
+use Rattle.tree.specs.laws.omap.Calls.{put_argument, is_omap_lem, put_in_answer, put_trusts}
 use Rattle.tree.specs.laws.omap.Keys.{pair_is, pair_long, value_is, value_long}
-use borrow.Author.Rules.{rules}
-use Rattle.std.proofs.Common.{ap}
+use Rattle.std.proofs.Common.{ap, ◌∙◌}
 use mathlib.Core.Bool.{not}
 use Rattle.tree.proofs.editor.Tree.omap_put_in.Goals as goal
 
-pub returns-then-not-is_omap : goal.returns-then-not-is_omap
-returns-then-not-is_omap c =
-    let a = c.args in
-    record { answer = put_argument a.image.now a.lent a.self _ _ _ c.is_omap.ensures _ _ _ _ (ap not c.if-not-is_omap.true); left = (refl, c.requires.trusts.ready) }
+pub returns-then-not-is_omap-clause-answer : goal.returns-then-not-is_omap-clause-answer
+returns-then-not-is_omap-clause-answer c =
+    let a = c.args in put_argument a.image.now a.lent a.self _ _ _ c.is_omap.ensures _ _ _ _ (ap not c.if-not-is_omap.true)
 
-pub clear_marks-requires : goal.clear_marks-requires
-clear_marks-requires c = let y = c.requires.trusts.ready in (y.within, y.many, y.words)
-
-pub put-done-requires : goal.put-done-requires
-put-done-requires c =
-    let a = c.args in
-    let t = c.requires.trusts in
-    let m = c.clear_marks.ensures in
-    record { trusts = marks_trusts a.image.now a.lent a.self _ _ _ t m; omap = is_omap_lem a.self _ c.is_omap.ensures (ap not c.if-not-is_omap.false) _ _ _; room = c.requires.room; entry = (pair_long _ _ _ c.pair_key.ensures, value_long _ _ _ _ c.put_u32.ensures c.put_u64.ensures) }
+pub put-done-requires-clause-trusts : goal.put-done-requires-clause-trusts
+put-done-requires-clause-trusts c =
+    let a = c.args in marks_trusts a.image.now a.lent a.self _ _ _ c.requires.trusts c.clear_marks.ensures
 
 pub restore-requires : goal.restore-requires
 restore-requires c =
@@ -28,28 +19,30 @@ restore-requires c =
     let d = c.put-done in
     marks_shadowed a.image.now a.lent a.self _ _ _ c.requires.trusts c.clear_marks.ensures _ _ d.ensures.follows d.auto.heads d.auto.bytes
 
-pub shape_of-heads-in-Refused : goal.shape_of-heads-in-Refused
-shape_of-heads-in-Refused c = search (rules, c.put-done.auto, c.restore.auto, c.clear_marks.auto)
-
-pub returns-in-Refused : goal.returns-in-Refused
-returns-in-Refused c =
+pub returns-then-is_err-clause-answer : goal.returns-then-is_err-clause-answer
+returns-then-is_err-clause-answer c =
     let a = c.args in
-    let t = c.requires.trusts in
-    let m = c.clear_marks.ensures in
+    let s = marks_state a.image.now a.lent a.self _ _ _ c.requires.trusts c.clear_marks.ensures in
+    edited_refused _ _ _ _ _ _ c.if-is_err.ensures.value
+    ∙ put_in_answer a.image.now a.lent a.self _ _ _ c.is_omap.ensures (ap not c.if-not-is_omap.false) _ s _ _ _ _ _ _ _ (pair_is _ _ _ c.pair_key.ensures) (value_is _ _ _ _ c.put_field.ensures c.put_field-2.ensures) c.put-done.ensures.answer
+
+pub returns-then-is_err-clause-left : goal.returns-then-is_err-clause-left
+returns-then-is_err-clause-left c =
+    let a = c.args in
     let d = c.put-done in
     let k = c.restore in
-    let s = marks_state a.image.now a.lent a.self _ _ _ t m in
-    record { answer = edited_refused _ _ _ _ _ _ _ c.in-Refused.is ∙ put_in_answer a.image.now a.lent a.self _ _ _ c.is_omap.ensures (ap not c.if-not-is_omap.false) _ s _ _ _ _ _ _ _ (pair_is _ _ _ c.pair_key.ensures) (value_is _ _ _ _ c.put_u32.ensures c.put_u64.ensures) d.ensures.answer; left = undone a.image.now a.lent a.self _ _ _ t m _ _ d.ensures.follows _ _ k.ensures d.auto.heads d.auto.bytes k.auto.heads k.auto.bytes 0 }
+    undone a.image.now a.lent a.self _ _ _ c.requires.trusts c.clear_marks.ensures _ _ d.ensures.follows _ _ k.ensures d.auto.heads d.auto.bytes k.auto.heads k.auto.bytes _ c.if-is_err.ensures.value
 
-pub shape_of-heads-in-Done : goal.shape_of-heads-in-Done
-shape_of-heads-in-Done c = search (rules, c.put-done.auto, c.clear_marks.auto)
-
-pub returns-in-Done : goal.returns-in-Done
-returns-in-Done c =
+pub returns-else-is_err-clause-answer : goal.returns-else-is_err-clause-answer
+returns-else-is_err-clause-answer c =
     let a = c.args in
-    let t = c.requires.trusts in
-    let m = c.clear_marks.ensures in
-    let d = c.put-done in
-    let s = marks_state a.image.now a.lent a.self _ _ _ t m in
+    let s = marks_state a.image.now a.lent a.self _ _ _ c.requires.trusts c.clear_marks.ensures in
+    put_in_answer a.image.now a.lent a.self _ _ _ c.is_omap.ensures (ap not c.if-not-is_omap.false) _ s _ _ _ _ _ _ _ (pair_is _ _ _ c.pair_key.ensures) (value_is _ _ _ _ c.put_field.ensures c.put_field-2.ensures) c.put-done.ensures.answer
+
+pub returns-else-is_err-clause-left : goal.returns-else-is_err-clause-left
+returns-else-is_err-clause-left c =
+    let a = c.args in
+    let d = c.put-done.ensures in
     let f = is_omap_lem a.self _ c.is_omap.ensures (ap not c.if-not-is_omap.false) in
-    record { answer = edited_same _ _ _ _ _ c.in-Done.is ∙ put_in_answer a.image.now a.lent a.self _ _ _ c.is_omap.ensures (ap not c.if-not-is_omap.false) _ s _ _ _ _ _ _ _ (pair_is _ _ _ c.pair_key.ensures) (value_is _ _ _ _ c.put_u32.ensures c.put_u64.ensures) d.ensures.answer; left = put_trusts a.image.now a.lent a.self _ _ (marks_trusts a.image.now a.lent a.self _ _ _ t m) _ _ _ _ _ c.in-Done.is d.ensures.ready _ _ (f _ _ _) (pair_long _ _ _ c.pair_key.ensures) (value_long _ _ _ _ c.put_u32.ensures c.put_u64.ensures) d.ensures.answer }
+    edited_called _ _ _ _ _ _ _ _ c.if-is_err.ensures.value
+    (λ u z. put_trusts a.image.now a.lent a.self _ _ (marks_trusts a.image.now a.lent a.self _ _ _ c.requires.trusts c.clear_marks.ensures) _ _ u _ _ z d.ready _ _ (f _ _ _) (pair_long _ _ _ c.pair_key.ensures) (value_long _ _ _ _ c.put_field.ensures c.put_field-2.ensures) d.answer)

@@ -12,10 +12,13 @@ pub slot_of-part-requires : goal.slot_of-part-requires
 slot_of-part-requires c = search laws
 
 pub pack-requires : goal.pack-requires
-pack-requires c = record { tree = search laws; block = search laws; records = (search laws, search laws); fit = search laws }
+pack-requires c = record { tree = search laws; block = search laws; small = search laws; fit = search laws }
 
 pub shape_of-dst : goal.shape_of-dst
 shape_of-dst c = search laws
 
 pub returns : goal.returns
 returns c = search laws
+
+pub invariant_of-records : goal.invariant_of-records
+invariant_of-records c = record { within = search laws }

@@ -1,10 +1,10 @@
 use mathlib.Core.Path.{refl}
 use native.Mathlib.Omega.{arith}
-use Rattle.tree.specs.laws.cut.Part.{part_index, at_below, used_small, part_source, part_target, part_order, part_state, part_ready, part_follows}
+use Rattle.tree.specs.laws.cut.Part.{part_index, at_below, used_small, part_source, part_target, part_state, part_ready, part_follows}
 use borrow.Author.Rules.{rules}
 use Rattle.tree.proofs.editor.Tree.part_in.Goals as goal
 
-ruleset laws = (rules, part_index, at_below, used_small, part_source, part_target, part_order, part_state, part_ready)
+ruleset laws = (rules, part_index, at_below, used_small, part_source, part_target, part_state, part_ready)
 
 pub live_at-h-requires : goal.live_at-h-requires
 live_at-h-requires c = search laws
@@ -24,13 +24,16 @@ pub overflow_add-n : goal.overflow_add-n
 overflow_add-n c =
     omega (arith, part_source _ _ _ _ _ c.args.self _ _ _ c.requires.ready_2 c.requires.used_lt_slots.0 c.requires.used_lt_slots.1 c.live_at-h.ensures c.requires.used_lt_slots.2 c.requires.used_lt_slots.3, part_target _ _ _ _ _ c.args.self _ _ _ c.requires.ready_2 c.requires.used_lt_slots.0 c.requires.used_lt_slots.1 c.live_at-h.ensures c.requires.used_lt_slots.2 c.requires.used_lt_slots.3)
 
+pub shift-requires : goal.shift-requires
+shift-requires c =
+    let p = c.requires in
+    let a = part_source _ _ _ _ _ c.args.self _ _ _ p.ready_2 p.used_lt_slots.0 p.used_lt_slots.1 c.live_at-h.ensures p.used_lt_slots.2 p.used_lt_slots.3 in
+    let b = part_target _ _ _ _ _ c.args.self _ _ _ p.ready_2 p.used_lt_slots.0 p.used_lt_slots.1 c.live_at-h.ensures p.used_lt_slots.2 p.used_lt_slots.3 in
+    omega arith
+
 pub overflow_mul-c : goal.overflow_mul-c
 overflow_mul-c c =
     omega (arith, part_source _ _ _ _ _ c.args.self _ _ _ c.requires.ready_2 c.requires.used_lt_slots.0 c.requires.used_lt_slots.1 c.live_at-h.ensures c.requires.used_lt_slots.2 c.requires.used_lt_slots.3, part_target _ _ _ _ _ c.args.self _ _ _ c.requires.ready_2 c.requires.used_lt_slots.0 c.requires.used_lt_slots.1 c.live_at-h.ensures c.requires.used_lt_slots.2 c.requires.used_lt_slots.3)
-
-pub move_up-requires : goal.move_up-requires
-move_up-requires c =
-    (part_order _ _ _ _ _ c.args.self _ _ _ c.requires.ready_2 c.requires.used_lt_slots.0 c.requires.used_lt_slots.1 c.live_at-h.ensures c.requires.used_lt_slots.2 c.requires.used_lt_slots.3, part_target _ _ _ _ _ c.args.self _ _ _ c.requires.ready_2 c.requires.used_lt_slots.0 c.requires.used_lt_slots.1 c.live_at-h.ensures c.requires.used_lt_slots.2 c.requires.used_lt_slots.3)
 
 pub overflow_sub-right : goal.overflow_sub-right
 overflow_sub-right c =
@@ -53,4 +56,4 @@ shape_of-bytes c = search laws
 
 pub returns : goal.returns
 returns c =
-    record { after = part_state _ _ _ _ _ _ c.args.self _ _ _ _ _ _ _ c.requires.ready_2 c.requires.used_lt_slots.0 c.requires.used_lt_slots.1 c.live_at-h.ensures c.requires.used_lt_slots.2 c.requires.used_lt_slots.3 refl c.move_up.ensures c.store.ensures c.store-2.ensures refl; ready = part_ready _ _ _ _ _ _ c.args.self _ _ _ _ _ _ _ c.requires.ready_2 c.requires.used_lt_slots.0 c.requires.used_lt_slots.1 c.live_at-h.ensures c.requires.used_lt_slots.2 c.requires.used_lt_slots.3 refl c.move_up.ensures c.store.ensures c.store-2.ensures refl (search rules) (search rules); follows = part_follows _ _ _ _ _ _ c.args.self _ _ _ _ _ _ _ c.requires.ready_2 c.requires.used_lt_slots.0 c.requires.used_lt_slots.1 c.live_at-h.ensures c.requires.used_lt_slots.2 c.requires.used_lt_slots.3 refl c.move_up.ensures c.store.ensures c.store-2.ensures refl c.requires.fact }
+    record { after = part_state _ _ _ _ _ _ c.args.self _ _ _ _ _ _ _ c.requires.ready_2 c.requires.used_lt_slots.0 c.requires.used_lt_slots.1 c.live_at-h.ensures c.requires.used_lt_slots.2 c.requires.used_lt_slots.3 refl c.shift.ensures c.store.ensures c.store-2.ensures refl; ready = part_ready _ _ _ _ _ _ c.args.self _ _ _ _ _ _ _ c.requires.ready_2 c.requires.used_lt_slots.0 c.requires.used_lt_slots.1 c.live_at-h.ensures c.requires.used_lt_slots.2 c.requires.used_lt_slots.3 refl c.shift.ensures c.store.ensures c.store-2.ensures refl (search rules) (search rules); follows = part_follows _ _ _ _ _ _ c.args.self _ _ _ _ _ _ _ c.requires.ready_2 c.requires.used_lt_slots.0 c.requires.used_lt_slots.1 c.live_at-h.ensures c.requires.used_lt_slots.2 c.requires.used_lt_slots.3 refl c.shift.ensures c.store.ensures c.store-2.ensures refl c.requires.fact }

@@ -1,74 +1,52 @@
 use Rattle.node.specs.laws.base.Bytes.{bytes_known}
-use Rattle.tree.specs.laws.lookup.RangeCall.{way_refused, way_refused_same, way_short, way_short_same, way_room, way_output, way_done, way_long}
-use Rattle.tree.specs.laws.load.Way.{none_in_lem}
-use Rattle.tree.specs.laws.lookup.RangeCountCode.{ranged_ready}
 use borrow.Author.Rules.{rules}
-use mathlib.Core.Path.{refl}
+use Rattle.tree.specs.laws.base.Refused.{handed_on}
+use Rattle.tree.specs.laws.lookup.RangeCall.{way_refused, way_refused_same, way_short, way_short_same, way_room, way_output, way_done, way_long}
 use Rattle.tree.proofs.editor.Tree.range_way.Goals as goal
 
-ruleset laws = (rules, none_in_lem)
+pub returns-in_err-found-clause-answer : goal.returns-in_err-found-clause-answer
+returns-in_err-found-clause-answer c =
+    let a = c.args in
+    rw (handed_on c.from_residual.result _ c.from_residual.ensures.1)
+    (way_refused a.image.now a.lent a.self _ _ _ c.level_at-level.ensures _ _ _ _ _ c.range_from.ensures.answer _ c.in_err-found.was a.out.now)
 
-pub level_at-level-requires : goal.level_at-level-requires
-level_at-level-requires c = search laws
+pub returns-in_err-found-clause-output : goal.returns-in_err-found-clause-output
+returns-in_err-found-clause-output c =
+    let a = c.args in
+    way_refused_same a.image.now a.lent a.self _ _ _ c.level_at-level.ensures _ _ _ _ _ c.range_from.ensures.answer _ c.in_err-found.was a.out.now
 
-pub range_from-found-requires : goal.range_from-found-requires
-range_from-found-requires c = search laws
-
-pub enum_known-found : goal.enum_known-found
-enum_known-found c = search laws
-
-pub enum_known-found-in-Done-1 : goal.enum_known-found-in-Done-1
-enum_known-found-in-Done-1 c = search laws
-
-pub shape_of-heads-then-room-length : goal.shape_of-heads-then-room-length
-shape_of-heads-then-room-length c = search laws
-
-pub shape_of-bytes-then-room-length : goal.shape_of-bytes-then-room-length
-shape_of-bytes-then-room-length c = search laws
-
-pub returns-then-room-length : goal.returns-then-room-length
-returns-then-room-length c =
+pub returns-then-out-found-clause-answer : goal.returns-then-out-found-clause-answer
+returns-then-out-found-clause-answer c =
     let a = c.args in
     let p = c.requires in
-    let q = c.in-Done.is in
-    let n = c.if-room-length.true in
-    record { answer = way_short a.image.now a.lent a.self _ _ _ c.level_at-level.ensures _ _ _ _ _ _ c.range_from-found.ensures.answer refl refl _ _ _ q p.bytes_value p.roomy a.out.now n; output = way_short_same a.image.now a.lent a.self _ _ _ c.level_at-level.ensures _ _ _ _ _ _ c.range_from-found.ensures.answer refl refl _ _ _ q p.bytes_value p.roomy a.out.now n; long = tt; ready = tt; follows = c.range_from-found.ensures.follows }
+    way_short a.image.now a.lent a.self _ _ _ c.level_at-level.ensures _ _ _ _ _ c.range_from.ensures.answer _ c.in_ok-found.was p.bytes_value p.roomy a.out.now c.if-out-found.true
 
-pub range_out-requires : goal.range_out-requires
-range_out-requires c =
+pub returns-then-out-found-clause-output : goal.returns-then-out-found-clause-output
+returns-then-out-found-clause-output c =
     let a = c.args in
     let p = c.requires in
-    let q = c.in-Done.is in
-    record { ready = ranged_ready _ _ _ _ _ _ _ _ q c.range_from-found.ensures.ready; n_in_bounds = way_room a.image.now a.lent a.self _ _ _ c.level_at-level.ensures _ _ _ _ _ _ c.range_from-found.ensures.answer refl refl _ _ _ q p.bytes_value p.roomy a.out.now c.if-room-length.false }
+    way_short_same a.image.now a.lent a.self _ _ _ c.level_at-level.ensures _ _ _ _ _ c.range_from.ensures.answer _ c.in_ok-found.was p.bytes_value p.roomy a.out.now c.if-out-found.true
 
-pub shape_of-heads-in-Refused : goal.shape_of-heads-in-Refused
-shape_of-heads-in-Refused c = search laws
-
-pub shape_of-bytes-in-Refused : goal.shape_of-bytes-in-Refused
-shape_of-bytes-in-Refused c = search laws
-
-pub returns-in-Refused : goal.returns-in-Refused
-returns-in-Refused c =
-    let a = c.args in
-    let q = c.in-Refused.is in
-    record { answer = way_refused a.image.now a.lent a.self _ _ _ c.level_at-level.ensures _ _ _ _ _ _ c.range_from-found.ensures.answer refl refl _ q a.out.now; output = way_refused_same a.image.now a.lent a.self _ _ _ c.level_at-level.ensures _ _ _ _ _ _ c.range_from-found.ensures.answer refl refl _ q a.out.now; long = tt; ready = tt; follows = c.range_from-found.ensures.follows }
-
-pub shape_of-heads-else-room-length : goal.shape_of-heads-else-room-length
-shape_of-heads-else-room-length c = search laws
-
-pub shape_of-bytes-else-room-length : goal.shape_of-bytes-else-room-length
-shape_of-bytes-else-room-length c = search laws
-
-pub shape_of-out : goal.shape_of-out
-shape_of-out c = search laws
-
-pub returns-else-room-length : goal.returns-else-room-length
-returns-else-room-length c =
+pub range_out-requires-clause-n_in_bounds : goal.range_out-requires-clause-n_in_bounds
+range_out-requires-clause-n_in_bounds c =
     let a = c.args in
     let p = c.requires in
-    let q = c.in-Done.is in
-    let n = c.if-room-length.false in
-    let w = c.range_out.ensures.output in
-    let r = ranged_ready _ _ _ _ _ _ _ _ q c.range_from-found.ensures.ready in
-    let bs = bytes_known _ c.slice_known-5-1.given in
-    record { answer = way_done a.image.now a.lent a.self _ _ _ c.level_at-level.ensures _ _ _ _ _ _ c.range_from-found.ensures.answer refl refl _ _ _ q p.bytes_value p.roomy a.out.now n _ w _ r bs; output = way_output a.image.now a.lent a.self _ _ _ c.level_at-level.ensures _ _ _ _ _ _ c.range_from-found.ensures.answer refl refl _ _ _ q p.bytes_value p.roomy a.out.now n _ w; long = way_long a.image.now a.lent a.self _ _ _ c.level_at-level.ensures _ _ _ _ _ _ c.range_from-found.ensures.answer refl refl _ _ _ q p.bytes_value p.roomy a.out.now n _ w _ r bs; ready = r; follows = c.range_from-found.ensures.follows }
+    way_room a.image.now a.lent a.self _ _ _ c.level_at-level.ensures _ _ _ _ _ c.range_from.ensures.answer _ c.in_ok-found.was p.bytes_value p.roomy a.out.now c.if-out-found.false
+
+pub returns-clause-answer : goal.returns-clause-answer
+returns-clause-answer c =
+    let a = c.args in
+    let p = c.requires in
+    way_done a.image.now a.lent a.self _ _ _ c.level_at-level.ensures _ _ _ _ _ c.range_from.ensures.answer _ c.in_ok-found.was p.bytes_value p.roomy a.out.now c.if-out-found.false _ c.range_out.ensures.output _ c.in_ok-found.ensures.ready (search (rules, bytes_known))
+
+pub returns-clause-output : goal.returns-clause-output
+returns-clause-output c =
+    let a = c.args in
+    let p = c.requires in
+    way_output a.image.now a.lent a.self _ _ _ c.level_at-level.ensures _ _ _ _ _ c.range_from.ensures.answer _ c.in_ok-found.was p.bytes_value p.roomy a.out.now c.if-out-found.false _ c.range_out.ensures.output
+
+pub returns-clause-long : goal.returns-clause-long
+returns-clause-long c =
+    let a = c.args in
+    let p = c.requires in
+    way_long a.image.now a.lent a.self _ _ _ c.level_at-level.ensures _ _ _ _ _ c.range_from.ensures.answer _ c.in_ok-found.was p.bytes_value p.roomy a.out.now c.if-out-found.false _ c.range_out.ensures.output _ c.in_ok-found.ensures.ready (search (rules, bytes_known))

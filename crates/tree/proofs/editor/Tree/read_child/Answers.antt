@@ -18,4 +18,4 @@ load_block-requires c = search laws
 
 pub returns : goal.returns
 returns c =
-    read_child_lem _ _ _ _ _ c.args.b _ _ _ _ _ _ _ c.level_at.ensures c.bound_key-lo.ensures c.bound_key-up.ensures c.load_block.ensures
+    read_child_lem _ _ _ _ _ c.args.b _ _ _ _ _ _ _ _ c.level_at.ensures c.bound_key-lo.ensures c.bound_key-up.ensures c.is_some.ensures c.load_block.ensures

@@ -1,9 +1,5 @@
-use Prim.Native.Nat.{◌-◌}
 use Rattle.tree.specs.internal.Dropping.{Removing}
 use Rattle.tree.proofs.editor.Tree.remove_all.Given as goal
 
 abbrev pub invariant-loop-i : goal.invariant-loop-i
-invariant-loop-i l = Removing l.image l.lent l.count l.initial.t l.initial.heads l.initial.bytes l.initial.scratch l.t l.heads l.bytes l.scratch l.at l.i
-
-abbrev pub decreases-loop-i : goal.decreases-loop-i
-decreases-loop-i l = l.count - l.i
+invariant-loop-i l = Removing l.image l.lent l.count l.initial.t l.initial.heads l.initial.bytes l.initial.scratch l.t l.heads l.bytes l.scratch l.at l._i

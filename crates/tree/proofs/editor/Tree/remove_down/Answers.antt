@@ -1,55 +1,46 @@
-use Rattle.tree.specs.laws.remove.Call.{call_argument, call_kept, call_answer, call_refused, call_same, call_yes, call_no}
-use Rattle.tree.specs.laws.refusal1.EditCalls.{marks_state, marks_trusts, marks_shadowed, remove_undone}
-use Rattle.std.proofs.Common.{ap}
+use Rattle.tree.specs.laws.remove.Call.{call_argument, call_answer, call_done}
+use Rattle.tree.specs.laws.refusal1.EditCalls.{marks_state, marks_trusts, marks_shadowed, remove_undone, removed_refused, removed_called}
+use Rattle.std.proofs.Common.{ap, ◌∙◌}
 use mathlib.Core.Bool.{not}
 use Rattle.tree.proofs.editor.Tree.remove_down.Goals as goal
 
-pub returns-then-not-keyed : goal.returns-then-not-keyed
-returns-then-not-keyed c =
-    let args = c.args in
-    let pre = c.requires in
-    let keyed = c.keyed in
-    record { answer = call_argument args.image.now args.lent args.self _ _ _ pre.trusts _ keyed.ensures (ap not c.if-not-keyed.true); left = call_kept args.image.now args.lent args.self _ _ args.key.now pre.trusts _ keyed.ensures 12 }
+pub returns-then-not-keyed-clause-answer : goal.returns-then-not-keyed-clause-answer
+returns-then-not-keyed-clause-answer c =
+    let a = c.args in call_argument a.image.now a.lent a.self _ _ _ c.requires.trusts _ c.keyed.ensures (ap not c.if-not-keyed.true)
 
-pub removed-done-requires : goal.removed-done-requires
-removed-done-requires c =
-    let args = c.args in
-    let pre = c.requires in
-    let clear-marks = c.clear_marks in
-    record { trusts = marks_trusts args.image.now args.lent args.self _ _ _ pre.trusts clear-marks.ensures; room = pre.room }
+pub removed-done-requires-clause-trusts : goal.removed-done-requires-clause-trusts
+removed-done-requires-clause-trusts c =
+    let a = c.args in marks_trusts a.image.now a.lent a.self _ _ _ c.requires.trusts c.clear_marks.ensures
 
 pub restore-requires : goal.restore-requires
 restore-requires c =
-    let args = c.args in
-    let pre = c.requires in
-    let clear-marks = c.clear_marks in
-    let removed = c.removed-done in
-    marks_shadowed args.image.now args.lent args.self _ _ _ pre.trusts clear-marks.ensures _ _ removed.ensures.follows removed.auto.heads removed.auto.bytes
+    let a = c.args in
+    let d = c.removed-done in
+    marks_shadowed a.image.now a.lent a.self _ _ _ c.requires.trusts c.clear_marks.ensures _ _ d.ensures.follows d.auto.heads d.auto.bytes
 
-pub returns-in-Refused : goal.returns-in-Refused
-returns-in-Refused c =
-    let args = c.args in
-    let pre = c.requires in
-    let keyed = c.keyed in
-    let clear-marks = c.clear_marks in
-    let removed = c.removed-done in
-    let restore = c.restore in
-    record { answer = call_answer args.image.now args.lent args.self _ _ _ pre.trusts _ keyed.ensures (ap not c.if-not-keyed.false) _ (marks_state args.image.now args.lent args.self _ _ _ pre.trusts clear-marks.ensures) _ (call_refused args.image.now args.lent args.self _ _ _ (marks_trusts args.image.now args.lent args.self _ _ _ pre.trusts clear-marks.ensures) _ _ _ removed.ensures.answer _ _ _ c.in-Refused.is); left = remove_undone args.image.now args.lent args.self _ _ _ pre.trusts clear-marks.ensures _ _ removed.ensures.follows _ _ restore.ensures removed.auto.heads removed.auto.bytes restore.auto.heads restore.auto.bytes 0 }
+pub returns-then-is_err-clause-answer : goal.returns-then-is_err-clause-answer
+returns-then-is_err-clause-answer c =
+    let a = c.args in
+    let t = c.requires.trusts in
+    removed_refused _ _ _ _ _ _ c.if-is_err.ensures.value
+    ∙ call_answer a.image.now a.lent a.self _ _ _ t _ c.keyed.ensures (ap not c.if-not-keyed.false) _ (marks_state a.image.now a.lent a.self _ _ _ t c.clear_marks.ensures) _ c.removed-done.ensures.answer
 
-pub returns-in-Yes : goal.returns-in-Yes
-returns-in-Yes c =
-    let args = c.args in
-    let pre = c.requires in
-    let keyed = c.keyed in
-    let clear-marks = c.clear_marks in
-    let removed = c.removed-done in
-    record { answer = call_answer args.image.now args.lent args.self _ _ _ pre.trusts _ keyed.ensures (ap not c.if-not-keyed.false) _ (marks_state args.image.now args.lent args.self _ _ _ pre.trusts clear-marks.ensures) _ (call_same args.image.now args.lent args.self _ _ _ (marks_trusts args.image.now args.lent args.self _ _ _ pre.trusts clear-marks.ensures) _ _ _ removed.ensures.answer _ c.in-Yes.is); left = call_yes args.image.now args.lent args.self _ _ _ (marks_trusts args.image.now args.lent args.self _ _ _ pre.trusts clear-marks.ensures) _ _ _ removed.ensures.answer _ c.in-Yes.is removed.ensures.ready }
+pub returns-then-is_err-clause-left : goal.returns-then-is_err-clause-left
+returns-then-is_err-clause-left c =
+    let a = c.args in
+    let d = c.removed-done in
+    let k = c.restore in
+    remove_undone a.image.now a.lent a.self _ _ _ c.requires.trusts c.clear_marks.ensures _ _ d.ensures.follows _ _ k.ensures d.auto.heads d.auto.bytes k.auto.heads k.auto.bytes _ c.if-is_err.ensures.value
 
-pub returns-in-No : goal.returns-in-No
-returns-in-No c =
-    let args = c.args in
-    let pre = c.requires in
-    let keyed = c.keyed in
-    let clear-marks = c.clear_marks in
-    let removed = c.removed-done in
-    record { answer = call_answer args.image.now args.lent args.self _ _ _ pre.trusts _ keyed.ensures (ap not c.if-not-keyed.false) _ (marks_state args.image.now args.lent args.self _ _ _ pre.trusts clear-marks.ensures) _ (call_same args.image.now args.lent args.self _ _ _ (marks_trusts args.image.now args.lent args.self _ _ _ pre.trusts clear-marks.ensures) _ _ _ removed.ensures.answer _ c.in-No.is); left = call_no args.image.now args.lent args.self _ _ _ (marks_trusts args.image.now args.lent args.self _ _ _ pre.trusts clear-marks.ensures) _ _ _ removed.ensures.answer _ c.in-No.is removed.ensures.ready }
+pub returns-else-is_err-clause-answer : goal.returns-else-is_err-clause-answer
+returns-else-is_err-clause-answer c =
+    let a = c.args in
+    let t = c.requires.trusts in
+    call_answer a.image.now a.lent a.self _ _ _ t _ c.keyed.ensures (ap not c.if-not-keyed.false) _ (marks_state a.image.now a.lent a.self _ _ _ t c.clear_marks.ensures) _ c.removed-done.ensures.answer
+
+pub returns-else-is_err-clause-left : goal.returns-else-is_err-clause-left
+returns-else-is_err-clause-left c =
+    let a = c.args in
+    let d = c.removed-done.ensures in
+    removed_called _ _ _ _ _ _ _ _ c.if-is_err.ensures.value
+    (λ u there z. call_done a.image.now a.lent a.self _ _ _ (marks_trusts a.image.now a.lent a.self _ _ _ c.requires.trusts c.clear_marks.ensures) _ _ _ d.answer u there z d.ready)

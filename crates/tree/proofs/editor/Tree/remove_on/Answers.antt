@@ -1,89 +1,86 @@
-use Rattle.node.specs.laws.base.Bytes.{bytes_known}
+use Rattle.node.specs.laws.base.Bytes.{Bytes, bytes_known}
 use native.Mathlib.Omega.{arith}
-use Rattle.tree.specs.laws.remove.Steps.{on_in, on_root, on_drops, on_refused, on_ready, on_still, on_index, on_keyed, on_cuts, on_uncut, on_cut, on_trust, on_done, on_back, on_follows}
+use Rattle.tree.specs.laws.base.Refused.{handed_on}
+use Rattle.tree.specs.laws.remove.Steps.{on_in, on_root, on_drops, on_refused, on_ready, on_still, on_index, on_cuts, on_uncut, on_trust, on_done, on_back, on_follows}
 use borrow.Author.Rules.{rules}
 use Rattle.tree.proofs.editor.Tree.remove_on.Goals as goal
 
-pub shrink-shrunk-requires : goal.shrink-shrunk-requires
-shrink-shrunk-requires c =
-    let pre = c.requires in
-    let args = c.args in
-    record { ready = (pre.ready.0, on_in args.image.now args.lent args.self _ _ args.way.now args.kids.now args.steps args.i pre.ready.2 pre.way); steps = (pre.ready.1, pre.ready.3, on_root args.image.now args.lent args.self _ _ args.way.now args.kids.now args.steps args.i pre.ready.2 pre.way); leaf = pre.leaf; room = on_drops args.image.now args.lent args.self _ _ args.way.now args.kids.now args.steps args.i pre.ready.2 pre.way }
+pub shrink-requires-clause-ready : goal.shrink-requires-clause-ready
+shrink-requires-clause-ready c =
+    let p = c.requires in
+    let a = c.args in
+    (p.ready.0, on_in a.image.now a.lent a.self _ _ a.way.now a.kids.now a.steps a.i p.ready.2 p.way)
 
-pub index_keys-requires : goal.index_keys-requires
-index_keys-requires c =
-    let args = c.args in
-    let pre = c.requires in
-    let shrink = c.shrink-shrunk in
-    record { ready = (on_ready args.image.now args.lent args.self _ _ args.way.now args.kids.now args.steps args.i pre.ready.2 pre.way _ _ _ shrink.ensures.answer _ c.in-Done.is shrink.ensures.ready.0 shrink.ensures.ready.1, on_still args.image.now args.lent args.self _ _ args.way.now args.kids.now args.steps args.i pre.ready.2 pre.way _ _ _ shrink.ensures.answer _ c.in-Done.is shrink.ensures.ready.0 shrink.ensures.ready.1); steps = (pre.ready.1, pre.ready.3); room = on_index args.image.now args.lent args.self _ _ args.way.now args.kids.now args.steps args.i pre.ready.2 pre.way _ _ _ shrink.ensures.answer _ c.in-Done.is shrink.ensures.ready.0 shrink.ensures.ready.1 (bytes_known _ c.slice_known-5-1.given) _ pre.room }
+pub shrink-requires-clause-steps : goal.shrink-requires-clause-steps
+shrink-requires-clause-steps c =
+    let p = c.requires in
+    let a = c.args in
+    (p.ready.1, p.ready.3, on_root a.image.now a.lent a.self _ _ a.way.now a.kids.now a.steps a.i p.ready.2 p.way)
 
-pub cuts-cut-requires : goal.cuts-cut-requires
-cuts-cut-requires c =
-    let args = c.args in
-    let pre = c.requires in
-    let shrink = c.shrink-shrunk in
-    let index-keys = c.index_keys in
-    record { ready = (on_keyed args.image.now args.lent args.self _ _ args.way.now args.kids.now args.steps args.i pre.ready.2 pre.way _ _ _ shrink.ensures.answer _ c.in-Done.is shrink.ensures.ready.0 shrink.ensures.ready.1 _ _ index-keys.ensures, pre.ready.2, pre.ready.3); room = (on_cuts args.image.now args.lent args.self _ _ args.way.now args.kids.now args.steps args.i pre.ready.2 pre.way _ _ _ shrink.ensures.answer _ c.in-Done.is shrink.ensures.ready.0 shrink.ensures.ready.1 _ _ index-keys.ensures, omega (arith, pre.room, index-keys.auto)) }
+pub shrink-requires-clause-room : goal.shrink-requires-clause-room
+shrink-requires-clause-room c =
+    let p = c.requires in
+    let a = c.args in
+    on_drops a.image.now a.lent a.self _ _ a.way.now a.kids.now a.steps a.i p.ready.2 p.way
 
-pub level_at-level-requires : goal.level_at-level-requires
-level_at-level-requires c =
-    let args = c.args in
-    let pre = c.requires in
-    let shrink = c.shrink-shrunk in
-    let index-keys = c.index_keys in
-    let cuts = c.cuts-cut in
-    on_cut args.image.now args.lent args.self _ _ args.way.now args.kids.now args.steps args.i pre.ready.2 pre.way _ _ _ shrink.ensures.answer _ c.in-Done.is shrink.ensures.ready.0 shrink.ensures.ready.1 _ _ index-keys.ensures _ _ _ cuts.ensures.answer _ c.in-Done-cut.is cuts.ensures.ready
+pub returns-in_err-t-clause-answer : goal.returns-in_err-t-clause-answer
+returns-in_err-t-clause-answer c =
+    let p = c.requires in
+    let a = c.args in
+    rw (handed_on c.from_residual.result _ c.from_residual.ensures.1)
+    (on_refused a.image.now a.lent a.self _ _ a.way.now a.kids.now a.steps a.i p.ready.2 p.way _ _ _ c.shrink.ensures.answer _ c.in_err-t.was)
 
-pub hand_down-requires : goal.hand_down-requires
-hand_down-requires c =
-    let args = c.args in
-    let pre = c.requires in
-    let shrink = c.shrink-shrunk in
-    let index-keys = c.index_keys in
-    let cuts = c.cuts-cut in
-    record { ready = on_cut args.image.now args.lent args.self _ _ args.way.now args.kids.now args.steps args.i pre.ready.2 pre.way _ _ _ shrink.ensures.answer _ c.in-Done.is shrink.ensures.ready.0 shrink.ensures.ready.1 _ _ index-keys.ensures _ _ _ cuts.ensures.answer _ c.in-Done-cut.is cuts.ensures.ready; trust = on_trust args.image.now args.lent args.self _ _ args.way.now args.kids.now args.steps args.i pre.ready.2 pre.way _ _ _ shrink.ensures.answer _ c.in-Done.is shrink.ensures.ready.0 shrink.ensures.ready.1 _ _ index-keys.ensures _ _ _ cuts.ensures.answer _ c.in-Done-cut.is }
+pub index_keys-requires-clause-ready : goal.index_keys-requires-clause-ready
+index_keys-requires-clause-ready c =
+    let p = c.requires in
+    let a = c.args in
+    let s = c.shrink.ensures in
+    (on_ready a.image.now a.lent a.self _ _ a.way.now a.kids.now a.steps a.i p.ready.2 p.way _ _ _ s.answer _ c.in_ok-t.was s.ready.0 s.ready.1, on_still a.image.now a.lent a.self _ _ a.way.now a.kids.now a.steps a.i p.ready.2 p.way _ _ _ s.answer _ c.in_ok-t.was s.ready.0 s.ready.1)
 
-pub returns-in-Refused : goal.returns-in-Refused
-returns-in-Refused c =
-    let args = c.args in
-    let pre = c.requires in
-    let shrink = c.shrink-shrunk in
-    record { answer = on_refused args.image.now args.lent args.self _ _ args.way.now args.kids.now args.steps args.i pre.ready.2 pre.way _ _ _ shrink.ensures.answer _ c.in-Refused.is; ready = tt; follows = shrink.ensures.follows }
+pub index_keys-requires-clause-room : goal.index_keys-requires-clause-room
+index_keys-requires-clause-room c =
+    let p = c.requires in
+    let a = c.args in
+    let s = c.shrink.ensures in
+    let b : Bytes c.shrink.new.bytes = search (rules, bytes_known) in
+    on_index a.image.now a.lent a.self _ _ a.way.now a.kids.now a.steps a.i p.ready.2 p.way _ _ _ s.answer _ c.in_ok-t.was s.ready.0 s.ready.1 b _ p.room
 
-pub shape_of-heads-in-Refused-cut : goal.shape_of-heads-in-Refused-cut
-shape_of-heads-in-Refused-cut c = search (rules, c.cuts-cut.auto, c.index_keys.auto, c.shrink-shrunk.auto)
+pub cuts-requires-clause-room : goal.cuts-requires-clause-room
+cuts-requires-clause-room c =
+    let p = c.requires in
+    let a = c.args in
+    let s = c.shrink.ensures in
+    let k = c.index_keys in
+    (on_cuts a.image.now a.lent a.self _ _ a.way.now a.kids.now a.steps a.i p.ready.2 p.way _ _ _ s.answer _ c.in_ok-t.was s.ready.0 s.ready.1 _ _ k.ensures, omega (arith, p.room, k.auto))
 
-pub shape_of-bytes-in-Refused-cut : goal.shape_of-bytes-in-Refused-cut
-shape_of-bytes-in-Refused-cut c = search (rules, c.cuts-cut.auto, c.index_keys.auto, c.shrink-shrunk.auto)
+pub returns-in_err-u-clause-answer : goal.returns-in_err-u-clause-answer
+returns-in_err-u-clause-answer c =
+    let p = c.requires in
+    let a = c.args in
+    let s = c.shrink.ensures in
+    rw (handed_on c.from_residual-in_err-u.result _ c.from_residual-in_err-u.ensures.1)
+    (on_uncut a.image.now a.lent a.self _ _ a.way.now a.kids.now a.steps a.i p.ready.2 p.way _ _ _ s.answer _ c.in_ok-t.was s.ready.0 s.ready.1 _ _ c.index_keys.ensures _ _ _ c.cuts.ensures.answer _ c.in_err-u.was)
 
-pub shape_of-scratch-in-Refused-cut : goal.shape_of-scratch-in-Refused-cut
-shape_of-scratch-in-Refused-cut c = search (rules, c.cuts-cut.auto, c.index_keys.auto, c.shrink-shrunk.auto)
+pub hand_down-requires-clause-trust : goal.hand_down-requires-clause-trust
+hand_down-requires-clause-trust c =
+    let p = c.requires in
+    let a = c.args in
+    let s = c.shrink.ensures in
+    on_trust a.image.now a.lent a.self _ _ a.way.now a.kids.now a.steps a.i p.ready.2 p.way _ _ _ s.answer _ c.in_ok-t.was s.ready.0 s.ready.1 _ _ c.index_keys.ensures _ _ _ c.cuts.ensures.answer _ c.in_ok-u.was
 
-pub returns-in-Refused-cut : goal.returns-in-Refused-cut
-returns-in-Refused-cut c =
-    let args = c.args in
-    let pre = c.requires in
-    let shrink = c.shrink-shrunk in
-    let index-keys = c.index_keys in
-    let cuts = c.cuts-cut in
-    record { answer = on_uncut args.image.now args.lent args.self _ _ args.way.now args.kids.now args.steps args.i pre.ready.2 pre.way _ _ _ shrink.ensures.answer _ c.in-Done.is shrink.ensures.ready.0 shrink.ensures.ready.1 _ _ index-keys.ensures _ _ _ cuts.ensures.answer _ c.in-Refused-cut.is; ready = tt; follows = on_follows args.image.now args.lent args.self _ _ args.way.now args.kids.now args.steps args.i pre.ready.2 pre.way _ _ _ shrink.ensures.answer _ c.in-Done.is shrink.ensures.ready.0 shrink.ensures.ready.1 _ _ index-keys.ensures _ _ _ cuts.ensures.answer shrink.ensures.follows cuts.ensures.follows }
+pub returns-clause-answer : goal.returns-clause-answer
+returns-clause-answer c =
+    let p = c.requires in
+    let a = c.args in
+    let s = c.shrink.ensures in
+    on_done a.image.now a.lent a.self _ _ a.way.now a.kids.now a.steps a.i p.ready.2 p.way _ _ _ s.answer _ c.in_ok-t.was s.ready.0 s.ready.1 _ _ c.index_keys.ensures _ _ _ c.cuts.ensures.answer _ c.in_ok-u.was _ _ c.level_at-level.ensures c.hand_down.ensures.answer
 
-pub shape_of-heads-in-Done-cut : goal.shape_of-heads-in-Done-cut
-shape_of-heads-in-Done-cut c = search (rules, c.hand_down.auto, c.cuts-cut.auto, c.index_keys.auto, c.shrink-shrunk.auto)
-
-pub shape_of-bytes-in-Done-cut : goal.shape_of-bytes-in-Done-cut
-shape_of-bytes-in-Done-cut c = search (rules, c.hand_down.auto, c.cuts-cut.auto, c.index_keys.auto, c.shrink-shrunk.auto)
-
-pub shape_of-scratch-in-Done-cut : goal.shape_of-scratch-in-Done-cut
-shape_of-scratch-in-Done-cut c = search (rules, c.hand_down.auto, c.cuts-cut.auto, c.index_keys.auto, c.shrink-shrunk.auto)
-
-pub returns-in-Done-cut : goal.returns-in-Done-cut
-returns-in-Done-cut c =
-    let args = c.args in
-    let pre = c.requires in
-    let shrink = c.shrink-shrunk in
-    let index-keys = c.index_keys in
-    let cuts = c.cuts-cut in
-    let level-at = c.level_at-level in
-    let hand-down = c.hand_down in
-    record { answer = on_done args.image.now args.lent args.self _ _ args.way.now args.kids.now args.steps args.i pre.ready.2 pre.way _ _ _ shrink.ensures.answer _ c.in-Done.is shrink.ensures.ready.0 shrink.ensures.ready.1 _ _ index-keys.ensures _ _ _ cuts.ensures.answer _ c.in-Done-cut.is _ _ level-at.ensures hand-down.ensures.answer; ready = hand-down.ensures.ready; follows = on_back args.image.now args.lent args.self _ _ args.way.now args.kids.now args.steps args.i pre.ready.2 pre.way _ _ _ shrink.ensures.answer _ c.in-Done.is shrink.ensures.ready.0 shrink.ensures.ready.1 _ _ index-keys.ensures _ _ _ cuts.ensures.answer _ c.in-Done-cut.is _ _ (on_follows args.image.now args.lent args.self _ _ args.way.now args.kids.now args.steps args.i pre.ready.2 pre.way _ _ _ shrink.ensures.answer _ c.in-Done.is shrink.ensures.ready.0 shrink.ensures.ready.1 _ _ index-keys.ensures _ _ _ cuts.ensures.answer shrink.ensures.follows cuts.ensures.follows) hand-down.ensures.follows }
+pub returns-clause-follows : goal.returns-clause-follows
+returns-clause-follows c =
+    let p = c.requires in
+    let a = c.args in
+    let s = c.shrink.ensures in
+    let k = c.index_keys.ensures in
+    let d = c.cuts.ensures in
+    on_back a.image.now a.lent a.self _ _ a.way.now a.kids.now a.steps a.i p.ready.2 p.way _ _ _ s.answer _ c.in_ok-t.was s.ready.0 s.ready.1 _ _ k _ _ _ d.answer _ c.in_ok-u.was _ _
+    (on_follows a.image.now a.lent a.self _ _ a.way.now a.kids.now a.steps a.i p.ready.2 p.way _ _ _ s.answer _ c.in_ok-t.was s.ready.0 s.ready.1 _ _ k _ _ _ d.answer s.follows d.follows) c.hand_down.ensures.follows

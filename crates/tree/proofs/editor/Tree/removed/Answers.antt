@@ -1,124 +1,84 @@
 use lib.ListN.{length}
 use mathlib.Core.Path.{◌≡◌}
 use native.Mathlib.Omega.{arith}
-use Rattle.tree.specs.laws.remove.Call.{remove_low, remove_lost, remove_some, remove_few, remove_ready, remove_leaf, remove_back, remove_absent, remove_on_way, remove_index, remove_start, remove_stops, remove_done, edited_ready}
+use Rattle.tree.specs.laws.base.Refused.{handed_on}
+use Rattle.tree.specs.laws.remove.Call.{remove_low, remove_lost, remove_some, remove_few, remove_ready, remove_leaf, remove_back, remove_absent, remove_on_way, remove_stops, remove_done}
 use borrow.Author.Rules.{rules}
 use Rattle.tree.proofs.editor.Tree.removed.Goals as goal
 
-pub way-w-requires : goal.way-w-requires
-way-w-requires c =
-    let pre = c.requires in
-    let args = c.args in
-    let level-at = c.level_at-level in
-    record { ready_2 = pre.trusts.ready; level_bound = remove_low args.image.now args.lent args.self _ _ pre.trusts _ level-at.ensures }
+pub way-requires-clause-level_bound : goal.way-requires-clause-level_bound
+way-requires-clause-level_bound c =
+    let a = c.args in remove_low a.image.now a.lent a.self _ _ c.requires.trusts _ c.level_at-level.ensures
+
+pub returns-in_err-w-clause-answer : goal.returns-in_err-w-clause-answer
+returns-in_err-w-clause-answer c =
+    let a = c.args in
+    rw (handed_on c.from_residual.result _ c.from_residual.ensures.1)
+    (remove_lost a.image.now a.lent a.self _ _ c.requires.trusts _ c.level_at-level.ensures _ _ _ _ c.way.ensures.answer _ c.in_err-w.was)
 
 pub overflow_sub-n : goal.overflow_sub-n
 overflow_sub-n c =
-    let args = c.args in
-    let pre = c.requires in
-    let level-at = c.level_at-level in
-    let way = c.way-w in
-    let m = remove_some args.image.now args.lent args.self _ _ pre.trusts _ level-at.ensures _ _ _ way.result way.ensures.answer c.in-Arrived.is in
+    let a = c.args in
+    let m = remove_some a.image.now a.lent a.self _ _ c.requires.trusts _ c.level_at-level.ensures _ _ _ _ c.way.ensures.answer _ c.in_ok-w.was in
     search (rules, m)
 
-pub offset_bounds-way-w : goal.offset_bounds-way-w
-offset_bounds-way-w c =
-    let args = c.args in
-    let pre = c.requires in
-    let level-at = c.level_at-level in
-    let way = c.way-w in
-    let m = remove_few args.image.now args.lent args.self _ _ pre.trusts _ level-at.ensures _ _ _ way.result way.ensures.answer c.in-Arrived.is in
+pub offset_bounds-w-w : goal.offset_bounds-w-w
+offset_bounds-w-w c =
+    let a = c.args in
+    let m = remove_few a.image.now a.lent a.self _ _ c.requires.trusts _ c.level_at-level.ensures _ _ _ _ c.way.ensures.answer _ c.in_ok-w.was in
     search (rules, m)
 
-pub bounds-way-w : goal.bounds-way-w
-bounds-way-w c =
-    let args = c.args in
-    let pre = c.requires in
-    let level-at = c.level_at-level in
-    let way = c.way-w in
-    let m = remove_few args.image.now args.lent args.self _ _ pre.trusts _ level-at.ensures _ _ _ way.result way.ensures.answer c.in-Arrived.is in
-    let k = remove_some args.image.now args.lent args.self _ _ pre.trusts _ level-at.ensures _ _ _ way.result way.ensures.answer c.in-Arrived.is in
+pub bounds-w-w : goal.bounds-w-w
+bounds-w-w c =
+    let a = c.args in
+    let m = remove_few a.image.now a.lent a.self _ _ c.requires.trusts _ c.level_at-level.ensures _ _ _ _ c.way.ensures.answer _ c.in_ok-w.was in
+    let k = remove_some a.image.now a.lent a.self _ _ c.requires.trusts _ c.level_at-level.ensures _ _ _ _ c.way.ensures.answer _ c.in_ok-w.was in
     search (rules, m, k)
 
 pub found_at-f-requires : goal.found_at-f-requires
 found_at-f-requires c =
-    let args = c.args in
-    let pre = c.requires in
-    let level-at = c.level_at-level in
-    let way = c.way-w in (
-      remove_ready args.image.now args.lent args.self _ _ pre.trusts _ level-at.ensures _ _ _ way.result way.ensures.answer c.in-Arrived.is way.ensures.ready,
-      remove_leaf args.image.now args.lent args.self _ _ pre.trusts _ level-at.ensures _ _ _ way.result way.ensures.answer c.in-Arrived.is,
-    )
+    let a = c.args in
+    let w = c.way.ensures in
+    (remove_ready a.image.now a.lent a.self _ _ c.requires.trusts _ c.level_at-level.ensures _ _ _ _ w.answer _ c.in_ok-w.was w.ready, remove_leaf a.image.now a.lent a.self _ _ c.requires.trusts _ c.level_at-level.ensures _ _ _ _ w.answer _ c.in_ok-w.was)
 
-pub returns-then-not-f : goal.returns-then-not-f
-returns-then-not-f c =
-    let args = c.args in
-    let pre = c.requires in
-    let level-at = c.level_at-level in
-    let way = c.way-w in
-    let found_at = c.found_at-f in
-    record { answer = remove_absent args.image.now args.lent args.self _ _ pre.trusts _ level-at.ensures _ _ _ way.result way.ensures.answer c.in-Arrived.is _ found_at.ensures c.if-not-f.true; ready = remove_ready args.image.now args.lent args.self _ _ pre.trusts _ level-at.ensures _ _ _ way.result way.ensures.answer c.in-Arrived.is way.ensures.ready; follows = way.ensures.follows }
+pub returns-then-not-f-clause-answer : goal.returns-then-not-f-clause-answer
+returns-then-not-f-clause-answer c =
+    let a = c.args in
+    remove_absent a.image.now a.lent a.self _ _ c.requires.trusts _ c.level_at-level.ensures _ _ _ _ c.way.ensures.answer _ c.in_ok-w.was _ c.found_at-f.ensures c.if-not-f.true
 
-pub slice_bounds-remove_on-end : goal.slice_bounds-remove_on-end
-slice_bounds-remove_on-end c = search (rules, c.way-w.type_inv)
+pub remove_on-requires-clause-ready : goal.remove_on-requires-clause-ready
+remove_on-requires-clause-ready c =
+    let a = c.args in
+    let w = c.way.ensures in
+    let j : length c.in_ok-w.w.slots ≡ 34 = search (rules, c.way.type_inv) in
+    let k : length c.in_ok-w.w.kids ≡ 34 = search (rules, c.way.type_inv) in
+    let few = remove_few a.image.now a.lent a.self _ _ c.requires.trusts _ c.level_at-level.ensures _ _ _ _ w.answer _ c.in_ok-w.was in
+    (remove_ready a.image.now a.lent a.self _ _ c.requires.trusts _ c.level_at-level.ensures _ _ _ _ w.answer _ c.in_ok-w.was w.ready, remove_some a.image.now a.lent a.self _ _ c.requires.trusts _ c.level_at-level.ensures _ _ _ _ w.answer _ c.in_ok-w.was, omega (arith, few), omega (arith, few))
 
-pub slice_bounds-remove_on-end-in-Arrived : goal.slice_bounds-remove_on-end-in-Arrived
-slice_bounds-remove_on-end-in-Arrived c = search (rules, c.way-w.type_inv)
+pub remove_on-requires-clause-way : goal.remove_on-requires-clause-way
+remove_on-requires-clause-way c =
+    let a = c.args in
+    remove_on_way a.image.now a.lent a.self _ _ c.requires.trusts _ c.level_at-level.ensures _ _ _ _ c.way.ensures.answer _ c.in_ok-w.was _ c.found_at-f.ensures c.if-not-f.false
 
-pub remove_on-done-requires : goal.remove_on-done-requires
-remove_on-done-requires c =
-    let a : length c.way-w.result.slots ≡ 34 = search (rules, c.way-w.type_inv) in
-    let b : length c.way-w.result.kids ≡ 34 = search (rules, c.way-w.type_inv) in
-    let args = c.args in
-    let pre = c.requires in
-    let level-at = c.level_at-level in
-    let way = c.way-w in
-    let found_at = c.found_at-f in
-    let few = remove_few args.image.now args.lent args.self _ _ pre.trusts _ level-at.ensures _ _ _ way.result way.ensures.answer c.in-Arrived.is in
-    record { ready = (remove_ready args.image.now args.lent args.self _ _ pre.trusts _ level-at.ensures _ _ _ way.result way.ensures.answer c.in-Arrived.is way.ensures.ready, remove_some args.image.now args.lent args.self _ _ pre.trusts _ level-at.ensures _ _ _ way.result way.ensures.answer c.in-Arrived.is, omega (arith, few), omega (arith, few)); way = remove_on_way args.image.now args.lent args.self _ _ pre.trusts _ level-at.ensures _ _ _ way.result way.ensures.answer c.in-Arrived.is _ found_at.ensures c.if-not-f.false; leaf = (remove_index args.image.now args.lent args.self _ _ pre.trusts _ level-at.ensures _ _ _ way.result way.ensures.answer c.in-Arrived.is _ found_at.ensures c.if-not-f.false, remove_start args.image.now args.lent args.self _ _ pre.trusts _ level-at.ensures _ _ _ way.result way.ensures.answer c.in-Arrived.is _ found_at.ensures c.if-not-f.false); room = pre.room }
+pub returns-in_err-u-clause-answer : goal.returns-in_err-u-clause-answer
+returns-in_err-u-clause-answer c =
+    let a = c.args in
+    rw (handed_on c.from_residual-in_err-u.result _ c.from_residual-in_err-u.ensures.1)
+    (remove_stops a.image.now a.lent a.self _ _ c.requires.trusts _ c.level_at-level.ensures _ _ _ _ c.way.ensures.answer _ c.in_ok-w.was _ c.found_at-f.ensures c.if-not-f.false _ _ _ c.remove_on.ensures.answer _ c.in_err-u.was)
 
-pub returns-in-Refused : goal.returns-in-Refused
-returns-in-Refused c =
-    let args = c.args in
-    let pre = c.requires in
-    let level-at = c.level_at-level in
-    let way = c.way-w in
-    record { answer = remove_lost args.image.now args.lent args.self _ _ pre.trusts _ level-at.ensures _ _ _ way.result way.ensures.answer _ c.in-Refused.is; ready = tt; follows = way.ensures.follows }
+pub returns-in_err-u-clause-follows : goal.returns-in_err-u-clause-follows
+returns-in_err-u-clause-follows c =
+    let a = c.args in
+    let w = c.way.ensures in
+    remove_back a.image.now a.lent a.self _ _ c.requires.trusts _ c.level_at-level.ensures _ _ _ _ w.answer _ c.in_ok-w.was _ _ w.follows c.remove_on.ensures.follows
 
-pub shape_of-heads-in-Refused-done : goal.shape_of-heads-in-Refused-done
-shape_of-heads-in-Refused-done c = search (rules, c.remove_on-done.auto, c.way-w.auto)
+pub returns-clause-answer : goal.returns-clause-answer
+returns-clause-answer c =
+    let a = c.args in
+    remove_done a.image.now a.lent a.self _ _ c.requires.trusts _ c.level_at-level.ensures _ _ _ _ c.way.ensures.answer _ c.in_ok-w.was _ c.found_at-f.ensures c.if-not-f.false _ _ _ c.remove_on.ensures.answer _ c.in_ok-u.was
 
-pub shape_of-bytes-in-Refused-done : goal.shape_of-bytes-in-Refused-done
-shape_of-bytes-in-Refused-done c = search (rules, c.remove_on-done.auto, c.way-w.auto)
-
-pub shape_of-scratch-in-Refused-done : goal.shape_of-scratch-in-Refused-done
-shape_of-scratch-in-Refused-done c = search (rules, c.remove_on-done.auto, c.way-w.auto)
-
-pub returns-in-Refused-done : goal.returns-in-Refused-done
-returns-in-Refused-done c =
-    let args = c.args in
-    let pre = c.requires in
-    let level-at = c.level_at-level in
-    let way = c.way-w in
-    let found_at = c.found_at-f in
-    let remove_on_lem = c.remove_on-done in
-    record { answer = remove_stops args.image.now args.lent args.self _ _ pre.trusts _ level-at.ensures _ _ _ way.result way.ensures.answer c.in-Arrived.is _ found_at.ensures c.if-not-f.false _ _ _ remove_on_lem.ensures.answer _ c.in-Refused-done.is; ready = tt; follows = remove_back args.image.now args.lent args.self _ _ pre.trusts _ level-at.ensures _ _ _ way.result way.ensures.answer c.in-Arrived.is _ _ way.ensures.follows remove_on_lem.ensures.follows }
-
-pub shape_of-heads-in-Done : goal.shape_of-heads-in-Done
-shape_of-heads-in-Done c = search (rules, c.remove_on-done.auto, c.way-w.auto)
-
-pub shape_of-bytes-in-Done : goal.shape_of-bytes-in-Done
-shape_of-bytes-in-Done c = search (rules, c.remove_on-done.auto, c.way-w.auto)
-
-pub shape_of-scratch-in-Done : goal.shape_of-scratch-in-Done
-shape_of-scratch-in-Done c = search (rules, c.remove_on-done.auto, c.way-w.auto)
-
-pub returns-in-Done : goal.returns-in-Done
-returns-in-Done c =
-    let args = c.args in
-    let pre = c.requires in
-    let level-at = c.level_at-level in
-    let way = c.way-w in
-    let found_at = c.found_at-f in
-    let remove_on_lem = c.remove_on-done in
-    record { answer = remove_done args.image.now args.lent args.self _ _ pre.trusts _ level-at.ensures _ _ _ way.result way.ensures.answer c.in-Arrived.is _ found_at.ensures c.if-not-f.false _ _ _ remove_on_lem.ensures.answer _ c.in-Done.is; ready = edited_ready _ _ _ _ _ _ c.in-Done.is remove_on_lem.ensures.ready; follows = remove_back args.image.now args.lent args.self _ _ pre.trusts _ level-at.ensures _ _ _ way.result way.ensures.answer c.in-Arrived.is _ _ way.ensures.follows remove_on_lem.ensures.follows }
+pub returns-clause-follows : goal.returns-clause-follows
+returns-clause-follows c =
+    let a = c.args in
+    let w = c.way.ensures in
+    remove_back a.image.now a.lent a.self _ _ c.requires.trusts _ c.level_at-level.ensures _ _ _ _ w.answer _ c.in_ok-w.was _ _ w.follows c.remove_on.ensures.follows

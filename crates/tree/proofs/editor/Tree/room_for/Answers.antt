@@ -1,8 +1,8 @@
-use Rattle.tree.specs.laws.cut.Asked.{code_count, code_slots, code_none}
+use Rattle.tree.specs.laws.cut.Asked.{no_count, no_slots, has_room}
 use borrow.Author.Rules.{rules}
 use Rattle.tree.proofs.editor.Tree.room_for.Goals as goal
 
-ruleset laws = (rules, code_count, code_slots, code_none)
+ruleset laws = (rules, no_count, no_slots, has_room)
 
 pub returns-then-n-info : goal.returns-then-n-info
 returns-then-n-info c = search laws

@@ -1,9 +1,7 @@
 use Rattle.tree.specs.Workspace.{state_of}
 use Rattle.tree.specs.internal.Still.{Stilling}
+use Prim.Native.Nat.{◌-◌}
 use Rattle.tree.proofs.editor.Tree.still_leaf.Given as goal
 
-abbrev pub invariant-loop-d : goal.invariant-loop-d
-invariant-loop-d l = Stilling (state_of l.size l.self l.heads l.bytes) l.level l.key l.d l.n
-
-abbrev pub decreases-loop-d : goal.decreases-loop-d
-decreases-loop-d l = l.d
+abbrev pub invariant-loop-i : goal.invariant-loop-i
+invariant-loop-i l = Stilling (state_of l.size l.self l.heads l.bytes) l.level l.key (l.level - l._i) l.n

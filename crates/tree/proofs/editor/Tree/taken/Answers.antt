@@ -19,3 +19,6 @@ taken_in-requires c = search laws
 
 pub returns : goal.returns
 returns c = search laws
+
+pub invariant_of-records : goal.invariant_of-records
+invariant_of-records c = record { within = search laws }

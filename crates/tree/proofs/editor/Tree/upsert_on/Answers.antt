@@ -1,5 +1,5 @@
 use Rattle.tree.specs.laws.slots.Undo.{follows_same}
-use Rattle.tree.specs.laws.upsert.Parts.{value_long}
+use Rattle.tree.specs.laws.upsert.PutInLeaf.{bytes_long}
 use Rattle.tree.specs.laws.upsert.Steps.{gone_some, gone_within, gone_leaf, gone_words, on_count, on_new, on_large, on_small, on_put}
 use borrow.Author.Rules.{rules}
 use mathlib.Core.Path.{refl}
@@ -28,11 +28,11 @@ live_at-h-requires c = gone_words _ _ _ _ _ _ _ _ _ c.requires.gone
 
 pub returns-then-too_large : goal.returns-then-too_large
 returns-then-too_large c =
-    record { answer = on_large _ _ _ _ _ _ _ _ _ c.requires.gone _ refl _ c.found_at-f.ensures _ c.count_holds.ensures (ap not c.if-not-count_holds.false) _ _ _ _ c.live_at-h.ensures c.too_large.ensures c.if-too_large.true (value_long _ c.args.value.now c.requires.room.0) c.large_refusal.ensures; ready = search rules; follows = follows_same _ _ _ _ _ }
+    record { answer = on_large _ _ _ _ _ _ _ _ _ c.requires.gone _ refl _ c.found_at-f.ensures _ c.count_holds.ensures (ap not c.if-not-count_holds.false) _ _ _ _ c.live_at-h.ensures c.too_large.ensures c.if-too_large.true (bytes_long _ _ c.value_bytes.ensures) c.large_refusal.ensures; ready = search rules; follows = follows_same _ _ _ _ _ }
 
 pub put_on-requires : goal.put_on-requires
 put_on-requires c =
-    record { gone = (c.requires.gone, refl); found = (c.found_at-f.ensures, on_new _ _ _ _ _ _ _ _ _ c.requires.gone _ refl _ c.found_at-f.ensures _ c.count_holds.ensures (ap not c.if-not-count_holds.false)); room = (c.requires.room.0, on_small _ _ _ _ _ _ _ _ _ c.requires.gone _ refl _ c.found_at-f.ensures _ c.count_holds.ensures (ap not c.if-not-count_holds.false) _ _ c.too_large.ensures c.if-too_large.false, c.requires.room.1) }
+    record { gone = (c.requires.gone, refl); found = (c.found_at-f.ensures, on_new _ _ _ _ _ _ _ _ _ c.requires.gone _ refl _ c.found_at-f.ensures _ c.count_holds.ensures (ap not c.if-not-count_holds.false)); room = (on_small _ _ _ _ _ _ _ _ _ c.requires.gone _ refl _ c.found_at-f.ensures _ c.count_holds.ensures (ap not c.if-not-count_holds.false) _ _ c.too_large.ensures c.if-too_large.false (bytes_long _ _ c.value_bytes.ensures), c.requires.room) }
 
 pub shape_of-heads : goal.shape_of-heads
 shape_of-heads c = search (rules, c.put_on.auto)

@@ -1,41 +1,37 @@
-use Rattle.tree.specs.laws.refusal1.EditCalls.{marks_state, marks_trusts, marks_shadowed, undone}
-use Rattle.tree.specs.laws.upsert.Call.{marks_fits, undone_refused, undone_done, undone_trusts}
-use borrow.Author.Rules.{rules}
+use Rattle.tree.specs.laws.refusal1.EditCalls.{marks_state, marks_trusts, marks_shadowed, undone, edited_called}
+use Rattle.tree.specs.laws.upsert.Call.{marks_fits, undone_answer, undone_refused, undone_trusts}
 use Rattle.tree.proofs.editor.Tree.upsert_undone.Goals as goal
 
-pub clear_marks-requires : goal.clear_marks-requires
-clear_marks-requires c = (c.requires.trusts.ready.within, c.requires.trusts.ready.many, c.requires.trusts.ready.words)
+pub upserted-done-requires-clause-trusts : goal.upserted-done-requires-clause-trusts
+upserted-done-requires-clause-trusts c = marks_trusts _ _ _ _ _ _ c.requires.trusts c.clear_marks.ensures
 
-pub upserted-done-requires : goal.upserted-done-requires
-upserted-done-requires c =
-    record { trusts = marks_trusts _ _ _ _ _ _ c.requires.trusts c.clear_marks.ensures; entry = (marks_fits _ _ _ _ _ _ _ (marks_state _ _ _ _ _ _ c.requires.trusts c.clear_marks.ensures) c.requires.entry.0, c.requires.entry.1, c.requires.entry.2) }
+pub upserted-done-requires-clause-entry : goal.upserted-done-requires-clause-entry
+upserted-done-requires-clause-entry c =
+    let p = c.requires in
+    (marks_fits _ _ _ _ _ _ _ (marks_state _ _ _ _ _ _ p.trusts c.clear_marks.ensures) p.entry.0, p.entry.1)
 
 pub restore-requires : goal.restore-requires
 restore-requires c =
-    marks_shadowed _ _ _ _ _ _ c.requires.trusts c.clear_marks.ensures _ _ c.upserted-done.ensures.follows c.upserted-done.auto.heads c.upserted-done.auto.bytes
+    let d = c.upserted-done in
+    marks_shadowed _ _ _ _ _ _ c.requires.trusts c.clear_marks.ensures _ _ d.ensures.follows d.auto.heads d.auto.bytes
 
-pub shape_of-heads-in-Refused : goal.shape_of-heads-in-Refused
-shape_of-heads-in-Refused c = search (rules, c.restore.auto, c.upserted-done.auto, c.clear_marks.auto)
+pub returns-then-is_err-clause-answer : goal.returns-then-is_err-clause-answer
+returns-then-is_err-clause-answer c =
+    undone_refused _ _ _ _ _ _ _ _ _ _ _ (marks_state _ _ _ _ _ _ c.requires.trusts c.clear_marks.ensures) c.upserted-done.ensures.answer _ _ c.if-is_err.ensures.value
 
-pub shape_of-bytes-in-Refused : goal.shape_of-bytes-in-Refused
-shape_of-bytes-in-Refused c = search (rules, c.restore.auto, c.upserted-done.auto, c.clear_marks.auto)
+pub returns-then-is_err-clause-left : goal.returns-then-is_err-clause-left
+returns-then-is_err-clause-left c =
+    let d = c.upserted-done in
+    let k = c.restore in
+    undone _ _ _ _ _ _ c.requires.trusts c.clear_marks.ensures _ _ d.ensures.follows _ _ k.ensures d.auto.heads d.auto.bytes k.auto.heads k.auto.bytes _ c.if-is_err.ensures.value
 
-pub shape_of-scratch-in-Refused : goal.shape_of-scratch-in-Refused
-shape_of-scratch-in-Refused c = search (rules, c.restore.auto, c.upserted-done.auto, c.clear_marks.auto)
+pub returns-else-is_err-clause-answer : goal.returns-else-is_err-clause-answer
+returns-else-is_err-clause-answer c =
+    undone_answer _ _ _ _ _ _ _ _ _ _ _ (marks_state _ _ _ _ _ _ c.requires.trusts c.clear_marks.ensures) c.upserted-done.ensures.answer
 
-pub returns-in-Refused : goal.returns-in-Refused
-returns-in-Refused c =
-    record { answer = undone_refused _ _ _ _ _ _ _ _ _ _ _ (marks_state _ _ _ _ _ _ c.requires.trusts c.clear_marks.ensures) c.upserted-done.ensures.answer _ _ _ c.in-Refused.is; left = undone _ _ _ _ _ _ c.requires.trusts c.clear_marks.ensures _ _ c.upserted-done.ensures.follows _ _ c.restore.ensures c.upserted-done.auto.heads c.upserted-done.auto.bytes c.restore.auto.heads c.restore.auto.bytes 0 }
-
-pub shape_of-heads-in-Done : goal.shape_of-heads-in-Done
-shape_of-heads-in-Done c = search (rules, c.upserted-done.auto, c.clear_marks.auto)
-
-pub shape_of-bytes-in-Done : goal.shape_of-bytes-in-Done
-shape_of-bytes-in-Done c = search (rules, c.upserted-done.auto, c.clear_marks.auto)
-
-pub shape_of-scratch-in-Done : goal.shape_of-scratch-in-Done
-shape_of-scratch-in-Done c = search (rules, c.upserted-done.auto, c.clear_marks.auto)
-
-pub returns-in-Done : goal.returns-in-Done
-returns-in-Done c =
-    record { answer = undone_done _ _ _ _ _ _ _ _ _ _ _ (marks_state _ _ _ _ _ _ c.requires.trusts c.clear_marks.ensures) c.upserted-done.ensures.answer _ c.in-Done.is; left = undone_trusts _ _ _ _ _ _ _ _ _ _ _ (marks_state _ _ _ _ _ _ c.requires.trusts c.clear_marks.ensures) c.upserted-done.ensures.answer _ c.in-Done.is c.requires.trusts c.requires.entry.0 c.upserted-done.ensures.ready }
+pub returns-else-is_err-clause-left : goal.returns-else-is_err-clause-left
+returns-else-is_err-clause-left c =
+    let p = c.requires in
+    let d = c.upserted-done.ensures in
+    edited_called _ _ _ _ _ _ _ _ c.if-is_err.ensures.value
+    (λ u z. undone_trusts _ _ _ _ _ _ _ _ _ _ _ (marks_state _ _ _ _ _ _ p.trusts c.clear_marks.ensures) d.answer u z p.trusts p.entry.0 d.ready)

@@ -1,4 +1,6 @@
-use mathlib.Core.Path.{◌∙◌}
+use Rattle.tree.specs.laws.base.Refused.{handed_on}
+use mathlib.Core.Path.{◌≡◌, ◌∙◌}
+use Prim.Native.Nat.{ℕ, ◌+◌, ◌-◌, ◌<◌}
 use lib.ListN.{length-set}
 use Rattle.tree.specs.laws.load.Way.{ready_at}
 use native.Mathlib.Omega.{arith}
@@ -10,9 +12,10 @@ use Rattle.tree.proofs.editor.Tree.way_down.Goals as goal
 
 ruleset laws = (rules, way_start, none_in_lem, turn_refused, turn_in, turn_down, way_end, follows_same)
 
-pub loop-d-init : goal.loop-d-init
-loop-d-init c =
-    (search laws, search laws, search laws, search laws, search laws, search laws, search laws, search laws, search laws, follows_same _ _ _ _ _)
+pub loop-k-init : goal.loop-k-init
+loop-k-init c =
+    let e : c.args.level - 0 ≡ c.args.level = omega arith in
+    (search laws, search laws, search laws, search laws, search laws, search laws, rw e (way_start _ _ _ _ _ _ _), search laws, follows_same _ _ _ _ _)
 
 pub way_index-i-requires : goal.way_index-i-requires
 way_index-i-requires c = search laws
@@ -32,49 +35,17 @@ offset_bounds-kids-k c = search laws
 pub bounds-kids-k : goal.bounds-kids-k
 bounds-kids-k c = search laws
 
-pub load_child-got-requires : goal.load_child-got-requires
-load_child-got-requires c = search laws
+pub offset_bounds-way-last : goal.offset_bounds-way-last
+offset_bounds-way-last c = search laws
 
-pub enum_known-got : goal.enum_known-got
-enum_known-got c = search laws
+pub bounds-way-last : goal.bounds-way-last
+bounds-way-last c = search laws
 
-pub shape_of-heads-in-Refused : goal.shape_of-heads-in-Refused
-shape_of-heads-in-Refused c = search laws
+pub offset_bounds-kids-last : goal.offset_bounds-kids-last
+offset_bounds-kids-last c = search laws
 
-pub shape_of-bytes-in-Refused : goal.shape_of-bytes-in-Refused
-shape_of-bytes-in-Refused c = search laws
-
-pub returns-in-Refused : goal.returns-in-Refused
-returns-in-Refused c =
-    record { answer = turn_refused _ _ _ _ _ _ c.child_bounds-inner.result _ _ _ _ _ _ _ _ c.loop-d-test.true c.way_index-i.ensures c.loop-d.invariant.7 _ _ _ c.load_child-got.ensures.answer _ c.in-Refused.is _ _ _; ready = tt; follows = follows_on _ _ _ _ _ _ _ _ _ _ c.loop-d.invariant.9 c.load_child-got.ensures.follows c.loop-d.invariant.8 }
-
-pub enum_known-got-in-At-1 : goal.enum_known-got-in-At-1
-enum_known-got-in-At-1 c = search laws
-
-pub overflow_add-k : goal.overflow_add-k
-overflow_add-k c = omega (arith, c.loop-d.invariant.0, c.requires.level_bound)
-
-pub overflow_sub-d : goal.overflow_sub-d
-overflow_sub-d c = omega (arith, c.loop-d-test.true)
-
-pub loop-d-smaller : goal.loop-d-smaller
-loop-d-smaller c = omega (arith, c.loop-d-test.true)
-
-pub loop-d-preserved : goal.loop-d-preserved
-loop-d-preserved c =
-    (omega (arith, c.loop-d-test.true, c.loop-d.invariant.0), search (rules, c.load_child-got.auto, c.loop-d.invariant), search (rules, c.load_child-got.auto, c.loop-d.invariant), length-set c.loop-d.way _ _ ∙ c.loop-d.invariant.3, length-set c.loop-d.kids _ _ ∙ c.loop-d.invariant.4, turn_in _ _ _ _ _ _ c.child_bounds-inner.result _ _ _ _ _ _ _ _ c.loop-d-test.true c.way_index-i.ensures c.loop-d.invariant.7 _ _ _ c.load_child-got.ensures.answer _ _ c.in-At.is c.loop-d.invariant.5 c.child_bounds-inner.ensures.bounds c.child_bounds-inner.ensures.within, ready_at _ _ _ _ _ _ _ c.in-At.is c.load_child-got.ensures.ready, turn_down _ _ _ _ _ _ c.child_bounds-inner.result _ _ _ _ _ _ _ _ c.loop-d-test.true c.way_index-i.ensures c.loop-d.invariant.7 _ _ _ c.load_child-got.ensures.answer _ _ c.in-At.is c.loop-d.invariant.5 c.child_bounds-inner.ensures.bounds c.child_bounds-inner.ensures.within (omega (arith, c.loop-d-test.true, c.loop-d.invariant.0, c.loop-d.invariant.3, c.requires.level_bound)) (omega (arith, c.loop-d-test.true, c.loop-d.invariant.0, c.loop-d.invariant.4, c.requires.level_bound)), omega (arith, c.loop-d.invariant.8, turn_more _ _ _ _ _ _ c.child_bounds-inner.result _ _ _ _ _ _ _ _ c.loop-d-test.true c.way_index-i.ensures c.loop-d.invariant.7 _ _ _ c.load_child-got.ensures.answer _ _ c.in-At.is), follows_on _ _ _ _ _ _ _ _ _ _ c.loop-d.invariant.9 c.load_child-got.ensures.follows c.loop-d.invariant.8)
-
-pub offset_bounds-way-k-2 : goal.offset_bounds-way-k-2
-offset_bounds-way-k-2 c = search laws
-
-pub bounds-way-k-2 : goal.bounds-way-k-2
-bounds-way-k-2 c = search laws
-
-pub offset_bounds-kids-k-2 : goal.offset_bounds-kids-k-2
-offset_bounds-kids-k-2 c = search laws
-
-pub bounds-kids-k-2 : goal.bounds-kids-k-2
-bounds-kids-k-2 c = search laws
+pub bounds-kids-last : goal.bounds-kids-last
+bounds-kids-last c = search laws
 
 pub overflow_add-result : goal.overflow_add-result
 overflow_add-result c = search laws
@@ -87,4 +58,43 @@ shape_of-bytes c = search laws
 
 pub returns : goal.returns
 returns c =
-    record { answer = way_end _ _ _ _ _ _ _ _ _ _ _ _ _ c.loop-d-test.false (omega (arith, c.loop-d.invariant.0, c.loop-d.invariant.3, c.requires.level_bound)) (omega (arith, c.loop-d.invariant.0, c.loop-d.invariant.4, c.requires.level_bound)) c.loop-d.invariant.7; ready = c.loop-d.invariant.6; follows = c.loop-d.invariant.9 }
+    let o = c.loop-k.invariant in
+    let p = c.requires.level_bound in
+    let e : c.loop-k.k ≡ c.args.level = omega (arith, c.loop-k-test.false, c.loop-k.auto.k-end) in
+    record {
+      answer = way_end _ _ _ _ _ _ _ (c.args.level - c.args.level) _ _ _ _ _ (omega arith) (omega (arith, p, o.2)) (omega (arith, p, o.3)) (rw e at o.6);
+      ready = o.5;
+      follows = o.8;
+    }
+
+pub loop-k-preserved : goal.loop-k-preserved
+loop-k-preserved c =
+    let p = c.requires.level_bound in
+    let k = c.loop-k-test.true in
+    let x = c.in_ok-u.was in
+    let o = c.loop-k.invariant in
+    let d : ℕ = c.args.level - c.loop-k.k in
+    let hd : 0 < d = omega (arith, c.loop-k-test.true) in
+    let e : c.args.level - (c.loop-k.k + 1) ≡ d - 1 = omega arith in (
+      search (rules, c.load_child.auto, c.loop-k.invariant),
+      search (rules, c.load_child.auto, c.loop-k.invariant),
+      length-set c.loop-k.way _ _ ∙ o.2,
+      length-set c.loop-k.kids _ _ ∙ o.3,
+      turn_in _ _ _ _ _ _ c.child_bounds-inner.result _ _ d _ _ _ _ _ hd c.way_index-i.ensures o.6 _ _ _ c.load_child.ensures.answer _ _ x o.4 c.child_bounds-inner.ensures.bounds c.child_bounds-inner.ensures.within,
+      ready_at _ _ _ _ _ _ _ x c.load_child.ensures.ready,
+      rw e (turn_down _ _ _ _ _ _ c.child_bounds-inner.result _ _ d _ _ _ _ _ hd c.way_index-i.ensures o.6 _ _ _ c.load_child.ensures.answer _ _ x o.4 c.child_bounds-inner.ensures.bounds c.child_bounds-inner.ensures.within (omega (arith, k, p, o.2)) (omega (arith, k, p, o.3))),
+      omega (arith, o.7, turn_more _ _ _ _ _ _ c.child_bounds-inner.result _ _ d _ _ _ _ _ hd c.way_index-i.ensures o.6 _ _ _ c.load_child.ensures.answer _ _ x),
+      follows_on _ _ _ _ _ _ _ _ _ _ o.8 c.load_child.ensures.follows o.7,
+    )
+
+pub returns-in_err-u-clause-answer : goal.returns-in_err-u-clause-answer
+returns-in_err-u-clause-answer c =
+    let o = c.loop-k.invariant in
+    let d : ℕ = c.args.level - c.loop-k.k in
+    let hd : 0 < d = omega (arith, c.loop-k-test.true) in
+    rw (handed_on c.from_residual.result _ c.from_residual.ensures.1) (turn_refused _ _ _ _ _ _ c.child_bounds-inner.result _ _ d _ _ _ _ _ hd c.way_index-i.ensures o.6 _ _ _ c.load_child.ensures.answer _ c.in_err-u.was)
+
+pub returns-in_err-u-clause-follows : goal.returns-in_err-u-clause-follows
+returns-in_err-u-clause-follows c =
+    let o = c.loop-k.invariant in
+    follows_on _ _ _ _ _ _ _ _ _ _ o.8 c.load_child.ensures.follows o.7
