@@ -1,5 +1,7 @@
 -- What flush's answer means, of the image, the slots and the lists that it leaves.
-use Rattle.std.specs.Prelude.{◌≡◌, List, [], ◌∷◌, ◌++◌, true, cond, ℕ, zero, suc, length, get_or, take, drop, eqb}
+use Rattle.std.specs.Prelude.{◌≡◌, List, [], ◌∷◌, ◌++◌, true, cond, ℕ, zero, suc, length, get_or, take, drop, eqb, Ok, Err}
+use Rattle.std.specs.Prelude as std
+use Rattle.tree.specs.Refusals.{Refusal, number_of}
 use Rattle.tree.specs.Format.{Result, ok, refused}
 use Rattle.tree.specs.Lent.{Lent}
 use Rattle.tree.specs.Workspace.{nodes_of, workspace_holds, called}
@@ -7,8 +9,6 @@ use Rattle.tree.specs.declared.editor.Tree.{Tree}
 use Rattle.flush.specs.Space.{Space}
 use Rattle.flush.specs.Flush.{Flushed, Lists, flush}
 use Rattle.flush.specs.declared.flush.Flushed as done
-use Rattle.flush.specs.declared.flush.Answer.{Answer}
-use Rattle.flush.specs.declared.flush.Answer.TheVariants as answer
 
 -- the first k pairs of two lists: `moved` is lent as a list of ids and a list of addresses
 unfoldable pub pairs_of : ℕ → List ℕ → List ℕ → List (ℕ × ℕ)
@@ -44,9 +44,10 @@ flushed_of size t image p heads bytes freed removed ids places f =
     }
 
 -- flush's answer: a refusal, or what was flushed
-unfoldable pub flushed_means : ℕ → Tree → List ℕ → Space → List ℕ → List ℕ → List ℕ → List ℕ → List ℕ → List ℕ → Answer → Result Flushed
-flushed_means size t image p heads bytes freed removed ids places (answer.Refused x) = refused x
-flushed_means size t image p heads bytes freed removed ids places (answer.Done f) = ok
+unfoldable pub flushed_means : ℕ → Tree → List ℕ → Space → List ℕ → List ℕ → List ℕ → List ℕ → List ℕ → List ℕ → std.Result done.Flushed Refusal
+    → Result Flushed
+flushed_means size t image p heads bytes freed removed ids places (Err x) = refused (number_of x)
+flushed_means size t image p heads bytes freed removed ids places (Ok f) = ok
     (flushed_of size t image p heads bytes freed removed ids places f)
 
 -- flush on lent words and bytes: 1 of the workspace, then flush
@@ -74,8 +75,8 @@ pub record Beyond (f : done.Flushed) (freed freed' removed removed' ids ids' pla
 -- what is left beside what was flushed; after an accepted flush the slots are such that the next call accepts them
 abbrev pub flushed_leaves : ℕ → ℕ → Tree → List ℕ → List ℕ → Space → Space → List ℕ → List ℕ → List ℕ → List ℕ → List ℕ → List ℕ → List ℕ
     → List ℕ → List ℕ
-    → List ℕ → List ℕ → Answer → Type 0
-flushed_leaves size slots t image image' p p' heads heads' bytes freed freed' removed removed' ids ids' places places' (answer.Refused x) =
+    → List ℕ → List ℕ → std.Result done.Flushed Refusal → Type 0
+flushed_leaves size slots t image image' p p' heads heads' bytes freed freed' removed removed' ids ids' places places' (Err x) =
     Untouched image image' p p' heads heads' freed freed' removed removed' ids ids' places places'
-flushed_leaves size slots t image image' p p' heads heads' bytes freed freed' removed removed' ids ids' places places' (answer.Done f) =
+flushed_leaves size slots t image image' p p' heads heads' bytes freed freed' removed removed' ids ids' places places' (Ok f) =
     Beyond f freed freed' removed removed' ids ids' places places' × (workspace_holds size slots t.used heads' bytes ≡ true)

@@ -16,7 +16,8 @@ ghost use Rattle.flush.specs.internal.Calls.{short_of, all_flushed, Finished, Fl
 use crate::space;
 use tree::editor::Tree;
 use tree::lent::Lent;
-use tree::{bank, block, kids, lent, pack, refusal};
+use tree::refusal::Refusal;
+use tree::{bank, block, kids, lent, pack};
 
 // B-tree root and node, and the storage class of a physical one.
 const BTREE: u64 = 2;
@@ -46,12 +47,6 @@ pub struct Flushed {
     pub keys: u64,
     pub fill: u64,
     pub done: Flushing,
-}
-
-#[derive(Clone, Copy)]
-pub enum Answer {
-    Refused(u64),
-    Done(Flushed),
 }
 
 // A number that a mark says is there, stored where a list ends. The answer is the list's new end.
@@ -101,14 +96,12 @@ fn dead_reports(
     ensures { Reported t.by_id t.used next heads.now freed.old removed.old
         freed.new removed.new result }
 {
-    let mut f: usize = 0;
-    let mut r: usize = 0;
-    let mut n: usize = 0;
-    while n < t.used {
+    let mut f = 0;
+    let mut r = 0;
+    for n in 0..t.used {
         let h = block::words_at(heads, n);
         f = push_if(freed, f, left_place(h.dead == 1, h.placed), h.block);
         r = push_if(removed, r, dead_name(h.dead, t.by_id, h.named), h.id);
-        n += 1;
     }
     Flushing {
         next: next,
@@ -183,16 +176,14 @@ fn count_from(
         return sum;
     }
     let part = bank::slot_of(bytes, size, n);
-    let mut i: u64 = 0;
-    let mut at: usize = 0;
-    while i < h.count {
+    let mut at = 0;
+    for _i in 0..h.count {
         let kid = kids::kid_of(part, at);
         at = kid.next;
-        i += 1;
-        if !kid.loaded {
+        let Some(slot) = kid.slot else {
             continue;
-        }
-        sum = count_from(t, heads, bytes, size, slots, kid.slot, d - 1, limit, sum);
+        };
+        sum = count_from(t, heads, bytes, size, slots, slot, d - 1, limit, sum);
     }
     sum
 }
@@ -229,7 +220,7 @@ fn fresh(by_id: bool, named: u64) -> u64
     if named == 1 {
         return 0;
     }
-    bank::one_if(by_id)
+    u64::from(by_id)
 }
 
 // The id of a node that is written: the next where it takes one, else its own.
@@ -330,7 +321,7 @@ fn write_at(
     let f = push_if(freed, w.freed, left, h.block);
     pack_at(t, image, heads, bytes, size, slots, n, a, oid, xid);
     block::rewrite(heads, n, a as u64, named_after(t.by_id, h.named), id);
-    let moves = bank::one_if(t.by_id);
+    let moves = u64::from(t.by_id);
     let m = push_if(ids, w.moved, moves, oid);
     push_if(places, w.moved, moves, a as u64);
     Flushing {
@@ -380,10 +371,10 @@ fn write_node(
     if h.dirty != 1 {
         return w;
     }
-    let chosen = space::alloc(bitmap, counts, free, size);
-    let space::Answer::Block { chunk: _, block: a } = chosen else {
+    let Some(choice) = space::alloc(bitmap, counts, free, size) else {
         return w;
     };
+    let a = choice.block;
     write_at(
         t, image, heads, bytes, freed, ids, places, size, slots, xid, n, a, w,
     )
@@ -433,15 +424,13 @@ fn write_from(
     let h = block::words_at(heads, n);
     let part = bank::slot_of(bytes, size, n);
     let mut v = w;
-    let mut i: u64 = 0;
-    let mut at: usize = 0;
-    while i < h.count {
+    let mut at = 0;
+    for _i in 0..h.count {
         let kid = kids::kid_of(part, at);
         at = kid.next;
-        i += 1;
-        if !kid.loaded {
+        let Some(slot) = kid.slot else {
             continue;
-        }
+        };
         v = write_from(
             t,
             image,
@@ -456,7 +445,7 @@ fn write_from(
             size,
             slots,
             xid,
-            kid.slot,
+            slot,
             d - 1,
             v,
         );
@@ -498,7 +487,7 @@ fn lists_hold(
     places.len() == slots
 }
 
-// 16 fewer usable blocks than dirty nodes reached, 17 too few ids left; 0 for neither.
+// 16 fewer usable blocks than dirty nodes reached, 17 too few ids left.
 fn short_of(
     t: Tree,
     bitmap: &[u8],
@@ -509,7 +498,7 @@ fn short_of(
     size: usize,
     slots: usize,
     next: u64,
-) -> u64
+) -> Result<(), Refusal>
     requires ready { Ready size slots t.used heads.now bytes.now }
     requires held { Held size (space_of bitmap.now counts.now free.now) }
     ensures { result ≡ short_of (state_of size t heads.now bytes.now)
@@ -520,12 +509,12 @@ fn short_of(
     let none = Wanted { dirty: 0, ids: 0 };
     let wanted = count_from(t, heads, bytes, size, slots, t.root, level, most, none);
     if most < wanted.dirty {
-        return refusal::FULL;
+        return Err(Refusal::Full);
     }
     if MOST_ID - wanted.ids < next {
-        return refusal::COUNT;
+        return Err(Refusal::Count);
     }
-    0
+    Ok(())
 }
 
 // Dead nodes listed, then the walk from the root. There are blocks, ids and room enough.
@@ -591,7 +580,7 @@ pub fn flush_in(
     lent: Lent,
     xid: u64,
     next: u64,
-) -> Answer
+) -> Result<Flushed, Refusal>
     requires ready { Ready lent.size lent.slots t.used heads.old bytes.now }
     requires bytes_value { trusted (lent_of image.old lent) (state_of lent.size t heads.old bytes.now) ≡ true }
     ensures answer { flushed_means lent.size t image.new (space_of bitmap.new counts.now free.new)
@@ -611,17 +600,14 @@ pub fn flush_in(
     if !lists_hold(
         bitmap, counts, free, freed, removed, ids, places, size, slots, blocks,
     ) {
-        return Answer::Refused(refusal::LENT);
+        return Err(Refusal::Lent);
     }
-    let short = short_of(t, bitmap, counts, free, heads, bytes, size, slots, next);
-    if short != 0 {
-        return Answer::Refused(short);
-    }
+    short_of(t, bitmap, counts, free, heads, bytes, size, slots, next)?;
     let all = write_all(
         t, image, bitmap, counts, free, heads, bytes, freed, removed, ids, places, size, slots,
         xid, next,
     );
-    Answer::Done(all)
+    Ok(all)
 }
 
 // What was changed is written, and the lists are filled: 1; 16; 17.
@@ -640,7 +626,7 @@ pub fn flush(
     lent: Lent,
     xid: u64,
     next: u64,
-) -> Answer
+) -> Result<Flushed, Refusal>
     ensures answer { flushed_means lent.size t image.new (space_of bitmap.new counts.now free.new)
         heads.new bytes.now freed.new removed.new ids.new places.new result
         ≡ flushed_in (lent_of image.old lent) (space_of bitmap.old counts.now free.old)
@@ -653,7 +639,7 @@ pub fn flush(
         ids.old ids.new places.old places.new result }
 {
     if !lent::lent_holds(t, image, heads, bytes, lent) {
-        return Answer::Refused(refusal::LENT);
+        return Err(Refusal::Lent);
     }
     flush_in(
         t, image, bitmap, counts, free, heads, bytes, freed, removed, ids, places, lent, xid, next,

@@ -1,20 +1,13 @@
 // Blocks: the bitmap's bits, the choice of a block, the usable blocks (`alloc` of write/space.rs).
 // A chunk's block count and free count are u32, as they are lent (RULES: lent).
-ghost use Rattle.std.specs.Prelude.{◌≡◌, [], cond, ◌+◌, ◌*◌, ◌/◌, ◌%◌, ◌≤◌, ◌<◌, ◌^◌, length, get_or, eqb};
-ghost use Rattle.flush.specs.Space.{chunk_blocks, is_used, mark_used, first_zero, first_free, found_means, zeros_below, zeros, choose, choice_means, space_of, allocated, lesser, usable, chunks_hold, space_holds, Held};
+ghost use Rattle.std.specs.Prelude.{◌≡◌, [], cond, ◌+◌, ◌*◌, ◌/◌, ◌%◌, ◌≤◌, ◌<◌, ◌^◌, length, get_or, eqb, option_to_list};
+ghost use Rattle.flush.specs.Space.{chunk_blocks, is_used, mark_used, first_zero, first_free, zeros_below, zeros, choose, choice_means, space_of, allocated, lesser, usable, chunks_hold, space_holds, Held};
 
-// A block that was looked for.
+// The block that an allocation takes, and its chunk.
 #[derive(Clone, Copy)]
-pub enum Found {
-    At(usize),
-    Nothing,
-}
-
-// The block that an allocation takes, and its chunk; or that no chunk has one.
-#[derive(Clone, Copy)]
-pub enum Answer {
-    Block { chunk: usize, block: usize },
-    Full,
+pub struct Choice {
+    pub chunk: usize,
+    pub block: usize,
 }
 
 // The lowest 0 bit of a byte, 8 if there is none.
@@ -41,22 +34,20 @@ pub fn mark_used(bitmap: &mut [u8], a: usize)
 }
 
 // The lowest of n blocks from a on that is free, a whole byte at a time: a chunk's bits start at a byte.
-pub fn first_free(bitmap: &[u8], a: usize, n: usize) -> Found
+pub fn first_free(bitmap: &[u8], a: usize, n: usize) -> Option<usize>
     requires { (a % 8 ≡ 0) × (a + n ≤ 8 * length bitmap.now) × (length bitmap.now ≤ 2 ^ 25) }
-    ensures { found_means result ≡ first_free bitmap.now n a }
+    ensures { option_to_list result ≡ first_free bitmap.now n a }
 {
-    let mut i: usize = 0;
-    while i < n {
+    for i in (0..n).step_by(8) {
         let z = first_zero(bitmap[(a + i) / 8]);
         if z < 8 {
             if i + z < n {
-                return Found::At(a + i + z);
+                return Some(a + i + z);
             }
-            return Found::Nothing;
+            return None;
         }
-        i += 8;
     }
-    Found::Nothing
+    None
 }
 
 // How many of the lowest m bits of a byte are 0.
@@ -68,73 +59,54 @@ fn zeros_in(byte: u8, m: usize) -> usize
     m - u32::count_ones(byte as u32 & mask) as usize
 }
 
-// The smaller of two numbers.
-fn lesser(a: usize, b: usize) -> usize
-    ensures { (result ≡ lesser a b) × (result ≤ b) }
-{
-    if a <= b {
-        return a;
-    }
-    b
-}
-
 // How many of n blocks from a on are free, a whole byte at a time.
 pub fn zeros(bitmap: &[u8], a: usize, n: usize) -> usize
     requires { (a % 8 ≡ 0) × (a + n ≤ 8 * length bitmap.now) × (length bitmap.now ≤ 2 ^ 25) }
     ensures { (result ≡ zeros bitmap.now n a) × (result ≤ n) }
 {
-    let mut i: usize = 0;
-    let mut sum: usize = 0;
-    while i < n {
-        let m = lesser(n - i, 8);
-        sum += zeros_in(bitmap[(a + i) / 8], m);
-        i += 8;
+    let mut sum = 0;
+    for i in (0..n).step_by(8) {
+        sum += zeros_in(bitmap[(a + i) / 8], (n - i).min(8));
     }
     sum
 }
 
 // The lowest free block of a chunk; none where its free count is 0.
-fn free_in(bitmap: &[u8], counts: &[u32], free: &[u32], size: usize, c: usize) -> Found
+fn free_in(bitmap: &[u8], counts: &[u32], free: &[u32], size: usize, c: usize) -> Option<usize>
     requires { Held size (space_of bitmap.now counts.now free.now) × (c < length counts.now) }
-    ensures { found_means result
+    ensures { option_to_list result
         ≡ cond (eqb (get_or free.now c 0) 0) [] (first_free bitmap.now (get_or counts.now c 0) (c * chunk_blocks size)) }
 {
     if free[c] == 0 {
-        return Found::Nothing;
+        return None;
     }
     first_free(bitmap, c * (8 * size), counts[c] as usize)
 }
 
 // The block to take: the lowest free one of the first chunk that has one and a free count.
-pub fn choose(bitmap: &[u8], counts: &[u32], free: &[u32], size: usize) -> Answer
+pub fn choose(bitmap: &[u8], counts: &[u32], free: &[u32], size: usize) -> Option<Choice>
     requires { Held size (space_of bitmap.now counts.now free.now) }
     ensures { choice_means result ≡ choose size (space_of bitmap.now counts.now free.now) }
 {
-    let mut c = 0;
-    while c < counts.len() {
-        let found = free_in(bitmap, counts, free, size, c);
-        if let Found::At(block) = found {
-            return Answer::Block { chunk: c, block };
+    for c in 0..counts.len() {
+        if let Some(block) = free_in(bitmap, counts, free, size, c) {
+            return Some(Choice { chunk: c, block });
         }
-        c += 1;
     }
-    Answer::Full
+    None
 }
 
 // Takes the block chosen: its bit set, its chunk's free count less one.
-pub fn alloc(bitmap: &mut [u8], counts: &[u32], free: &mut [u32], size: usize) -> Answer
+pub fn alloc(bitmap: &mut [u8], counts: &[u32], free: &mut [u32], size: usize) -> Option<Choice>
     requires { Held size (space_of bitmap.old counts.now free.old) }
     ensures answer { choice_means result ≡ choose size (space_of bitmap.old counts.now free.old) }
     ensures after { space_of bitmap.new counts.now free.new
         ≡ allocated size (space_of bitmap.old counts.now free.old) }
 {
-    let chosen = choose(bitmap, counts, free, size);
-    let Answer::Block { chunk, block } = chosen else {
-        return Answer::Full;
-    };
-    mark_used(bitmap, block);
-    free[chunk] -= 1;
-    chosen
+    let choice = choose(bitmap, counts, free, size)?;
+    mark_used(bitmap, choice.block);
+    free[choice.chunk] -= 1;
+    Some(choice)
 }
 
 // The usable blocks of a chunk: the smaller of its free count and its 0 bits.
@@ -145,7 +117,7 @@ fn usable_in(bitmap: &[u8], counts: &[u32], free: &[u32], size: usize, c: usize)
         (zeros bitmap.now (get_or counts.now c 0) (c * chunk_blocks size))) × (result ≤ 8 * size) }
 {
     let all = zeros(bitmap, c * (8 * size), counts[c] as usize);
-    lesser(free[c] as usize, all)
+    all.min(free[c] as usize)
 }
 
 // The usable blocks of all chunks.
@@ -153,11 +125,9 @@ pub fn usable(bitmap: &[u8], counts: &[u32], free: &[u32], size: usize) -> u64
     requires { Held size (space_of bitmap.now counts.now free.now) }
     ensures { result ≡ usable size (space_of bitmap.now counts.now free.now) }
 {
-    let mut c: usize = 0;
-    let mut sum: usize = 0;
-    while c < counts.len() {
+    let mut sum = 0;
+    for c in 0..counts.len() {
         sum += usable_in(bitmap, counts, free, size, c);
-        c += 1;
     }
     sum as u64
 }
@@ -167,18 +137,16 @@ pub fn usable(bitmap: &[u8], counts: &[u32], free: &[u32], size: usize) -> u64
 pub fn chunks_hold(counts: &[u32], size: usize, blocks: usize) -> bool
     ensures { result ≡ chunks_hold size blocks 0 counts.now }
 {
-    let mut c: usize = 0;
     let mut left = blocks;
-    while c < counts.len() {
-        let n = counts[c] as usize;
-        if size < (n + 7) / 8 {
+    for (c, &count) in counts.iter().enumerate() {
+        let n = count as usize;
+        if size < n.div_ceil(8) {
             return false;
         }
         if left < n {
             return false;
         }
-        c += 1;
-        if c == counts.len() {
+        if c + 1 == counts.len() {
             return true;
         }
         if left / 8 < size {

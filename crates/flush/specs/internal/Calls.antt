@@ -1,5 +1,6 @@
 -- Flush from above: what is counted first, and what is left in the end.
-use Rattle.std.specs.Prelude.{List, [], cond, ℕ, ◌+◌, ◌-◌, ◌^◌, leb}
+use Rattle.std.specs.Prelude.{List, [], cond, ℕ, ◌+◌, ◌-◌, ◌^◌, leb, Ok, Err, ⊤}
+use Rattle.std.specs.Prelude as std
 use Rattle.tree.specs.Refusals as refusal
 use Rattle.tree.specs.State.{State}
 use Rattle.tree.specs.Workspace.{state_of}
@@ -9,14 +10,13 @@ use Rattle.flush.specs.Space.{Space}
 use Rattle.flush.specs.Flush.{Flushed, dirty_reached, ids_wanted, flushed}
 use Rattle.flush.specs.Answers.{Untouched, Beyond}
 use Rattle.flush.specs.declared.flush.Flushed as done
-use Rattle.flush.specs.declared.flush.Answer.{Answer}
-use Rattle.flush.specs.declared.flush.Answer.TheVariants as answer
 use Rattle.flush.specs.internal.Lists.{Past}
 use Rattle.flush.specs.internal.Walk.{Alike}
 
--- 16, or 17, or 0 for neither. u: the usable blocks
-unfoldable pub short_of : State → ℕ → ℕ → ℕ
-short_of s u next = cond (leb (dirty_reached s) u) (cond (leb (next + ids_wanted s) (2 ^ 64 - 1)) 0 refusal.count) refusal.full
+-- 16, or 17, if there are too few blocks or ids. u: the usable blocks
+unfoldable pub short_of : State → ℕ → ℕ → std.Result ⊤ refusal.Refusal
+short_of s u next =
+    cond (leb (dirty_reached s) u) (cond (leb (next + ids_wanted s) (2 ^ 64 - 1)) (Ok tt) (Err refusal.Count)) (Err refusal.Full)
 
 -- all of it, of what is lent to the code: of what is lent only the image counts
 unfoldable pub all_flushed : ℕ → Tree → List ℕ → Space → List ℕ → List ℕ → ℕ → ℕ → Flushed
@@ -35,8 +35,8 @@ pub record Finished (size slots : ℕ) (t : Tree) (heads heads' bytes fs fs' rs 
 -- what a flush on trusted slots leaves: refused, all as it was; accepted, slots that are ready, with the entries that they had
 abbrev pub FlushCalled : ℕ → ℕ → Tree → List ℕ → List ℕ → Space → Space → List ℕ → List ℕ → List ℕ → List ℕ → List ℕ → List ℕ → List ℕ
     → List ℕ → List ℕ
-    → List ℕ → List ℕ → Answer → Type 0
-FlushCalled size slots t image image' p p' heads heads' bytes fs fs' rs rs' is is' ps ps' (answer.Refused x) =
+    → List ℕ → List ℕ → std.Result done.Flushed refusal.Refusal → Type 0
+FlushCalled size slots t image image' p p' heads heads' bytes fs fs' rs rs' is is' ps ps' (Err x) =
     Untouched image image' p p' heads heads' fs fs' rs rs' is is' ps ps'
-FlushCalled size slots t image image' p p' heads heads' bytes fs fs' rs rs' is is' ps ps' (answer.Done f) =
+FlushCalled size slots t image image' p p' heads heads' bytes fs fs' rs rs' is is' ps ps' (Ok f) =
     Beyond f fs fs' rs rs' is is' ps ps' × Ready size slots t.used heads' bytes × Alike (state_of size t heads bytes) (state_of size t heads' bytes)

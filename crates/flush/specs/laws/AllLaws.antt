@@ -23,6 +23,8 @@ use Rattle.flush.specs.laws.ListLaws.{numbers_length, pairs_length, numbers_take
 use Rattle.flush.specs.laws.WalkLaws.{with_removed, write_removed}
 use Rattle.flush.specs.laws.WriteLaws.{number_same}
 use Rattle.flush.specs.laws.OutcomeLaws.{dirty_reached_lem, ids_wanted_lem}
+use Rattle.std.specs.Prelude.{Ok, Err}
+use Rattle.tree.specs.Refusals as refusal
 
 -- ---- 1 of chunks and lists
 
@@ -109,7 +111,7 @@ module _ (size : ℕ) (t : Tree) (heads bytes : List ℕ) (u next level : ℕ) (
   unfolding state_of
   ids_are = rw el (ids_wanted_lem s)
 
-  pub short_full : u < x.dirty → 16 ≡ short_of (state_of size t heads bytes) v next
+  pub short_full : u < x.dirty → Err refusal.Full ≡ short_of (state_of size t heads bytes) v next
   unfolding short_of
   short_full h = rw (← ev, lt-leb (dirty_reached s) u (omega (arith, c.over h, nodes_are)))
 
@@ -120,11 +122,11 @@ module _ (size : ℕ) (t : Tree) (heads bytes : List ℕ) (u next level : ℕ) (
     pub short_ids : u < 2 ^ 32 → x.ids ≤ 18446744073709551615
     short_ids k = omega (arith, c.few)
 
-    pub short_count : 18446744073709551615 - x.ids < next → 17 ≡ short_of (state_of size t heads bytes) v next
+    pub short_count : 18446744073709551615 - x.ids < next → Err refusal.Count ≡ short_of (state_of size t heads bytes) v next
     unfolding short_of
     short_count k = rw (← ev, few_so, lt-leb (next + ids_wanted s) (2 ^ 64 - 1) (omega (arith, c.ids h, ids_are)))
 
-    pub short_none : u < 2 ^ 32 → next ≤ 18446744073709551615 - x.ids → 0 ≡ short_of (state_of size t heads bytes) v next
+    pub short_none : u < 2 ^ 32 → next ≤ 18446744073709551615 - x.ids → Ok tt ≡ short_of (state_of size t heads bytes) v next
     unfolding short_of
     short_none b k = rw (← ev, few_so, le-leb (next + ids_wanted s) (2 ^ 64 - 1) (omega (arith, c.ids h, ids_are, c.few)))
 

@@ -31,13 +31,13 @@ use Rattle.flush.specs.Space.{Space, usable, space_holds}
 use Rattle.flush.specs.Flush.{Flushed, Lists, dirty_reached, ids_wanted, flushed, lists_hold, flush_in, flush}
 use Rattle.flush.specs.Answers.{lists_of, flushed_of, flushed_means, flushed_in, Untouched, Beyond, flushed_leaves}
 use Rattle.flush.specs.declared.flush.Flushed as done
-use Rattle.flush.specs.declared.flush.Answer.{Answer}
-use Rattle.flush.specs.declared.flush.Answer.TheVariants as answer
 use Rattle.flush.specs.internal.Lists.{Past}
 use Rattle.flush.specs.internal.Walk.{Alive, Standing, Spaced, Alike, Fitting}
 use Rattle.flush.specs.internal.Calls.{short_of, all_flushed, Finished, FlushCalled}
 use Rattle.flush.specs.laws.ListLaws.{marked_most}
 use Rattle.flush.specs.laws.OutcomeLaws.{flush_fits}
+use Rattle.std.specs.Prelude as std
+use Rattle.std.specs.Prelude.{Ok, Err, ⊤}
 
 -- ---- what trusted slots give
 
@@ -145,7 +145,7 @@ module _ (l : lending.Lent) (t : Tree) (image heads bytes : List ℕ) (r : Ready
   module _ (p : Space) (fs rs is ps : List ℕ) (k : Bool)
       (e : k ≡ space_holds l.size (length image / l.size) p && lists_hold l.slots (lists_of fs rs is ps)) where
     pub in_lent : (xid next : ℕ) (image' heads' fs' rs' is' ps' : List ℕ) (p' : Space) → not k ≡ true
-        → flushed_means l.size t image' p' heads' bytes fs' rs' is' ps' (answer.Refused 1)
+        → flushed_means l.size t image' p' heads' bytes fs' rs' is' ps' (Err refusal.Lent)
         ≡ flush_in (lent_of image l) p (lists_of fs rs is ps) (state_of l.size t heads bytes) xid next
     unfolding flushed_means flush_in lent_of blocks
     in_lent xid next image' heads' fs' rs' is' ps' p' q = rw (sym e ∙ not-true k q)
@@ -169,30 +169,30 @@ module _ (l : lending.Lent) (t : Tree) (image heads bytes : List ℕ) (r : Ready
           (eqb-true (length fs) n a1, eqb-true (length rs) n a2, y, sym z ∙ y))
           (λ g. let y : 0 ≡ n = rw g at m in absurd (omega (arith, slots_some)))
 
-      module _ (xid next x : ℕ) (ex : x ≡ short_of (state_of l.size t heads bytes) (usable l.size p) next) where
+      module _ (xid next : ℕ) (x : std.Result ⊤ refusal.Refusal) (ex : x ≡ short_of (state_of l.size t heads bytes) (usable l.size p) next) where
         passed : space_holds l.size (length image / l.size) p && lists_hold l.slots (lists_of fs rs is ps) ≡ true
         passed = sym e ∙ not-false k q
 
-        pub in_short : (image' heads' fs' rs' is' ps' : List ℕ) (p' : Space) → (x ≡ 0 → ⊥)
-            → flushed_means l.size t image' p' heads' bytes fs' rs' is' ps' (answer.Refused x)
+        pub in_short : (y : refusal.Refusal) → x ≡ Err y → (image' heads' fs' rs' is' ps' : List ℕ) (p' : Space)
+            → flushed_means l.size t image' p' heads' bytes fs' rs' is' ps' (Err y)
             ≡ flush_in (lent_of image l) p (lists_of fs rs is ps) (state_of l.size t heads bytes) xid next
         unfolding flushed_means flush_in lent_of blocks short_of
-        in_short image' heads' fs' rs' is' ps' p' n =
+        in_short y n image' heads' fs' rs' is' ps' p' =
             by_test (leb (dirty_reached s) (usable l.size p))
             (λ a. by_test (leb (next + ids_wanted s) (2 ^ 64 - 1))
-            (λ b. let y : x ≡ 0 = ex ∙ rw (a, b) in absurd (n y))
-            (λ b. let y : x ≡ refusal.count = ex ∙ rw (a, b) in rw (passed, a, b, y)))
-            (λ a. let y : x ≡ refusal.full = ex ∙ rw a in rw (passed, a, y))
+            (λ b. let z : Ok tt ≡ Err y = sym (ex ∙ rw (a, b)) ∙ n in let w : ◌≡◌ {A = ℕ} 0 1 = cc in absurd (omega arith))
+            (λ b. let z : Err refusal.Count ≡ Err y = sym (ex ∙ rw (a, b)) ∙ n in let w : y ≡ refusal.Count = cc in rw (passed, a, b, w)))
+            (λ a. let z : Err refusal.Full ≡ Err y = sym (ex ∙ rw a) ∙ n in let w : y ≡ refusal.Full = cc in rw (passed, a, w))
 
-        module _ (z : x ≡ 0) where
+        module _ (u : ⊤) (z : x ≡ Ok u) where
           enough : (leb (dirty_reached s) (usable l.size p) ≡ true) × (leb (next + ids_wanted s) (2 ^ 64 - 1) ≡ true)
           unfolding short_of
           enough =
               by_test (leb (dirty_reached s) (usable l.size p))
               (λ a. by_test (leb (next + ids_wanted s) (2 ^ 64 - 1))
               (λ b. (a, b))
-              (λ b. let y : x ≡ refusal.count = ex ∙ rw (a, b) in absurd (omega arith)))
-              (λ a. let y : x ≡ refusal.full = ex ∙ rw a in absurd (omega arith))
+              (λ b. let y : Err refusal.Count ≡ Ok u = sym (ex ∙ rw (a, b)) ∙ z in let w : ◌≡◌ {A = ℕ} 0 1 = cc in absurd (omega arith)))
+              (λ a. let y : Err refusal.Full ≡ Ok u = sym (ex ∙ rw a) ∙ z in let w : ◌≡◌ {A = ℕ} 0 1 = cc in absurd (omega arith))
 
           all_same_lem : all_flushed l.size t image p heads bytes xid next ≡ flushed (lent_of image l) p (state_of l.size t heads bytes) xid next
           unfolding all_flushed flushed lent_of
@@ -212,7 +212,7 @@ module _ (l : lending.Lent) (t : Tree) (image heads bytes : List ℕ) (r : Ready
 
           pub in_done : (image' heads' fs' rs' is' ps' : List ℕ) (p' : Space) (f : done.Flushed)
               → flushed_of l.size t image' p' heads' bytes fs' rs' is' ps' f ≡ all_flushed l.size t image p heads bytes xid next
-              → flushed_means l.size t image' p' heads' bytes fs' rs' is' ps' (answer.Done f)
+              → flushed_means l.size t image' p' heads' bytes fs' rs' is' ps' (Ok f)
               ≡ flush_in (lent_of image l) p (lists_of fs rs is ps) (state_of l.size t heads bytes) xid next
           unfolding flushed_means
           in_done image' heads' fs' rs' is' ps' p' f y = ap ok (y ∙ all_same_lem) ∙ sym accepted
@@ -248,7 +248,7 @@ alike_roomy k s s' a r =
 module _ (l : lending.Lent) (t : Tree) (image heads bytes : List ℕ) (k : Bool)
     (e : k ≡ workspace_holds l.size l.slots t.used heads bytes && lent_holds (lent_of image l) (state_of l.size t heads bytes)) where
   pub flush_refused : (p : Space) (lists : Lists) (xid next : ℕ) (image' heads' fs' rs' is' ps' : List ℕ) (p' : Space) → not k ≡ true
-      → flushed_means l.size t image' p' heads' bytes fs' rs' is' ps' (answer.Refused 1) ≡ flushed_in (lent_of image l) p lists t heads bytes xid next
+      → flushed_means l.size t image' p' heads' bytes fs' rs' is' ps' (Err refusal.Lent) ≡ flushed_in (lent_of image l) p lists t heads bytes xid next
   unfolding flushed_means flushed_in flush lent_of
   flush_refused p lists xid next image' heads' fs' rs' is' ps' p' q =
       called_refused image l t heads bytes k e (λ x. flush_in (lent_of image l) p lists x xid next) q
@@ -265,11 +265,11 @@ module _ (l : lending.Lent) (t : Tree) (image heads bytes : List ℕ) (k : Bool)
         (sym e ∙ not-false k q)
 
     pub flush_leaves : Ready l.size l.slots t.used heads bytes
-        → (image' heads' fs fs' rs rs' is is' ps ps' : List ℕ) (p p' : Space) (x : Answer)
+        → (image' heads' fs fs' rs rs' is is' ps ps' : List ℕ) (p p' : Space) (x : std.Result done.Flushed refusal.Refusal)
         → FlushCalled l.size l.slots t image image' p p' heads heads' bytes fs fs' rs rs' is is' ps ps' x
         → flushed_leaves l.size l.slots t image image' p p' heads heads' bytes fs fs' rs rs' is is' ps ps' x
-    flush_leaves r image' heads' fs fs' rs rs' is is' ps ps' p p' (answer.Refused y) h = h
-    flush_leaves r image' heads' fs fs' rs rs' is is' ps ps' p p' (answer.Done f) h = (
+    flush_leaves r image' heads' fs fs' rs rs' is is' ps ps' p p' (Err y) h = h
+    flush_leaves r image' heads' fs fs' rs rs' is is' ps ps' p p' (Ok f) h = (
       h.0,
       roomy_holds l.size l.slots t heads' bytes h.1 (alike_roomy (2 * l.size) (state_of l.size t heads bytes)
           (state_of l.size t heads' bytes) h.2 (holds_roomy l.size l.slots t heads bytes r held)),

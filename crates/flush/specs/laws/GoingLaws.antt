@@ -1,12 +1,11 @@
 -- Laws of the walk over a node's children, then the node. Assumes nothing.
-use Rattle.std.specs.Prelude.{◌≡◌, refl, true, false, not, drop}
+use Rattle.std.specs.Prelude.{◌≡◌, refl, drop}
 use Rattle.std.proofs.Math.Path.{sym, ap}
 use Rattle.std.proofs.Common.{◌∙◌, drop_of_length-le, get_or-drop}
 use mathlib.Core.List.{List, [], ◌∷◌}
 use Prim.Native.Nat.{ℕ, suc, ◌+◌, ◌-◌, ◌≤◌, ◌<◌}
 use native.Mathlib.Omega.{arith}
 use Rattle.std.proofs.Math.ListN.{length, get_or}
-use Rattle.std.proofs.lemmas.Bool.{not-true, not-false}
 use Rattle.tree.specs.Format.{Entry, Val, ghost, leaf, disk, mem, val_at, MemNode, head_at, record_length, records_length, entry_of, entries_of}
 use Rattle.tree.specs.State.{State, node_at}
 use Rattle.tree.specs.Workspace.{slot_bytes, state_of}
@@ -27,6 +26,7 @@ use Rattle.flush.specs.declared.flush.Flushing as code
 use Rattle.flush.specs.internal.Walk.{flushing_of, Alive, Standing, Spaced, Fitting, Left, Going}
 use Rattle.flush.specs.laws.WalkLaws.{Grows, grows_on, grows_node, grows_kids, grows_from, fitting_less, node_alike, write_alike}
 use Rattle.flush.specs.laws.StepLaws.{left_same, left_on}
+use Rattle.std.specs.Prelude.{Some, None}
 
 -- ---- one child among the records
 
@@ -41,13 +41,13 @@ no_slot : (v : Val) (c : ℕ) → slots_of v ≡ [] → v ≡ mem c → ⊥
 unfolding slots_of
 no_slot v c e q = let z : ◌≡◌ {A = List ℕ} (c ∷ []) [] = rw q at e in omega (arith, ap length z)
 
-kid_in : (k : Kid) (v : Val) → kid_means k ≡ slots_of v → not k.loaded ≡ false → v ≡ mem k.slot
+kid_in : (k : Kid) (kid : ℕ) (v : Val) → kid_means k ≡ slots_of v → k.slot ≡ Some kid → v ≡ mem kid
 unfolding kid_means
-kid_in k v e h = let t : k.loaded ≡ true = not-false k.loaded h in one_slot v k.slot (sym e ∙ rw t)
+kid_in k kid v e h = one_slot v kid (sym e ∙ rw h)
 
-kid_out : (k : Kid) (v : Val) → kid_means k ≡ slots_of v → not k.loaded ≡ true → slots_of v ≡ []
+kid_out : (k : Kid) (v : Val) → kid_means k ≡ slots_of v → k.slot ≡ None → slots_of v ≡ []
 unfolding kid_means
-kid_out k v e h = let t : k.loaded ≡ false = not-true k.loaded h in sym e ∙ rw t
+kid_out k v e h = sym e ∙ rw h
 
 kids_in : (f : ℕ → Flushing → Flushing) (e : Entry) (es : List Entry) (w : Flushing) (c : ℕ) → e.value ≡ mem c → write_kids f (e ∷ es) w
     ≡ write_kids f es (f c w)
@@ -134,7 +134,7 @@ module _ (size slots blocks xid n d : ℕ) (t : Tree) (part cs bytes image₀ bm
       place_is : k.next ≡ records_length (i + 1) part
       place_is = at_next part i at k.next g.place en
 
-      pub go_skip : not k.loaded ≡ true
+      pub go_skip : k.slot ≡ None
           → Going size slots blocks t xid d count (i + 1) k.next part cs bytes image₀ bm₀ fr₀ heads₀ fs₀ is₀ ps₀ w image bm fr heads fs is ps v
       go_skip h =
           let z = kid_out k (entry_of (drop at part)).value ek h in
@@ -147,23 +147,23 @@ module _ (size slots blocks xid n d : ℕ) (t : Tree) (part cs bytes image₀ bm
             spaced = g.spaced;
           }
 
-      module _ (h : not k.loaded ≡ false) where
-        kid_is : (entry_of (drop at part)).value ≡ mem k.slot
-        kid_is = kid_in k (entry_of (drop at part)).value ek h
+      module _ (kid : ℕ) (h : k.slot ≡ Some kid) where
+        kid_is : (entry_of (drop at part)).value ≡ mem kid
+        kid_is = kid_in k kid (entry_of (drop at part)).value ek h
 
         -- the walk goes on with the child
-        on_is : write_kids (write_from (d - 1) s₀ xid) (drop (i + 1) (entries_of count part)) (write_from (d - 1) s₀ xid k.slot now)
+        on_is : write_kids (write_from (d - 1) s₀ xid) (drop (i + 1) (entries_of count part)) (write_from (d - 1) s₀ xid kid now)
             ≡ write_kids (write_from (d - 1) s₀ xid) (entries_of count part) start
         on_is =
             sym (ap (λ (es : List Entry). write_kids (write_from (d - 1) s₀ xid) es now) next_is
-            ∙ kids_in (write_from (d - 1) s₀ xid) (entry_of (drop at part)) (drop (i + 1) (entries_of count part)) now k.slot kid_is) ∙ g.rest
+            ∙ kids_in (write_from (d - 1) s₀ xid) (entry_of (drop at part)) (drop (i + 1) (entries_of count part)) now kid kid_is) ∙ g.rest
 
-        child_is : write_from (d - 1) (state_of size t heads bytes) xid k.slot now ≡ write_from (d - 1) s₀ xid k.slot now
-        child_is = write_alike size t heads₀ heads bytes g.left.alike (d - 1) xid k.slot now
+        child_is : write_from (d - 1) (state_of size t heads bytes) xid kid now ≡ write_from (d - 1) s₀ xid kid now
+        child_is = write_alike size t heads₀ heads bytes g.left.alike (d - 1) xid kid now
 
         pub go_turn : (image' bm' fr' heads' fs' is' ps' : List ℕ) (v' : code.Flushing)
             → flushing_of size t image' (space_of bm' cs fr') heads' bytes fs' is' ps' v'
-            ≡ write_from (d - 1) (state_of size t heads bytes) xid k.slot (flushing_of size t image (space_of bm cs fr) heads bytes fs is ps v)
+            ≡ write_from (d - 1) (state_of size t heads bytes) xid kid (flushing_of size t image (space_of bm cs fr) heads bytes fs is ps v)
             → Left size slots t heads heads' bytes fs fs' is is' ps ps' v v' → Spaced size blocks (space_of bm' cs fr')
             → Going size slots blocks t xid d count (i + 1)
             k.next part cs bytes image₀ bm₀ fr₀ heads₀ fs₀ is₀ ps₀ w image' bm' fr' heads' fs' is' ps' v'
@@ -182,7 +182,7 @@ module _ (size slots blocks xid n d : ℕ) (t : Tree) (part cs bytes image₀ bm
               sym (ap (λ (m : MemNode). m.entries) (node_in_lem size t heads bytes n hn)) ∙ g.left.alike.entries n
               ∙ node_records size slots n d t heads₀ bytes part count nz ec ep r hn
 
-          pub go_alive : Alive size t heads bytes k.slot
+          pub go_alive : Alive size t heads bytes kid
           unfolding val_at
           go_alive =
               let z : i + 0 ≡ i = omega arith in
@@ -190,16 +190,16 @@ module _ (size slots blocks xid n d : ℕ) (t : Tree) (part cs bytes image₀ bm
               sym (get_or-drop i (entries_of count part) 0 (record { key = []; value = ghost })
               ∙ ap (λ (j : ℕ). get_or (entries_of count part) j (record { key = []; value = ghost })) z)
               ∙ ap (λ (es : List Entry). get_or es 0 (record { key = []; value = ghost })) next_is in
-              g.left.standing.kids n i k.slot hn
+              g.left.standing.kids n i kid hn
               (ap (λ (es : List Entry). (get_or es i (record { key = []; value = ghost })).value) entries_are ∙ ap (λ (e : Entry). e.value) q
               ∙ kid_is)
 
           pub go_fits : (a b c : ℕ) → Fitting a b c (write_from d (state_of size t heads₀ bytes) xid n
               (flushing_of size t image₀ (space_of bm₀ cs fr₀) heads₀ bytes fs₀ is₀ ps₀ w))
-              → Fitting a b c (write_from (d - 1) (state_of size t heads bytes) xid k.slot
+              → Fitting a b c (write_from (d - 1) (state_of size t heads bytes) xid kid
               (flushing_of size t image (space_of bm cs fr) heads bytes fs is ps v))
           go_fits a b c f =
-              let u : Flushing = write_from (d - 1) s₀ xid k.slot now in
+              let u : Flushing = write_from (d - 1) s₀ xid kid now in
               let x : Flushing = write_kids (write_from (d - 1) s₀ xid) (entries_of count part) start in
               let p : Grows u (write_kids (write_from (d - 1) s₀ xid) (drop (i + 1) (entries_of count part)) u) =
               grows_kids (write_from (d - 1) s₀ xid) (grows_from (d - 1) s₀ xid) (drop (i + 1) (entries_of count part)) u in

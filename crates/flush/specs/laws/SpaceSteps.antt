@@ -1,5 +1,5 @@
 -- Laws of the code over blocks: bits by shifts and masks, a byte at a time, a chunk at a time. One for each turn and each way out. Assumes nothing.
-use Rattle.std.specs.Prelude.{◌≡◌, Bool, ◌&&◌, not, ℕ, zero, suc, ◌+◌, ◌-◌, ◌*◌, ◌/◌, ◌%◌, ◌^◌, ◌≤◌, ◌<◌, set, drop, eqb}
+use Rattle.std.specs.Prelude.{◌≡◌, Bool, ◌&&◌, not, ℕ, zero, suc, ◌+◌, ◌-◌, ◌*◌, ◌/◌, ◌%◌, ◌^◌, ◌≤◌, ◌<◌, min, set, drop, eqb}
 use Rattle.std.proofs.Math.Path.{refl, sym, ap}
 use Rattle.std.proofs.Common.{ap₂, ◌∙◌, pow-suc, mul-le-mul_right, mul_left_comm, add-zero, add-one, length-set, drop_of_length-le, pow_pos, shl_exact}
 use mathlib.Core.List.{List, [], ◌∷◌}
@@ -13,16 +13,15 @@ use Rattle.std.proofs.Math.Dec.{leb}
 use Rattle.std.specs.Int.Bits.{bit_and, bit_or, or_add_and}
 use Rattle.std.proofs.lemmas.Nat.{and_mask, mod-pow-add}
 use Rattle.std.proofs.lemmas.Nat.Bits.{and_high}
+use Rattle.std.specs.Int.{div_ceil}
 use Rattle.std.specs.Int.Count.{ones, ones_step}
 use borrow.Author.Tests.{eqb-true, eqb-false, eq-eqb, ne_eqb, leb-true, leb-false, le-leb, lt-leb}
 use Rattle.tree.specs.laws.base.Node.{by_test, never, and_split, and-false}
 use Rattle.tree.specs.Lent.{is_size}
-use Rattle.flush.specs.Space.{Space, Choice, space_of, chunk_blocks, is_used, mark_used, ones_below, first_zero, first_free, found_means, zeros_below, zeros, choose_from, choose, choice_means, taken, allocated, lesser, usable_from, usable, chunks_hold, space_holds, Held}
+use Rattle.flush.specs.Space.{Space, Choice, space_of, chunk_blocks, is_used, mark_used, ones_below, first_zero, first_free, zeros_below, zeros, choose_from, choose, choice_means, taken, allocated, lesser, usable_from, usable, chunks_hold, space_holds, Held}
 use Rattle.flush.specs.laws.SpaceLaws.{Chosen, chosen, mark_length_lem}
-use Rattle.flush.specs.declared.space.Found.{Found}
-use Rattle.flush.specs.declared.space.Found.TheVariants.{At, Nothing}
-use Rattle.flush.specs.declared.space.Answer.{Answer}
-use Rattle.flush.specs.declared.space.Answer.TheVariants.{Block, Full}
+use Rattle.std.specs.Prelude.{Option, Some, None, option_to_list}
+use Rattle.flush.specs.declared.space.Choice as code
 
 -- ---- one bit
 
@@ -175,6 +174,11 @@ first_next bm n a i z e f p h v =
 pub first_end : (bm : List ℕ) (n a i : ℕ) → n ≤ i → first_free bm (n - i) (a + i) ≡ first_free bm n a → [] ≡ first_free bm n a
 first_end bm n a i h v = sym (first_nothing bm (n - i) (a + i) (omega arith)) ∙ v
 
+-- the last byte
+pub first_last : (bm : List ℕ) (n a i z : ℕ) → a % 8 ≡ 0 → i % 8 ≡ 0 → z ≡ first_zero (get_or bm ((a + i) / 8) 0) → 8 ≤ z → n - i ≤ 8
+    → first_free bm (n - i) (a + i) ≡ first_free bm n a → [] ≡ first_free bm n a
+first_last bm n a i z e f p h k v = first_end bm n a (i + 8) (omega arith) (first_next bm n a i z e f p h v)
+
 -- ---- zeros counted in one byte
 
 ones_zeros : (m x : ℕ) → ones (x % 2 ^ m) + zeros_below m x ≡ m
@@ -206,13 +210,11 @@ masked_most m x h = let s = masked_is m x h in omega arith
 pub zeros_left : (m x : ℕ) → m ≤ 8 → m - ones (bit_and x ((1 * 2 ^ m) % 2 ^ 32 - 1)) ≡ zeros_below m x
 zeros_left m x h = let s = masked_is m x h in omega arith
 
-pub lesser_first : (a b : ℕ) → a ≤ b → a ≡ lesser a b
+-- the library's `min` is the lesser of two
+lesser_is : (a b : ℕ) → min a b ≡ lesser a b
 unfolding lesser
-lesser_first a b h = rw (le-leb a b h)
-
-pub lesser_second : (a b : ℕ) → b < a → b ≡ lesser a b
-unfolding lesser
-lesser_second a b h = rw (lt-leb a b h)
+lesser_is a b = by_test (leb a b) (λ t. let h : a ≤ b = leb-true a b t in rw t (omega arith))
+    (λ t. let h : b < a = leb-false a b t in rw t (omega arith))
 
 -- ---- zeros: i bits are passed
 
@@ -257,21 +259,20 @@ none_zeros : (bm : List ℕ) (m a : ℕ) → m ≡ 0 → zeros bm m a ≡ 0
 unfolding zeros
 none_zeros bm m a e = rw e
 
-pub zeros_next : (bm : List ℕ) (n a i m r sum : ℕ) → a % 8 ≡ 0 → i % 8 ≡ 0 → m ≡ lesser (n - i) 8 → r ≡ zeros_below m (get_or bm ((a + i) / 8) 0)
+pub zeros_next : (bm : List ℕ) (n a i m r sum : ℕ) → a % 8 ≡ 0 → i % 8 ≡ 0 → m ≡ min (n - i) 8 → r ≡ zeros_below m (get_or bm ((a + i) / 8) 0)
     → sum + zeros bm (n - i) (a + i) ≡ zeros bm n a → sum + r + zeros bm (n - (i + 8)) (a + (i + 8)) ≡ zeros bm n a
-unfolding lesser
 zeros_next bm n a i m r sum e f p q v =
     by_test (leb (n - i) 8)
     (λ t.
     let h : n - i ≤ 8 = leb-true (n - i) 8 t in
-    let u : m ≡ n - i = rw t at p in
+    let u : m ≡ n - i = omega arith in
     let w : zeros bm m (a + i) ≡ zeros_below m (get_or bm ((a + i) / 8) 0) = zeros_first bm (a + i) m (omega arith) (omega arith) in
     let w' : zeros bm (n - i) (a + i) ≡ r = ap (λ (y : ℕ). zeros bm y (a + i)) (sym u) ∙ w ∙ sym q in
     let z : zeros bm (n - (i + 8)) (a + (i + 8)) ≡ 0 = none_zeros bm (n - (i + 8)) (a + (i + 8)) (omega arith) in
     omega arith)
     (λ t.
     let h : 8 < n - i = leb-false (n - i) 8 t in
-    let u : m ≡ 8 = rw t at p in
+    let u : m ≡ 8 = omega arith in
     let w : zeros bm m (a + i) ≡ zeros_below m (get_or bm ((a + i) / 8) 0) = zeros_first bm (a + i) m (omega arith) (omega arith) in
     let s : zeros bm (8 + (n - (i + 8))) (a + i) ≡ zeros bm 8 (a + i) + zeros bm (n - (i + 8)) (a + i + 8) = zeros_split bm 8 (n - (i + 8)) (a + i) in
     let d : 8 + (n - (i + 8)) ≡ n - i = omega arith in
@@ -285,6 +286,15 @@ zeros_end bm n a i sum h v = let z = none_zeros bm (n - i) (a + i) (omega arith)
 
 pub zeros_end_most : (bm : List ℕ) (n a i sum : ℕ) → n ≤ i → sum + zeros bm (n - i) (a + i) ≡ zeros bm n a → sum ≤ n
 zeros_end_most bm n a i sum h v = zeros_bound bm n a sum (zeros_end bm n a i sum h v)
+
+-- the last byte
+pub zeros_last : (bm : List ℕ) (n a i m r sum : ℕ) → a % 8 ≡ 0 → i % 8 ≡ 0 → m ≡ min (n - i) 8 → r ≡ zeros_below m (get_or bm ((a + i) / 8) 0)
+    → n - i ≤ 8 → sum + zeros bm (n - i) (a + i) ≡ zeros bm n a → sum + r ≡ zeros bm n a
+zeros_last bm n a i m r sum e f p q k v = zeros_end bm n a (i + 8) (sum + r) (omega arith) (zeros_next bm n a i m r sum e f p q v)
+
+pub zeros_last_most : (bm : List ℕ) (n a i m r sum : ℕ) → a % 8 ≡ 0 → i % 8 ≡ 0 → m ≡ min (n - i) 8
+    → r ≡ zeros_below m (get_or bm ((a + i) / 8) 0) → n - i ≤ 8 → sum + zeros bm (n - i) (a + i) ≡ zeros bm n a → sum + r ≤ n
+zeros_last_most bm n a i m r sum e f p q k v = zeros_bound bm n a (sum + r) (zeros_last bm n a i m r sum e f p q k v)
 
 -- ---- chunks
 
@@ -326,22 +336,22 @@ module _ (size : ℕ) (bm cs fs : List ℕ) where
   unfolding choose
   choose_start = refl
 
-  pub choose_found : (c b : ℕ) (f : Found) → Held size (space_of bm cs fs) → c < length cs
-      → found_means f ≡ cond (eqb (get_or fs c 0) 0) [] (first_free bm (get_or cs c 0) (c * chunk_blocks size)) → f ≡ At b
+  pub choose_found : (c b : ℕ) (f : Option ℕ) → Held size (space_of bm cs fs) → c < length cs
+      → option_to_list f ≡ cond (eqb (get_or fs c 0) 0) [] (first_free bm (get_or cs c 0) (c * chunk_blocks size)) → f ≡ Some b
       → choose_from bm size c (drop c cs) (drop c fs) ≡ choose size (space_of bm cs fs)
       → ◌≡◌ {A = List Choice} (record { chunk = c; block = b } ∷ []) (choose size (space_of bm cs fs))
   unfolding choose_from
   choose_found c b f h k p q v =
-      let g : b ∷ [] ≡ cond (eqb (get_or fs c 0) 0) [] (first_free bm (get_or cs c 0) (c * chunk_blocks size)) = ap found_means (sym q) ∙ p in
+      let g : b ∷ [] ≡ cond (eqb (get_or fs c 0) 0) [] (first_free bm (get_or cs c 0) (c * chunk_blocks size)) = ap option_to_list (sym q) ∙ p in
       rw (drop-cons cs c 0 k, drop-cons fs c 0 (chunk_free size bm cs fs h c k), ← g) at v
 
-  pub choose_next : (c : ℕ) (f : Found) → Held size (space_of bm cs fs) → c < length cs
-      → found_means f ≡ cond (eqb (get_or fs c 0) 0) [] (first_free bm (get_or cs c 0) (c * chunk_blocks size)) → f ≡ Nothing
+  pub choose_next : (c : ℕ) (f : Option ℕ) → Held size (space_of bm cs fs) → c < length cs
+      → option_to_list f ≡ cond (eqb (get_or fs c 0) 0) [] (first_free bm (get_or cs c 0) (c * chunk_blocks size)) → f ≡ None
       → choose_from bm size c (drop c cs) (drop c fs) ≡ choose size (space_of bm cs fs)
       → choose_from bm size (c + 1) (drop (c + 1) cs) (drop (c + 1) fs) ≡ choose size (space_of bm cs fs)
   unfolding choose_from
   choose_next c f h k p q v =
-      let g : [] ≡ cond (eqb (get_or fs c 0) 0) [] (first_free bm (get_or cs c 0) (c * chunk_blocks size)) = ap found_means (sym q) ∙ p in
+      let g : [] ≡ cond (eqb (get_or fs c 0) 0) [] (first_free bm (get_or cs c 0) (c * chunk_blocks size)) = ap option_to_list (sym q) ∙ p in
       rw (add-one c) (rw (drop-cons cs c 0 k, drop-cons fs c 0 (chunk_free size bm cs fs h c k), ← g) at v)
 
   pub choose_end : (c : ℕ) → length cs ≤ c → choose_from bm size c (drop c cs) (drop c fs) ≡ choose size (space_of bm cs fs)
@@ -351,8 +361,8 @@ module _ (size : ℕ) (bm cs fs : List ℕ) where
 
 -- ---- alloc
 
-module _ (size : ℕ) (bm cs fs : List ℕ) (c b : ℕ) (x : Answer) (h : Held size (space_of bm cs fs))
-    (e : choice_means x ≡ choose size (space_of bm cs fs)) (i : x ≡ Block c b) where
+module _ (size : ℕ) (bm cs fs : List ℕ) (c b : ℕ) (x : Option code.Choice) (h : Held size (space_of bm cs fs))
+    (e : choice_means x ≡ choose size (space_of bm cs fs)) (i : x ≡ Some (record { chunk = c; block = b })) where
   choice_is : choose size (space_of bm cs fs) ≡ record { chunk = c; block = b } ∷ []
   choice_is = sym e ∙ ap choice_means i
 
@@ -391,23 +401,25 @@ module _ (size : ℕ) (bm cs fs : List ℕ) (c b : ℕ) (x : Answer) (h : Held s
   unfolding allocated taken
   alloc_taken bm' p = rw (choice_is, p)
 
-pub alloc_full : (size : ℕ) (p : Space) (x : Answer) → choice_means x ≡ choose size p → x ≡ Full → ◌≡◌ {A = List Choice} [] (choose size p)
+pub alloc_full : (size : ℕ) (p : Space) (x : Option code.Choice) → choice_means x ≡ choose size p → x ≡ None
+    → ◌≡◌ {A = List Choice} [] (choose size p)
 alloc_full size p x e i = ap choice_means (sym i) ∙ e
 
-pub alloc_none : (size : ℕ) (p : Space) (x : Answer) → choice_means x ≡ choose size p → x ≡ Full → p ≡ allocated size p
+pub alloc_none : (size : ℕ) (p : Space) (x : Option code.Choice) → choice_means x ≡ choose size p → x ≡ None → p ≡ allocated size p
 unfolding allocated
 alloc_none size p x e i = rw (sym (alloc_full size p x e i))
 
 -- ---- usable: c chunks are passed
 
-pub usable_most : (size : ℕ) (bm cs fs : List ℕ) (c z r : ℕ) → Held size (space_of bm cs fs) → z ≤ get_or cs c 0 → r ≤ z → r ≤ 8 * size
+pub usable_most : (size : ℕ) (bm cs fs : List ℕ) (c z r : ℕ) → Held size (space_of bm cs fs) → z ≤ get_or cs c 0 → r ≡ min z (get_or fs c 0)
+    → r ≤ 8 * size
 unfolding chunk_blocks
 usable_most size bm cs fs c z r h k l = let n : get_or cs c 0 ≤ 8 * size = h.counted c in omega arith
 
-pub usable_is : (size : ℕ) (bm : List ℕ) (n f c z r : ℕ) → z ≡ zeros bm n (c * (8 * size)) → r ≡ lesser f z
+pub usable_is : (size : ℕ) (bm : List ℕ) (n f c z r : ℕ) → z ≡ zeros bm n (c * (8 * size)) → r ≡ min z f
     → r ≡ lesser f (zeros bm n (c * chunk_blocks size))
 unfolding chunk_blocks
-usable_is size bm n f c z r p q = q ∙ ap (lesser f) p
+usable_is size bm n f c z r p q = let m : min z f ≡ min f z = omega arith in q ∙ m ∙ lesser_is f z ∙ ap (lesser f) p
 
 module _ (size : ℕ) (bm cs fs : List ℕ) where
   pub usable_start : 0 + usable_from bm size 0 (drop 0 cs) (drop 0 fs) ≡ usable size (space_of bm cs fs)
@@ -448,10 +460,11 @@ module _ (size blocks : ℕ) (cs : List ℕ) where
   pub chunks_start : chunks_hold size blocks 0 (drop 0 cs) ≡ chunks_hold size blocks 0 cs
   chunks_start = refl
 
-  pub chunks_large : (c : ℕ) → c < length cs → size < (get_or cs c 0 + 7) / 8 → chunks_hold size blocks c (drop c cs) ≡ chunks_hold size blocks 0 cs
+  pub chunks_large : (c d : ℕ) → c < length cs → d ≡ div_ceil (get_or cs c 0) 8 → size < d
+      → chunks_hold size blocks c (drop c cs) ≡ chunks_hold size blocks 0 cs
       → false ≡ chunks_hold size blocks 0 cs
   unfolding chunk_blocks
-  chunks_large c k l v = sym (chunks_head c k ∙ rw (lt-leb (get_or cs c 0) (8 * size) (omega arith))) ∙ v
+  chunks_large c d k e l v = sym (chunks_head c k ∙ rw (lt-leb (get_or cs c 0) (8 * size) (omega arith))) ∙ v
 
   pub chunks_outside : (c left : ℕ) → c < length cs → left + c * (8 * size) ≡ blocks → left < get_or cs c 0
       → chunks_hold size blocks c (drop c cs) ≡ chunks_hold size blocks 0 cs → false ≡ chunks_hold size blocks 0 cs
@@ -460,36 +473,36 @@ module _ (size blocks : ℕ) (cs : List ℕ) where
       let f : leb (c * (8 * size) + get_or cs c 0) blocks ≡ false = lt-leb (c * (8 * size) + get_or cs c 0) blocks (omega arith) in
       sym (chunks_head c k ∙ rw (f, and-false (leb (get_or cs c 0) (8 * size)))) ∙ v
 
-  chunks_on : (c left : ℕ) → c < length cs → (get_or cs c 0 + 7) / 8 ≤ size → left + c * (8 * size) ≡ blocks → get_or cs c 0 ≤ left
+  chunks_on : (c d left : ℕ) → c < length cs → d ≡ div_ceil (get_or cs c 0) 8 → d ≤ size → left + c * (8 * size) ≡ blocks → get_or cs c 0 ≤ left
       → chunks_hold size blocks c (drop c cs) ≡ chunks_hold size blocks 0 cs → chunks_hold size blocks (c + 1) (drop (c + 1) cs)
       ≡ chunks_hold size blocks 0 cs
   unfolding chunk_blocks
-  chunks_on c left k l e o v =
+  chunks_on c d left k u l e o v =
       let f : leb (get_or cs c 0) (8 * size) ≡ true = le-leb (get_or cs c 0) (8 * size) (omega arith) in
       let g : leb (c * (8 * size) + get_or cs c 0) blocks ≡ true = le-leb (c * (8 * size) + get_or cs c 0) blocks (omega arith) in
       rw (add-one c) (sym (chunks_head c k ∙ rw (f, g)) ∙ v)
 
-  pub chunks_last : (c left : ℕ) → c < length cs → (get_or cs c 0 + 7) / 8 ≤ size → left + c * (8 * size) ≡ blocks → get_or cs c 0 ≤ left
+  pub chunks_last : (c d left : ℕ) → c < length cs → d ≡ div_ceil (get_or cs c 0) 8 → d ≤ size → left + c * (8 * size) ≡ blocks → get_or cs c 0 ≤ left
       → chunks_hold size blocks c (drop c cs) ≡ chunks_hold size blocks 0 cs → c + 1 ≡ length cs → true ≡ chunks_hold size blocks 0 cs
   unfolding chunks_hold
-  chunks_last c left k l e o v q =
+  chunks_last c d left k u l e o v q =
       let h : length cs ≤ c + 1 = omega arith in
-      let w = chunks_on c left k l e o v in
+      let w = chunks_on c d left k u l e o v in
       rw (drop_of_length-le cs h) at w
 
-  pub chunks_past : (c left : ℕ) → c < length cs → (get_or cs c 0 + 7) / 8 ≤ size → left + c * (8 * size) ≡ blocks → get_or cs c 0 ≤ left
+  pub chunks_past : (c d left : ℕ) → c < length cs → d ≡ div_ceil (get_or cs c 0) 8 → d ≤ size → left + c * (8 * size) ≡ blocks → get_or cs c 0 ≤ left
       → chunks_hold size blocks c (drop c cs) ≡ chunks_hold size blocks 0 cs → (c + 1 ≡ length cs → ⊥) → left / 8 < size
       → false ≡ chunks_hold size blocks 0 cs
   unfolding chunk_blocks
-  chunks_past c left k l e o v q d =
-      let f : leb ((c + 1) * (8 * size) + get_or cs (c + 1) 0) blocks ≡ false = lt-leb ((c + 1) * (8 * size) + get_or cs (c + 1) 0) blocks
+  chunks_past c d left k u l e o v q f =
+      let g : leb ((c + 1) * (8 * size) + get_or cs (c + 1) 0) blocks ≡ false = lt-leb ((c + 1) * (8 * size) + get_or cs (c + 1) 0) blocks
       (omega arith) in
-      sym (chunks_head (c + 1) (omega arith) ∙ rw (f, and-false (leb (get_or cs (c + 1) 0) (8 * size)))) ∙ chunks_on c left k l e o v
+      sym (chunks_head (c + 1) (omega arith) ∙ rw (g, and-false (leb (get_or cs (c + 1) 0) (8 * size)))) ∙ chunks_on c d left k u l e o v
 
-  pub chunks_next : (c left : ℕ) → c < length cs → (get_or cs c 0 + 7) / 8 ≤ size → left + c * (8 * size) ≡ blocks → get_or cs c 0 ≤ left
+  pub chunks_next : (c d left : ℕ) → c < length cs → d ≡ div_ceil (get_or cs c 0) 8 → d ≤ size → left + c * (8 * size) ≡ blocks → get_or cs c 0 ≤ left
       → chunks_hold size blocks c (drop c cs) ≡ chunks_hold size blocks 0 cs → size ≤ left / 8 → chunks_hold size blocks (c + 1) (drop (c + 1) cs)
       ≡ chunks_hold size blocks 0 cs
-  chunks_next c left k l e o v d = chunks_on c left k l e o v
+  chunks_next c d left k u l e o v f = chunks_on c d left k u l e o v
 
   pub chunks_end : (c : ℕ) → length cs ≤ c → chunks_hold size blocks c (drop c cs) ≡ chunks_hold size blocks 0 cs
       → true ≡ chunks_hold size blocks 0 cs

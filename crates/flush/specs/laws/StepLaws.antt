@@ -16,8 +16,6 @@ use Rattle.tree.specs.laws.slots.Bank.{node_at_lem}
 use Rattle.tree.specs.declared.block.Words.{Words}
 use Rattle.tree.specs.declared.editor.Tree.{Tree}
 use Rattle.flush.specs.Space.{Space, choose, choice_means, taken, allocated, Held}
-use Rattle.flush.specs.declared.space.Answer.{Answer}
-use Rattle.flush.specs.declared.space.Answer.TheVariants.{Block, Full}
 use Rattle.flush.specs.laws.SpaceLaws.{by_list, chosen_inside, taken_holds}
 use Rattle.flush.specs.laws.SpaceSteps.{space_held}
 use Rattle.flush.specs.Flush.{Flushing, write_at, write_node}
@@ -26,6 +24,8 @@ use Rattle.flush.specs.Answers.{pairs_of}
 use Rattle.flush.specs.internal.Lists.{numbers_of}
 use Rattle.flush.specs.internal.Walk.{flushing_of, Alive, Dirty, Standing, Spaced, Alike, Fitting, Room, Left, WroteAt}
 use Rattle.flush.specs.laws.ListLaws.{numbers_length, pairs_length, past_refl, past_on}
+use Rattle.std.specs.Prelude.{Option, Some, None}
+use Rattle.flush.specs.declared.space.Choice as chosen_by
 
 -- ---- what is left, step by step
 
@@ -84,8 +84,9 @@ spaced_after size blocks p p' s e =
       holds = by_list (choose size p) (λ q. rw q s.holds) (λ x xs q. rw q (taken_holds size blocks p x s.holds));
     })
 
-module _ (size length' : ℕ) (p : Space) (s : Spaced size (length' / size) p) (r : Answer) (c a : ℕ) (e : choice_means r ≡ choose size p)
-    (i : r ≡ Block c a) where
+module _ (size length' : ℕ) (p : Space) (s : Spaced size (length' / size) p) (r : Option chosen_by.Choice) (c a : ℕ)
+    (e : choice_means r ≡ choose size p)
+    (i : r ≡ Some (record { chunk = c; block = a })) where
   choice_is : choose size p ≡ record { chunk = c; block = a } ∷ []
   choice_is = sym e ∙ ap choice_means i
 
@@ -134,15 +135,15 @@ module _ (size xid n : ℕ) (t : Tree) (image heads bytes fs is ps : List ℕ) (
     dirty_so : (node_in size heads bytes n).dirty ≡ true
     dirty_so = dirty_is ∙ eq-eqb h.dirty 1 d
 
-    module _ (r : Answer) (e : choice_means r ≡ choose size p) (k : t.info.node_size ≡ size) where
-      pub node_full : (p' : Space) → p' ≡ allocated size p → r ≡ Full → flushing_of size t image p' heads bytes fs is ps w
+    module _ (r : Option chosen_by.Choice) (e : choice_means r ≡ choose size p) (k : t.info.node_size ≡ size) where
+      pub node_full : (p' : Space) → p' ≡ allocated size p → r ≡ None → flushing_of size t image p' heads bytes fs is ps w
           ≡ write_node (state_of size t heads bytes) xid n (flushing_of size t image p heads bytes fs is ps w)
       unfolding write_node flushing_of allocated state_of
       node_full p' q i =
           let z : choose size p ≡ [] = sym e ∙ ap choice_means i in
           rw (q, node_is, dirty_so, k, z)
 
-      module _ (c a : ℕ) (i : r ≡ Block c a) where
+      module _ (c a : ℕ) (i : r ≡ Some (record { chunk = c; block = a })) where
         some : choose size p ≡ record { chunk = c; block = a } ∷ []
         some = sym e ∙ ap choice_means i
 

@@ -4,7 +4,6 @@ use Rattle.std.proofs.Common.{sym, ◌∙◌, drop_of_length-le, eq-eqb, ne_eqb,
 use Rattle.std.proofs.Math.Path.{ap}
 use Prim.Native.Nat.{ℕ, zero, suc, ◌+◌, ◌-◌, ◌*◌, ◌/◌, ◌≤◌, ◌<◌}
 use native.Mathlib.Omega.{arith}
-use Rattle.std.proofs.lemmas.Bool.{not-true, not-false}
 use Rattle.tree.specs.Format.{Entry, Val, MemNode, Head, head_at, marked, node_of, records_length, entry_of, entries_of, data_space, packed_length}
 use Rattle.tree.specs.State.{State, no_node, node_at}
 use Rattle.tree.specs.Workspace.{slot_bytes, state_of}
@@ -23,6 +22,7 @@ use Rattle.tree.specs.declared.kids.Kid.{Kid}
 use Rattle.flush.specs.Flush.{sum_kids, sum_from, fill}
 use Rattle.flush.specs.declared.flush.Wanted.{Wanted}
 use Rattle.flush.specs.internal.Counts.{dirty_one, id_one, Counted}
+use Rattle.std.specs.Prelude.{Some, None}
 
 -- ---- one node
 
@@ -105,13 +105,13 @@ kid_none g e es q =
     (λ r p. rw p (omega arith))
     (λ c p. absurd (omega (arith, ap length (rw p at q))))
 
-loaded_slot : (k : Kid) (v : Val) → kid_means k ≡ slots_of v → not k.loaded ≡ false → slots_of v ≡ k.slot ∷ []
+loaded_slot : (k : Kid) (kid : ℕ) (v : Val) → kid_means k ≡ slots_of v → k.slot ≡ Some kid → slots_of v ≡ kid ∷ []
 unfolding kid_means
-loaded_slot k v e h = let t : k.loaded ≡ true = not-false k.loaded h in sym e ∙ rw t
+loaded_slot k kid v e h = sym e ∙ rw h
 
-loaded_none : (k : Kid) (v : Val) → kid_means k ≡ slots_of v → not k.loaded ≡ true → slots_of v ≡ []
+loaded_none : (k : Kid) (v : Val) → kid_means k ≡ slots_of v → k.slot ≡ None → slots_of v ≡ []
 unfolding kid_means
-loaded_none k v e h = let t : k.loaded ≡ false = not-true k.loaded h in sym e ∙ rw t
+loaded_none k v e h = sym e ∙ rw h
 
 -- ---- the records of a slot
 
@@ -225,7 +225,7 @@ module _ (limit nodes ids count i at : ℕ) (part : List ℕ) (f g : ℕ → ℕ
   next_is : drop i (entries_of count part) ≡ entry_of (drop at part) ∷ drop (i + 1) (entries_of count part)
   next_is = entries_head i count at part hi ea
 
-  pub count_skip : not k.loaded ≡ true
+  pub count_skip : k.slot ≡ None
       → Counted limit nodes ids s u (sum_kids f (drop (i + 1) (entries_of count part))) (sum_kids g (drop (i + 1) (entries_of count part)))
   count_skip h =
       let z = loaded_none k (entry_of (drop at part)).value ek h in
@@ -236,14 +236,14 @@ module _ (limit nodes ids count i at : ℕ) (part : List ℕ) (f g : ℕ → ℕ
       ) at c in
       c'
 
-  pub count_turn : (r : Wanted) → not k.loaded ≡ false → Counted limit (f k.slot) (g k.slot) u r 0 0
+  pub count_turn : (kid : ℕ) (r : Wanted) → k.slot ≡ Some kid → Counted limit (f kid) (g kid) u r 0 0
       → Counted limit nodes ids s r (sum_kids f (drop (i + 1) (entries_of count part))) (sum_kids g (drop (i + 1) (entries_of count part)))
-  count_turn r h q =
-      let z = loaded_slot k (entry_of (drop at part)).value ek h in
-      let a : sum_kids f (drop i (entries_of count part)) ≡ f k.slot + sum_kids f (drop (i + 1) (entries_of count part)) =
-      ap (sum_kids f) next_is ∙ kid_sum f (entry_of (drop at part)) (drop (i + 1) (entries_of count part)) k.slot z in
-      let b : sum_kids g (drop i (entries_of count part)) ≡ g k.slot + sum_kids g (drop (i + 1) (entries_of count part)) =
-      ap (sum_kids g) next_is ∙ kid_sum g (entry_of (drop at part)) (drop (i + 1) (entries_of count part)) k.slot z in
+  count_turn kid r h q =
+      let z = loaded_slot k kid (entry_of (drop at part)).value ek h in
+      let a : sum_kids f (drop i (entries_of count part)) ≡ f kid + sum_kids f (drop (i + 1) (entries_of count part)) =
+      ap (sum_kids f) next_is ∙ kid_sum f (entry_of (drop at part)) (drop (i + 1) (entries_of count part)) kid z in
+      let b : sum_kids g (drop i (entries_of count part)) ≡ g kid + sum_kids g (drop (i + 1) (entries_of count part)) =
+      ap (sum_kids g) next_is ∙ kid_sum g (entry_of (drop at part)) (drop (i + 1) (entries_of count part)) kid z in
       record {
         most = q.most;
         few = q.few;

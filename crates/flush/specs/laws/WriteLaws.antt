@@ -1,5 +1,6 @@
 -- Laws of one node written: its words, its block, what is left as it was. Assumes nothing.
 use Rattle.std.specs.Prelude.{◌≡◌, refl, List, [], ◌∷◌, map, Bool, true, false, cond, not, ◌&&◌, ℕ, suc, ◌+◌, ◌*◌, ◌≤◌, ◌<◌, length, eqb, leb, ltb}
+use Rattle.std.specs.Int.{from_bool}
 use Rattle.std.proofs.Common.{sym, ◌∙◌, arith}
 use Rattle.std.proofs.Math.Path.{ap, ap₂}
 use borrow.Author.Tests.{eq-eqb, ne_eqb, eqb-true, eqb-false, ltb-true, ltb-false}
@@ -41,6 +42,11 @@ fresh_old false named e = refl
 pub fresh_new : (b : Bool) (named r : ℕ) → (named ≡ 1 → ⊥) → r ≡ cond b 1 0 → r ≡ cond (b && not (eqb named 1)) 1 0
 fresh_new true named r n e = rw (ne_eqb named 1 n) e
 fresh_new false named r n e = e
+
+-- a truth value as a number
+pub number_is : (b : Bool) (k : ℕ) → k ≡ from_bool b → k ≡ cond b 1 0
+number_is true k e = e
+number_is false k e = e
 
 pub id_next : (new next id : ℕ) → new ≡ 1 → next ≡ cond (eqb new 1) next id
 id_next new next id e = rw (eq-eqb new 1 e)

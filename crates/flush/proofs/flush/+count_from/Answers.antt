@@ -36,14 +36,8 @@ loop-i-init t c = (
 pub kid_of-kid-requires : goal.kid_of-kid-requires
 kid_of-kid-requires t c = search laws
 
-pub overflow_add-i : goal.overflow_add-i
-overflow_add-i t c = search laws
-
-pub loop-i-smaller-then-not-kid : goal.loop-i-smaller-then-not-kid
-loop-i-smaller-then-not-kid t c = search laws
-
-pub loop-i-preserved-then-not-kid : goal.loop-i-preserved-then-not-kid
-loop-i-preserved-then-not-kid t c = search laws
+pub loop-i-preserved-in_default : goal.loop-i-preserved-in_default
+loop-i-preserved-in_default t c = search laws
 
 pub overflow_sub-d : goal.overflow_sub-d
 overflow_sub-d t c = search laws
@@ -53,9 +47,6 @@ count_from-sum-requires t c = (
   omega (arith, c.if-d-eq0.false, c.decreases),
   (c.requires.ready, (c.loop-i.invariant.2.most, c.loop-i.invariant.2.few, c.requires.dirty_bound.2)),
 )
-
-pub loop-i-smaller : goal.loop-i-smaller
-loop-i-smaller t c = search laws
 
 pub loop-i-preserved : goal.loop-i-preserved
 loop-i-preserved t c = search laws

@@ -11,11 +11,8 @@ abbrev pub decreases-count_from : goal.decreases-count_from
 decreases-count_from l = l.d
 
 abbrev pub invariant-loop-i : goal.invariant-loop-i
-invariant-loop-i l = (l.i ≤ l.h.count) × (l.at ≡ records_length l.i l.part)
-    × Counted l.limit (sum_kids (sum_from dirty_one (l.d - 1) (state_of l.size l.t l.heads l.bytes)) (entries_of l.h.count l.part))
-    (sum_kids (sum_from (id_one l.t.by_id) (l.d - 1) (state_of l.size l.t l.heads l.bytes)) (entries_of l.h.count l.part)) l.initial.sum l.sum
-    (sum_kids (sum_from dirty_one (l.d - 1) (state_of l.size l.t l.heads l.bytes)) (drop l.i (entries_of l.h.count l.part)))
-    (sum_kids (sum_from (id_one l.t.by_id) (l.d - 1) (state_of l.size l.t l.heads l.bytes)) (drop l.i (entries_of l.h.count l.part)))
-
-abbrev pub decreases-loop-i : goal.decreases-loop-i
-decreases-loop-i l = l.h.count - l.i
+invariant-loop-i l = (l._i ≤ l._i-end) × (l.at ≡ records_length l._i l.part)
+    × Counted l.limit (sum_kids (sum_from dirty_one (l.d - 1) (state_of l.size l.t l.heads l.bytes)) (entries_of l._i-end l.part))
+    (sum_kids (sum_from (id_one l.t.by_id) (l.d - 1) (state_of l.size l.t l.heads l.bytes)) (entries_of l._i-end l.part)) l.initial.sum l.sum
+    (sum_kids (sum_from dirty_one (l.d - 1) (state_of l.size l.t l.heads l.bytes)) (drop l._i (entries_of l._i-end l.part)))
+    (sum_kids (sum_from (id_one l.t.by_id) (l.d - 1) (state_of l.size l.t l.heads l.bytes)) (drop l._i (entries_of l._i-end l.part)))

@@ -54,18 +54,12 @@ pub kid_of-kid-requires : goal.kid_of-kid-requires
 kid_of-kid-requires t c =
     let a = c.args in
     let p = c.requires in
-    let x = kids_count _ _ c.loop-i.invariant.8 in
+    let x = kids_count _ _ c.words_at-h.ensures in
     let z = kids_room _ a.slots a.n a.d a.t _ _ _ _ c.if-d-eq0.false x c.slot_of-part.ensures p.standing.ready p.alive.used in
     search (rules, at_lies, z)
 
-pub overflow_add-i : goal.overflow_add-i
-overflow_add-i t c = search laws
-
-pub loop-i-smaller-then-not-kid : goal.loop-i-smaller-then-not-kid
-loop-i-smaller-then-not-kid t c = search laws
-
-pub loop-i-preserved-then-not-kid : goal.loop-i-preserved-then-not-kid
-loop-i-preserved-then-not-kid t c = search laws
+pub loop-i-preserved-in_default : goal.loop-i-preserved-in_default
+loop-i-preserved-in_default t c = search laws
 
 pub overflow_sub-d : goal.overflow_sub-d
 overflow_sub-d t c = search laws
@@ -78,7 +72,7 @@ write_from-v-requires t c =
     let g = j.7 in
     let k = c.kid_of-kid.ensures in
     let h = c.loop-i-test.true in
-    let x = kids_count _ _ c.loop-i.invariant.8 in
+    let x = kids_count _ _ c.words_at-h.ensures in
     let y = c.slot_of-part.ensures in
     let r = p.standing.ready in
     let n = p.alive.used in (
@@ -86,17 +80,14 @@ write_from-v-requires t c =
       (
         g.left.standing,
         (
-          go_alive _ a.slots _ a.xid a.n a.d a.t _ _ _ _ _ _ _ _ _ _ _ _ _ _ _ _ _ _ _ _ _ _ g h c.kid_of-kid.result k.0 k.1 c.if-not-kid.false c.if-d-eq0.false x y r n,
+          go_alive _ a.slots _ a.xid a.n a.d a.t _ _ _ _ _ _ _ _ _ _ _ _ _ _ _ _ _ _ _ _ _ _ g h c.kid_of-kid.result k.0 k.1 _ c.in-Some.is c.if-d-eq0.false x y r n,
           (
             spaced_same _ _ _ _ j.0 g.spaced,
-            fitting_same _ _ _ _ _ _ _ j.4 j.5 j.6 (go_fits _ a.slots _ a.xid a.n a.d a.t _ _ _ _ _ _ _ _ _ _ _ _ _ _ _ _ _ _ _ _ _ _ g h c.kid_of-kid.result k.0 k.1 c.if-not-kid.false c.if-d-eq0.false x y r n _ _ _ p.fitting),
+            fitting_same _ _ _ _ _ _ _ j.4 j.5 j.6 (go_fits _ a.slots _ a.xid a.n a.d a.t _ _ _ _ _ _ _ _ _ _ _ _ _ _ _ _ _ _ _ _ _ _ g h c.kid_of-kid.result k.0 k.1 _ c.in-Some.is c.if-d-eq0.false x y r n _ _ _ p.fitting),
           ),
         ),
       ),
     )
-
-pub loop-i-smaller : goal.loop-i-smaller
-loop-i-smaller t c = search laws
 
 pub loop-i-preserved : goal.loop-i-preserved
 loop-i-preserved t c =
@@ -112,8 +103,7 @@ loop-i-preserved t c =
       search (rules, c.write_from-v.auto, c.loop-i.invariant),
       search (rules, c.write_from-v.auto, c.loop-i.invariant),
       search (rules, c.write_from-v.auto, c.loop-i.invariant),
-      go_turn _ a.slots _ a.xid a.n a.d a.t _ _ _ _ _ _ _ _ _ _ _ _ _ _ _ _ _ _ _ _ _ _ g c.loop-i-test.true _ k.0 k.1 c.if-not-kid.false _ _ _ _ _ _ _ _ e.wrote e.left (spaced_same _ _ _ _ (sym j.0) e.spaced),
-      j.8,
+      go_turn _ a.slots _ a.xid a.n a.d a.t _ _ _ _ _ _ _ _ _ _ _ _ _ _ _ _ _ _ _ _ _ _ g c.loop-i-test.true _ k.0 k.1 _ c.in-Some.is _ _ _ _ _ _ _ _ e.wrote e.left (spaced_same _ _ _ _ (sym j.0) e.spaced),
     )
 
 pub write_node-requires-2 : goal.write_node-requires-2
@@ -122,7 +112,7 @@ write_node-requires-2 t c =
     let p = c.requires in
     let j = c.loop-i.invariant in
     let g = j.7 in
-    let x = kids_count _ _ c.loop-i.invariant.8 in
+    let x = kids_count _ _ c.words_at-h.ensures in
     let y = c.slot_of-part.ensures in
     let h = c.loop-i-test.false in
     record { standing = g.left.standing; alive = end_alive _ a.slots _ a.xid a.n a.d a.t _ _ _ _ _ _ _ _ _ _ _ _ _ _ _ _ _ _ _ _ _ _ g c.if-d-eq0.false x y p.standing.ready p.alive h; spaced_2 = spaced_same _ _ _ _ j.0 g.spaced; fitting = fitting_same _ _ _ _ _ _ _ j.4 j.5 j.6 (end_fits _ a.slots _ a.xid a.n a.d a.t _ _ _ _ _ _ _ _ _ _ _ _ _ _ _ _ _ _ _ _ _ _ g c.if-d-eq0.false x y p.standing.ready p.alive h _ _ _ p.fitting) }
@@ -154,7 +144,7 @@ returns t c =
     let p = c.requires in
     let j = c.loop-i.invariant in
     let g = j.7 in
-    let x = kids_count _ _ c.loop-i.invariant.8 in
+    let x = kids_count _ _ c.words_at-h.ensures in
     let y = c.slot_of-part.ensures in
     let h = c.loop-i-test.false in
     let e = c.write_node-2.ensures in

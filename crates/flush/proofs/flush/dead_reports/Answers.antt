@@ -22,12 +22,6 @@ dead_name-requires c = search laws
 pub push_if-r-requires : goal.push_if-r-requires
 push_if-r-requires c = search laws
 
-pub overflow_add-n : goal.overflow_add-n
-overflow_add-n c = search laws
-
-pub loop-n-smaller : goal.loop-n-smaller
-loop-n-smaller c = search laws
-
 pub loop-n-preserved : goal.loop-n-preserved
 loop-n-preserved c = (
   search laws,

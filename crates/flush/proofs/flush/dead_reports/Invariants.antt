@@ -10,6 +10,3 @@ invariant-loop-n l = (l.n ≤ l.t.used) × (l.f ≤ l.n) × (l.r ≤ l.n) × (le
     × (numbers_of l.f l.freed ++ dead_places l.heads (l.t.used - l.n) l.n ≡ dead_places l.heads l.t.used 0)
     × (numbers_of l.r l.removed ++ dead_names l.t.by_id l.heads (l.t.used - l.n) l.n ≡ dead_names l.t.by_id l.heads l.t.used 0)
     × Past l.f l.initial.freed l.freed × Past l.r l.initial.removed l.removed
-
-abbrev pub decreases-loop-n : goal.decreases-loop-n
-decreases-loop-n l = l.t.used - l.n

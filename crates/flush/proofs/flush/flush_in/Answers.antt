@@ -1,3 +1,4 @@
+use Rattle.tree.specs.laws.base.Refused.{handed_on}
 use Rattle.flush.specs.laws.CallLaws.{slots_some, root_alive, standing_is, in_lent, spaced_is, long_are, in_short, all_fits, in_done, untouched, finished_beyond}
 use Rattle.flush.specs.laws.StepLaws.{spaced_held}
 use borrow.Author.Rules.{rules}
@@ -34,35 +35,22 @@ shape_of-places-then-not-lists_hold c = search laws
 pub returns-then-not-lists_hold : goal.returns-then-not-lists_hold
 returns-then-not-lists_hold c = search laws
 
-pub short_of-short-requires : goal.short_of-short-requires
-short_of-short-requires c =
+pub short_of-requires : goal.short_of-requires
+short_of-requires c =
     let a = c.args in
     let p = c.requires in
     record { ready = p.ready; held = spaced_held _ _ _ (spaced_is a.lent a.t _ _ _ p.ready p.bytes_value _ _ _ _ _ _ c.lists_hold.ensures (ap not c.if-not-lists_hold.false)) }
 
-pub shape_of-bitmap-then-short-ne0 : goal.shape_of-bitmap-then-short-ne0
-shape_of-bitmap-then-short-ne0 c = search laws
+pub returns-in_err-short_of-clause-answer : goal.returns-in_err-short_of-clause-answer
+returns-in_err-short_of-clause-answer c =
+    let a = c.args in
+    let p = c.requires in
+    rw (handed_on c.from_residual.result _ c.from_residual.ensures.1)
+    (in_short a.lent a.t _ _ _ p.ready p.bytes_value _ _ _ _ _ _ c.lists_hold.ensures (ap not c.if-not-lists_hold.false) _ _ _ c.short_of.ensures _ c.in_err-short_of.was _ _ _ _ _ _ _)
 
-pub shape_of-free-then-short-ne0 : goal.shape_of-free-then-short-ne0
-shape_of-free-then-short-ne0 c = search laws
-
-pub shape_of-heads-then-short-ne0 : goal.shape_of-heads-then-short-ne0
-shape_of-heads-then-short-ne0 c = search laws
-
-pub shape_of-freed-then-short-ne0 : goal.shape_of-freed-then-short-ne0
-shape_of-freed-then-short-ne0 c = search laws
-
-pub shape_of-removed-then-short-ne0 : goal.shape_of-removed-then-short-ne0
-shape_of-removed-then-short-ne0 c = search laws
-
-pub shape_of-ids-then-short-ne0 : goal.shape_of-ids-then-short-ne0
-shape_of-ids-then-short-ne0 c = search laws
-
-pub shape_of-places-then-short-ne0 : goal.shape_of-places-then-short-ne0
-shape_of-places-then-short-ne0 c = search laws
-
-pub returns-then-short-ne0 : goal.returns-then-short-ne0
-returns-then-short-ne0 c = search laws
+pub returns-in_err-short_of-clause-left : goal.returns-in_err-short_of-clause-left
+returns-in_err-short_of-clause-left c =
+    rw (handed_on c.from_residual.result _ c.from_residual.ensures.1) (untouched _ _ _ _ _ _ _)
 
 pub write_all-all-requires : goal.write_all-all-requires
 write_all-all-requires c =
@@ -70,7 +58,7 @@ write_all-all-requires c =
     let p = c.requires in
     let e = c.lists_hold.ensures in
     let q = ap not c.if-not-lists_hold.false in
-    record { standing = standing_is a.lent a.t _ _ _ p.ready p.bytes_value; alive = root_alive a.lent a.t _ _ _ p.ready p.bytes_value; spaced = spaced_is a.lent a.t _ _ _ p.ready p.bytes_value _ _ _ _ _ _ e q; freed_len = long_are a.lent a.t _ _ _ p.ready p.bytes_value _ _ _ _ _ _ e q; fitting = all_fits a.lent a.t _ _ _ p.ready p.bytes_value _ _ _ _ _ _ e q _ _ _ c.short_of-short.ensures c.if-short-ne0.false }
+    record { standing = standing_is a.lent a.t _ _ _ p.ready p.bytes_value; alive = root_alive a.lent a.t _ _ _ p.ready p.bytes_value; spaced = spaced_is a.lent a.t _ _ _ p.ready p.bytes_value _ _ _ _ _ _ e q; freed_len = long_are a.lent a.t _ _ _ p.ready p.bytes_value _ _ _ _ _ _ e q; fitting = all_fits a.lent a.t _ _ _ p.ready p.bytes_value _ _ _ _ _ _ e q _ _ _ c.short_of.ensures _ c.in_ok-short_of.was }
 
 pub shape_of-image : goal.shape_of-image
 shape_of-image c = search laws
@@ -103,7 +91,7 @@ returns c =
     let x = c.write_all-all.ensures in
     let k = c.write_all-all.auto in
     record {
-      answer = in_done a.lent a.t _ _ _ p.ready p.bytes_value _ _ _ _ _ _ c.lists_hold.ensures (ap not c.if-not-lists_hold.false) _ _ _ c.short_of-short.ensures c.if-short-ne0.false _ _ _ _ _ _ _ _ x.flushed;
+      answer = in_done a.lent a.t _ _ _ p.ready p.bytes_value _ _ _ _ _ _ c.lists_hold.ensures (ap not c.if-not-lists_hold.false) _ _ _ c.short_of.ensures _ c.in_ok-short_of.was _ _ _ _ _ _ _ _ x.flushed;
       left = (
         finished_beyond _ _ _ _ _ _ _ _ _ _ _ _ _ _ _ x.left (search (rules, k)) (search (rules, k)) (search (rules, k)) (search (rules, k)),
         x.left.ready,

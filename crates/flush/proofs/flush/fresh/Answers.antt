@@ -7,8 +7,5 @@ ruleset laws = (rules, fresh_old, fresh_new)
 pub returns-then-named-eq1 : goal.returns-then-named-eq1
 returns-then-named-eq1 c = search laws
 
-pub one_if-requires : goal.one_if-requires
-one_if-requires c = search laws
-
 pub returns : goal.returns
 returns c = search laws

@@ -1,4 +1,5 @@
 use Rattle.flush.specs.laws.BlockLaws.{at_wrote, at_left, room_freed, room_ids, room_places, room_next, room_allocated}
+use Rattle.flush.specs.laws.WriteLaws.{number_is}
 use Rattle.flush.specs.laws.TallyLaws.{words_room}
 use borrow.Author.Rules.{rules}
 use Rattle.flush.proofs.flush.write_at.Goals as goal
@@ -34,14 +35,11 @@ named_after-requires c = search laws
 pub rewrite-requires : goal.rewrite-requires
 rewrite-requires c = let p = c.requires in words_room _ _ _ _ _ _ p.standing.ready p.dirty.alive.used
 
-pub one_if-moves-requires : goal.one_if-moves-requires
-one_if-moves-requires c = search laws
-
 pub push_if-m-requires : goal.push_if-m-requires
-push_if-m-requires c = let p = c.requires in room_ids _ _ _ _ _ _ _ _ _ p.room _ c.words_at-h.ensures _ c.one_if-moves.ensures
+push_if-m-requires c = let p = c.requires in room_ids _ _ _ _ _ _ _ _ _ p.room _ c.words_at-h.ensures _ (number_is _ _ c.from-moves.ensures)
 
 pub push_if-requires : goal.push_if-requires
-push_if-requires c = let p = c.requires in room_places _ _ _ _ _ _ _ _ _ p.room _ c.words_at-h.ensures _ c.one_if-moves.ensures
+push_if-requires c = let p = c.requires in room_places _ _ _ _ _ _ _ _ _ p.room _ c.words_at-h.ensures _ (number_is _ _ c.from-moves.ensures)
 
 pub overflow_add-result : goal.overflow_add-result
 overflow_add-result c =
@@ -49,7 +47,7 @@ overflow_add-result c =
 
 pub overflow_add-result-2 : goal.overflow_add-result-2
 overflow_add-result-2 c =
-    let m = room_allocated _ _ _ _ _ _ _ _ _ c.requires.room _ c.words_at-h.ensures _ c.one_if-moves.ensures in search (rules, m)
+    let m = room_allocated _ _ _ _ _ _ _ _ _ c.requires.room _ c.words_at-h.ensures _ (number_is _ _ c.from-moves.ensures) in search (rules, m)
 
 pub shape_of-image : goal.shape_of-image
 shape_of-image c = search laws
@@ -70,4 +68,4 @@ pub returns : goal.returns
 returns c =
     let a = c.args in
     let p = c.requires in
-    record { wrote = at_wrote _ _ _ _ _ a.t _ _ _ _ _ _ _ _ _ _ _ a.w p.standing p.dirty _ c.words_at-h.ensures _ _ _ _ _ _ _ _ _ c.fresh-new.ensures c.id_after-id.ensures c.block_id-oid.ensures c.left_place-left.ensures.0 c.push_if-f.ensures c.pack_at.ensures c.named_after.ensures c.rewrite.ensures c.one_if-moves.ensures c.push_if-m.ensures c.push_if.ensures; left = at_left _ _ _ _ _ a.t _ _ _ _ _ _ _ _ _ _ _ a.w p.standing p.dirty _ c.words_at-h.ensures _ _ _ _ _ _ _ _ _ c.fresh-new.ensures c.id_after-id.ensures c.block_id-oid.ensures c.left_place-left.ensures.0 c.push_if-f.ensures c.pack_at.ensures c.named_after.ensures c.rewrite.ensures c.one_if-moves.ensures c.push_if-m.ensures c.push_if.ensures (search (rules, c.rewrite.auto)) }
+    record { wrote = at_wrote _ _ _ _ _ a.t _ _ _ _ _ _ _ _ _ _ _ a.w p.standing p.dirty _ c.words_at-h.ensures _ _ _ _ _ _ _ _ _ c.fresh-new.ensures c.id_after-id.ensures c.block_id-oid.ensures c.left_place-left.ensures.0 c.push_if-f.ensures c.pack_at.ensures c.named_after.ensures c.rewrite.ensures (number_is _ _ c.from-moves.ensures) c.push_if-m.ensures c.push_if.ensures; left = at_left _ _ _ _ _ a.t _ _ _ _ _ _ _ _ _ _ _ a.w p.standing p.dirty _ c.words_at-h.ensures _ _ _ _ _ _ _ _ _ c.fresh-new.ensures c.id_after-id.ensures c.block_id-oid.ensures c.left_place-left.ensures.0 c.push_if-f.ensures c.pack_at.ensures c.named_after.ensures c.rewrite.ensures (number_is _ _ c.from-moves.ensures) c.push_if-m.ensures c.push_if.ensures (search (rules, c.rewrite.auto)) }

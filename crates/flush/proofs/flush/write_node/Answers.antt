@@ -17,14 +17,8 @@ returns-then-h-ne1 c =
     let p = c.requires in
     record { wrote = node_clean _ _ _ a.t _ _ _ _ _ _ _ a.w p.alive _ c.words_at-h.ensures c.if-h-ne1.true; left = left_same _ _ _ _ _ _ _ _ _ p.standing; spaced = p.spaced_2 }
 
-pub alloc-chosen-requires : goal.alloc-chosen-requires
-alloc-chosen-requires c = search laws
-
-pub enum_known-chosen : goal.enum_known-chosen
-enum_known-chosen c = search laws
-
-pub enum_told-1 : goal.enum_told-1
-enum_told-1 c = search laws
+pub alloc-requires : goal.alloc-requires
+alloc-requires c = search laws
 
 pub shape_of-bitmap-in_default : goal.shape_of-bitmap-in_default
 shape_of-bitmap-in_default c = search laws
@@ -39,15 +33,15 @@ pub returns-in_default : goal.returns-in_default
 returns-in_default c =
     let a = c.args in
     let p = c.requires in
-    let x = c.alloc-chosen.ensures in
+    let x = c.alloc.ensures in
     record { wrote = node_full _ _ _ a.t _ _ _ _ _ _ _ a.w p.alive _ c.words_at-h.ensures c.if-h-ne1.false _ x.answer p.standing.same _ x.after c.in_default.is; left = left_same _ _ _ _ _ _ _ _ _ p.standing; spaced = spaced_after _ _ _ _ p.spaced_2 x.after }
 
 pub write_at-requires : goal.write_at-requires
 write_at-requires c =
     let a = c.args in
     let p = c.requires in
-    let x = c.alloc-chosen.ensures in
-    let i = c.in-Block.is in
+    let x = c.alloc.ensures in
+    let i = c.in-Some.is in
     let d = c.if-h-ne1.false in
     record { standing = p.standing; dirty = node_dirty _ _ _ _ _ p.alive _ c.words_at-h.ensures d; size_in_bounds = (block_inside _ _ _ p.spaced_2 _ _ _ x.answer i, block_few _ _ _ p.spaced_2 _ _ _ x.answer i); room = node_room _ _ _ a.t _ _ _ _ _ _ _ a.w p.alive _ c.words_at-h.ensures d _ x.answer p.standing.same _ _ i p.fitting }
 
@@ -76,7 +70,7 @@ pub returns : goal.returns
 returns c =
     let a = c.args in
     let p = c.requires in
-    let x = c.alloc-chosen.ensures in
-    let i = c.in-Block.is in
+    let x = c.alloc.ensures in
+    let i = c.in-Some.is in
     let y = c.write_at.ensures in
     record { wrote = node_wrote _ _ _ a.t _ _ _ _ _ _ _ a.w p.alive _ c.words_at-h.ensures c.if-h-ne1.false _ x.answer p.standing.same _ _ i _ _ _ _ _ _ _ x.after y.wrote; left = y.left; spaced = spaced_after _ _ _ _ p.spaced_2 x.after }

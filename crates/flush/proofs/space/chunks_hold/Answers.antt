@@ -17,17 +17,11 @@ bounds-counts-c c = search laws
 pub overflow_cast-n : goal.overflow_cast-n
 overflow_cast-n c = omega (arith, c.type_inv.counts c.loop-c.c)
 
-pub overflow_add-n : goal.overflow_add-n
-overflow_add-n c = omega (arith, c.type_inv.counts c.loop-c.c)
-
-pub returns-then-size-n : goal.returns-then-size-n
-returns-then-size-n c = search laws
+pub returns-then-size-div_ceil : goal.returns-then-size-div_ceil
+returns-then-size-div_ceil c = search laws
 
 pub returns-then-left-n : goal.returns-then-left-n
 returns-then-left-n c = search laws
-
-pub overflow_add-c : goal.overflow_add-c
-overflow_add-c c = search laws
 
 pub returns-then-c-counts : goal.returns-then-c-counts
 returns-then-c-counts c = search laws
@@ -40,9 +34,6 @@ overflow_mul-left c = search laws
 
 pub overflow_sub-left : goal.overflow_sub-left
 overflow_sub-left c = search laws
-
-pub loop-c-smaller : goal.loop-c-smaller
-loop-c-smaller c = search laws
 
 pub loop-c-preserved : goal.loop-c-preserved
 loop-c-preserved c = search laws

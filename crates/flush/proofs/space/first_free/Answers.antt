@@ -1,8 +1,8 @@
 use borrow.Author.Rules.{rules}
-use Rattle.flush.specs.laws.SpaceSteps.{first_start, first_found, first_past, first_next, first_end}
+use Rattle.flush.specs.laws.SpaceSteps.{first_start, first_found, first_past, first_next, first_last, first_end}
 use Rattle.flush.proofs.space.first_free.Goals as goal
 
-ruleset laws = (rules, first_start, first_found, first_past, first_next, first_end)
+ruleset laws = (rules, first_start, first_found, first_past, first_next, first_last, first_end)
 
 pub loop-i-init : goal.loop-i-init
 loop-i-init c = search laws
@@ -31,9 +31,6 @@ returns-then-i-z c = search laws
 pub returns-then-z-lt8 : goal.returns-then-z-lt8
 returns-then-z-lt8 c = search laws
 
-pub overflow_add-i-in-loop-i : goal.overflow_add-i-in-loop-i
-overflow_add-i-in-loop-i c = search laws
-
 pub loop-i-smaller : goal.loop-i-smaller
 loop-i-smaller c = search laws
 
@@ -42,3 +39,6 @@ loop-i-preserved c = search laws
 
 pub returns : goal.returns
 returns c = search laws
+
+pub returns-else-z-lt8 : goal.returns-else-z-lt8
+returns-else-z-lt8 c = search laws

@@ -13,12 +13,6 @@ usable_in-sum-requires c = search laws
 pub overflow_add-sum : goal.overflow_add-sum
 overflow_add-sum c = search laws
 
-pub overflow_add-c : goal.overflow_add-c
-overflow_add-c c = search laws
-
-pub loop-c-smaller : goal.loop-c-smaller
-loop-c-smaller c = search laws
-
 pub loop-c-preserved : goal.loop-c-preserved
 loop-c-preserved c = search laws
 

@@ -32,8 +32,5 @@ bounds-free-c c = search laws
 pub overflow_cast-free : goal.overflow_cast-free
 overflow_cast-free c = omega (arith, c.type_inv.free c.args.c)
 
-pub lesser-requires : goal.lesser-requires
-lesser-requires c = search laws
-
 pub returns : goal.returns
 returns c = search laws

@@ -1,17 +1,14 @@
 use borrow.Author.Rules.{rules}
-use Rattle.flush.specs.laws.SpaceSteps.{zeros_start, zeros_next, zeros_end, zeros_end_most}
+use Rattle.flush.specs.laws.SpaceSteps.{zeros_start, zeros_next, zeros_end, zeros_end_most, zeros_last, zeros_last_most}
 use Rattle.flush.proofs.space.zeros.Goals as goal
 
-ruleset laws = (rules, zeros_start, zeros_next, zeros_end, zeros_end_most)
+ruleset laws = (rules, zeros_start, zeros_next, zeros_end, zeros_end_most, zeros_last, zeros_last_most)
 
 pub loop-i-init : goal.loop-i-init
 loop-i-init c = search laws
 
 pub overflow_sub-n : goal.overflow_sub-n
 overflow_sub-n c = search laws
-
-pub lesser-m-requires : goal.lesser-m-requires
-lesser-m-requires c = search laws
 
 pub overflow_add-a : goal.overflow_add-a
 overflow_add-a c = search laws
@@ -25,9 +22,6 @@ zeros_in-sum-requires c = search laws
 pub overflow_add-sum : goal.overflow_add-sum
 overflow_add-sum c = search laws
 
-pub overflow_add-i : goal.overflow_add-i
-overflow_add-i c = search laws
-
 pub loop-i-smaller : goal.loop-i-smaller
 loop-i-smaller c = search laws
 
@@ -36,3 +30,6 @@ loop-i-preserved c = search laws
 
 pub returns : goal.returns
 returns c = search laws
+
+pub returns-2 : goal.returns-2
+returns-2 c = search laws
