@@ -1,5 +1,5 @@
 -- The words of an open tree, what is lent by numbers, and 1 of words that are too few.
-use Rattle.std.specs.Prelude.{List, [], ◌∷◌, Bool, cond, not, ℕ, length, get_or, leb, eqb}
+use Rattle.std.specs.Prelude.{List, [], ◌∷◌, Bool, cond, not, ℕ, length, get_or, leb, eqb, Some, None}
 use Rattle.seal.specs.Bytes.{splice}
 use Rattle.node.specs.Result.{Result, ◌>>◌, check}
 use Rattle.node.specs.Refusals as refusal
@@ -67,7 +67,7 @@ stored w t = splice w 0 (words_of t)
 
 -- what is lent by numbers
 abbrev pub lent_numbers : ℕ → ℕ → ℕ → ℕ → Lent
-lent_numbers size slots mapped map = record { size = size; slots = slots; mapped = yes mapped; map = map }
+lent_numbers size slots mapped map = record { size = size; slots = slots; map = cond (yes mapped) (Some map) None }
 
 -- words enough for a tree, and for an answer
 abbrev pub tree_holds : List ℕ → Bool

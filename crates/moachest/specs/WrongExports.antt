@@ -4,7 +4,7 @@
 -- laws/WrongExportsRuledOut. What the calls do with a tree is in the table of crate history (WrongAnswers); here it is numbers and words.
 -- A trusted function has the same clauses over the definition without 1 (`get_in` in the place of `got_in`), and so the same answers where what it
 -- trusts holds: it has no row of its own.
-use Rattle.std.specs.Prelude.{List, [], ◌∷◌, ◌++◌, Bool, true, false, ◌&&◌, not, ℕ, ◌-◌, replicate, length, drop, eqb}
+use Rattle.std.specs.Prelude.{List, [], ◌∷◌, ◌++◌, Bool, true, false, ◌&&◌, not, ℕ, ◌-◌, replicate, length, drop, eqb, leb}
 use Prim.Native.String.{String}
 use Rattle.seal.specs.Bytes.{splice}
 use Rattle.node.specs.Result.{Result, ok, refused}
@@ -23,7 +23,9 @@ use Rattle.tree.specs.Omap.{omap_value, omap_drop, omap_put}
 use Rattle.tree.specs.Answers.{opened_of, opened_in, got_means, got_in, got_output, floor_means, floored_in, floored_output, range_means, ranged_in, ranged_output, put_value, edited_of, removed_of}
 use Rattle.tree.specs.Lent as lend
 use Rattle.tree.specs.declared.range.Ranged.{Ranged}
-use Rattle.tree.specs.declared.range.Ranged.TheVariants as ranging
+use Rattle.std.specs.Prelude.{Ok, Err}
+use Rattle.std.specs.Prelude as std
+use Rattle.node.specs.declared.refusal.Refusal.{Refusal}
 use Rattle.flush.specs.Space.{Space, space_of}
 use Rattle.flush.specs.Flush.{Flushed}
 use Rattle.flush.specs.Answers.{lists_of, flushed_means, flushed_in}
@@ -137,7 +139,8 @@ sevens = replicate 8 7
 -- open: words, a map or none, the root's address
 unfoldable pub opens : List ℕ → ℕ → ℕ → ℕ → List ℕ → Bool
 opens w mapped root r w' =
-    same (outcome state_numbers (opened_of 512 heads bytes (opened_back r w')))
+    leb r 20
+    && same (outcome state_numbers (opened_of 512 heads bytes (opened_back r w')))
     (outcome state_numbers (on_tree w (λ t. opened_in (lent mapped) (replicate 19 0) (replicate 4096 0) root byte 2)))
     && same w' (opened_tree w (opened_back r w'))
 
@@ -145,7 +148,8 @@ opens w mapped root r w' =
 unfoldable pub gets : List ℕ → List ℕ → List ℕ → List ℕ → ℕ → List ℕ → List ℕ → List ℕ → Bool
 gets w a k out r w' a' out' =
     let should : Result (Got Val) = on_words w a (λ t. got_in (lent 0) t heads bytes (length out) k) in
-    same (outcome (λ g. state_numbers g.state ++ value_numbers g.answer) (got_means 512 heads bytes out' (got_back r w' a')))
+    leb r 20
+    && same (outcome (λ g. state_numbers g.state ++ value_numbers g.answer) (got_means 512 heads bytes out' (got_back r w' a')))
     (outcome (λ g. state_numbers g.state ++ value_numbers g.answer) should)
     && same out' (got_output out should)
     && same w' (got_tree w (got_back r w' a'))
@@ -158,7 +162,8 @@ found_numbers found = outcome (λ g. state_numbers g.state ++ records_of g.answe
 unfoldable pub floors : List ℕ → List ℕ → List ℕ → List ℕ → ℕ → List ℕ → List ℕ → List ℕ → Bool
 floors w a k out r w' a' out' =
     let should : Result (Got Entry) = on_words w a (λ t. floored_in (lent 0) t heads bytes (length out) k) in
-    same (found_numbers (floor_means 512 heads bytes out' (floored_back r w' a'))) (found_numbers should)
+    leb r 20
+    && same (found_numbers (floor_means 512 heads bytes out' (floored_back r w' a'))) (found_numbers should)
     && same out' (floored_output out should)
     && same w' (floored_tree w (floored_back r w' a'))
     && same a' (floored_answer a (floored_back r w' a'))
@@ -167,20 +172,22 @@ floors w a k out r w' a' out' =
 unfoldable pub ranges : List ℕ → List ℕ → List ℕ → List ℕ → List ℕ → ℕ → List ℕ → List ℕ → List ℕ → Bool
 ranges w a lo hi out r w' a' out' =
     let should : Result (Got Entry) = on_words w a (λ t. ranged_in (lent 0) t heads bytes (length out) lo hi) in
-    same (found_numbers (range_means 512 heads bytes out' (ranged_back r w' a'))) (found_numbers should)
+    leb r 20
+    && same (found_numbers (range_means 512 heads bytes out' (ranged_back r w' a'))) (found_numbers should)
     && same out' (ranged_output out should)
     && long_holds (ranged_back r w' a')
     && same w' (ranged_tree w (ranged_back r w' a'))
     && same a' (ranged_answer a (ranged_back r w' a'))
   where
-    long_holds : Ranged → Bool
-    long_holds (ranging.Refused x) = true
-    long_holds (ranging.Done t count long) = eqb long (records_length count out')
+    long_holds : std.Result Ranged Refusal → Bool
+    long_holds (Err x) = true
+    long_holds (Ok g) = eqb g.length (records_length g.count out')
 
 -- an edit: words, the slot's entries, the call; the number and the words after, and what entries the slot has then
 unfoldable pub edited : List ℕ → List Entry → (State → Result State) → ℕ → List ℕ → List Entry → Bool
 edited w es f r w' es' =
-    same (outcome state_numbers (edited_of 512 (heads_of 2 1 es') (bytes_of es') (edited_back r w')))
+    leb r 20
+    && same (outcome state_numbers (edited_of 512 (heads_of 2 1 es') (bytes_of es') (edited_back r w')))
     (outcome state_numbers (on_tree w (λ t. edits 512 1 t (heads_of 2 0 es) (bytes_of es) (replicate 2048 0) f)))
     && same w' (edited_tree w (edited_back r w'))
 
@@ -191,7 +198,8 @@ upserts w k is_ghost v r w' es' = edited w two (λ s. upsert (lent 0) s k (put_v
 -- remove: words, answer, key; the slot's dirty mark after
 unfoldable pub removes : List ℕ → List ℕ → List ℕ → ℕ → List ℕ → List ℕ → ℕ → List Entry → Bool
 removes w a k r w' a' dirty es' =
-    same (outcome removed_numbers (removed_of 512 (heads_of 2 dirty es') (bytes_of es') (removed_back r w' a')))
+    leb r 20
+    && same (outcome removed_numbers (removed_of 512 (heads_of 2 dirty es') (bytes_of es') (removed_back r w' a')))
     (outcome removed_numbers (on_words w a (λ t. edits 512 1 t heads bytes (replicate 2048 0) (λ s. removing.remove (lent 0) s k))))
     && same w' (removed_tree w (removed_back r w' a'))
     && same a' (removed_answer a (removed_back r w' a'))
@@ -219,7 +227,8 @@ drops w r w' es' = edited w versions (λ s. omap_drop (lent 0) s 5) r w' es'
 -- flush of the leaf, dirty: words, answer, the bitmap's first byte and the free count. Accepted, the leaf goes to block 1 and block 2 is freed
 unfoldable pub flushes : List ℕ → List ℕ → ℕ → ℕ → ℕ → List ℕ → Bool
 flushes w a used free r a' =
-    same
+    leb r 20
+    && same
     (outcome flush_numbers
     (flushed_means 512 (tree_of w) (splice image 512 (packed 1 3)) (space 7 0) (heads_of 1 0 two) bytes (2 ∷ []) (0 ∷ []) (0 ∷ []) (0 ∷ [])
     (flushed_back r a')))

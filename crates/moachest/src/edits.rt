@@ -5,13 +5,23 @@ ghost use Rattle.tree.specs.Workspace.{state_of, scratch_holds, edits};
 ghost use Rattle.tree.specs.Upsert.{upsert_in, upsert};
 ghost use Rattle.tree.specs.Remove.{remove_in, remove};
 ghost use Rattle.tree.specs.Omap.{omap_put_in, omap_put, omap_drop_in, omap_drop};
-ghost use Rattle.tree.specs.Answers.{put_value, edited_of, edited_leaves, removed_of, removed_leaves};
+ghost use Rattle.tree.specs.Answers.{put_value, lent_value, edited_of, edited_leaves, removed_of, removed_leaves};
 ghost use Rattle.tree.specs.Trusts.{Trusts, EditedCalled, RemovedCalled};
 ghost use Rattle.moachest.specs.Words.{yes, tree_of, lent_numbers, on_tree, on_words};
 ghost use Rattle.moachest.specs.Answers.{edited_tree, edited_back, removed_tree, removed_answer, removed_back};
 
 use crate::{answers, words};
-use tree::refusal;
+use tree::refusal::Refusal;
+
+// What is put: a ghost where `is_ghost` is not 0, else the bytes.
+fn lent_value(is_ghost: u64, value: &[u8]) -> Option<&[u8]>
+    ensures { lent_value result ≡ put_value (yes is_ghost) value.now }
+{
+    if is_ghost != 0 {
+        return None;
+    }
+    Some(value)
+}
 
 // Puts the entry of a key: the bytes of `value`, or a ghost, which has none, where `is_ghost` is not 0.
 pub fn moachest_upsert(
@@ -28,6 +38,7 @@ pub fn moachest_upsert(
     is_ghost: u64,
     value: &[u8],
 ) -> u64
+    ensures number { result ≤ 20 }
     ensures answer { edited_of size heads.new bytes.new (edited_back result tree.new)
         ≡ on_tree tree.old (λ t. edits size slots t heads.old bytes.old scratch.old (λ s.
         upsert (lent_of image.now (lent_numbers size slots mapped map)) s key.now (put_value (yes is_ghost) value.now))) }
@@ -35,7 +46,7 @@ pub fn moachest_upsert(
     ensures words { tree.new ≡ edited_tree tree.old (edited_back result tree.new) }
 {
     if tree.len() < words::TREE_WORDS {
-        return refusal::LENT;
+        return u64::from(Refusal::Lent);
     }
     let lent = words::lent(size, slots, mapped, map);
     let t = words::load(tree);
@@ -46,10 +57,9 @@ pub fn moachest_upsert(
         scratch,
         lent,
         key,
-        is_ghost != 0,
-        value,
+        lent_value(is_ghost, value),
     );
-    answers::leave_edited(tree, edited)
+    answers::leave_tree(tree, edited)
 }
 
 // As the call above, without its tests of what is lent (1). It trusts that `tree`, `heads` and `bytes` are as open or a trusted call on them left
@@ -71,6 +81,7 @@ pub fn moachest_upsert_trusted(
 ) -> u64
     requires trusts { Trusts image.now (lent_numbers size slots mapped map) (tree_of tree.old) heads.old bytes.old }
     requires room { 2 * size ≤ length scratch.old }
+    ensures number { result ≤ 20 }
     ensures answer { edited_of size heads.new bytes.new (edited_back result tree.new)
         ≡ on_tree tree.old (λ t. upsert_in (lent_of image.now (lent_numbers size slots mapped map))
         (state_of size t heads.old bytes.old) key.now (put_value (yes is_ghost) value.now)) }
@@ -79,7 +90,7 @@ pub fn moachest_upsert_trusted(
     ensures words { tree.new ≡ edited_tree tree.old (edited_back result tree.new) }
 {
     if tree.len() < words::TREE_WORDS {
-        return refusal::LENT;
+        return u64::from(Refusal::Lent);
     }
     let lent = words::lent(size, slots, mapped, map);
     let t = words::load(tree);
@@ -89,11 +100,10 @@ pub fn moachest_upsert_trusted(
         bytes,
         lent,
         key,
-        is_ghost != 0,
-        value,
+        lent_value(is_ghost, value),
         scratch,
     );
-    answers::leave_edited(tree, edited)
+    answers::leave_tree(tree, edited)
 }
 
 // Takes the entry of a key out. `answer` says whether it was there.
@@ -110,6 +120,7 @@ pub fn moachest_remove(
     key: &[u8],
     answer: &mut [u64],
 ) -> u64
+    ensures number { result ≤ 20 }
     ensures answer { removed_of size heads.new bytes.new (removed_back result tree.new answer.new)
         ≡ on_words tree.old answer.old (λ t. edits size slots t heads.old bytes.old scratch.old
         (λ s. remove (lent_of image.now (lent_numbers size slots mapped map)) s key.now)) }
@@ -118,10 +129,10 @@ pub fn moachest_remove(
         × (answer.new ≡ removed_answer answer.old (removed_back result tree.new answer.new)) }
 {
     if tree.len() < words::TREE_WORDS {
-        return refusal::LENT;
+        return u64::from(Refusal::Lent);
     }
     if answer.len() < words::ANSWER_WORDS {
-        return refusal::LENT;
+        return u64::from(Refusal::Lent);
     }
     let lent = words::lent(size, slots, mapped, map);
     let t = words::load(tree);
@@ -147,6 +158,7 @@ pub fn moachest_remove_trusted(
 ) -> u64
     requires trusts { Trusts image.now (lent_numbers size slots mapped map) (tree_of tree.old) heads.old bytes.old }
     requires room { 2 * size ≤ length scratch.old }
+    ensures number { result ≤ 20 }
     ensures answer { removed_of size heads.new bytes.new (removed_back result tree.new answer.new)
         ≡ on_words tree.old answer.old (λ t. remove_in
         (lent_of image.now (lent_numbers size slots mapped map)) (state_of size t heads.old bytes.old)
@@ -158,10 +170,10 @@ pub fn moachest_remove_trusted(
         × (answer.new ≡ removed_answer answer.old (removed_back result tree.new answer.new)) }
 {
     if tree.len() < words::TREE_WORDS {
-        return refusal::LENT;
+        return u64::from(Refusal::Lent);
     }
     if answer.len() < words::ANSWER_WORDS {
-        return refusal::LENT;
+        return u64::from(Refusal::Lent);
     }
     let lent = words::lent(size, slots, mapped, map);
     let t = words::load(tree);
@@ -185,6 +197,7 @@ pub fn moachest_omap_put(
     address: u64,
     length: u64,
 ) -> u64
+    ensures number { result ≤ 20 }
     ensures answer { edited_of size heads.new bytes.new (edited_back result tree.new)
         ≡ on_tree tree.old (λ t. edits size slots t heads.old bytes.old scratch.old (λ s.
         omap_put (lent_of image.now (lent_numbers size slots mapped map)) s id xid address length)) }
@@ -192,12 +205,12 @@ pub fn moachest_omap_put(
     ensures words { tree.new ≡ edited_tree tree.old (edited_back result tree.new) }
 {
     if tree.len() < words::TREE_WORDS {
-        return refusal::LENT;
+        return u64::from(Refusal::Lent);
     }
     let lent = words::lent(size, slots, mapped, map);
     let t = words::load(tree);
     let edited = t.omap_put(image, heads, bytes, scratch, lent, id, xid, address, length);
-    answers::leave_edited(tree, edited)
+    answers::leave_tree(tree, edited)
 }
 
 // As the call above, without its tests of what is lent (1). It trusts that `tree`, `heads` and `bytes` are as open or a trusted call on them left
@@ -220,6 +233,7 @@ pub fn moachest_omap_put_trusted(
 ) -> u64
     requires trusts { Trusts image.now (lent_numbers size slots mapped map) (tree_of tree.old) heads.old bytes.old }
     requires room { scratch_holds size slots scratch.old ≡ true }
+    ensures number { result ≤ 20 }
     ensures answer { edited_of size heads.new bytes.new (edited_back result tree.new)
         ≡ on_tree tree.old (λ t. omap_put_in (lent_of image.now (lent_numbers size slots mapped map))
         (state_of size t heads.old bytes.old) id xid address length) }
@@ -228,12 +242,12 @@ pub fn moachest_omap_put_trusted(
     ensures words { tree.new ≡ edited_tree tree.old (edited_back result tree.new) }
 {
     if tree.len() < words::TREE_WORDS {
-        return refusal::LENT;
+        return u64::from(Refusal::Lent);
     }
     let lent = words::lent(size, slots, mapped, map);
     let t = words::load(tree);
     let edited = t.omap_put_in(image, heads, bytes, lent, scratch, id, xid, address, length);
-    answers::leave_edited(tree, edited)
+    answers::leave_tree(tree, edited)
 }
 
 // Takes the versions of an id out.
@@ -249,6 +263,7 @@ pub fn moachest_omap_drop(
     map: u64,
     id: u64,
 ) -> u64
+    ensures number { result ≤ 20 }
     ensures answer { edited_of size heads.new bytes.new (edited_back result tree.new)
         ≡ on_tree tree.old (λ t. edits size slots t heads.old bytes.old scratch.old (λ s.
         omap_drop (lent_of image.now (lent_numbers size slots mapped map)) s id)) }
@@ -256,12 +271,12 @@ pub fn moachest_omap_drop(
     ensures words { tree.new ≡ edited_tree tree.old (edited_back result tree.new) }
 {
     if tree.len() < words::TREE_WORDS {
-        return refusal::LENT;
+        return u64::from(Refusal::Lent);
     }
     let lent = words::lent(size, slots, mapped, map);
     let t = words::load(tree);
     let edited = t.omap_drop(image, heads, bytes, scratch, lent, id);
-    answers::leave_edited(tree, edited)
+    answers::leave_tree(tree, edited)
 }
 
 // As the call above, without its tests of what is lent (1). It trusts that `tree`, `heads` and `bytes` are as open or a trusted call on them left
@@ -281,6 +296,7 @@ pub fn moachest_omap_drop_trusted(
 ) -> u64
     requires trusts { Trusts image.now (lent_numbers size slots mapped map) (tree_of tree.old) heads.old bytes.old }
     requires room { scratch_holds size slots scratch.old ≡ true }
+    ensures number { result ≤ 20 }
     ensures answer { edited_of size heads.new bytes.new (edited_back result tree.new)
         ≡ on_tree tree.old (λ t. omap_drop_in (lent_of image.now (lent_numbers size slots mapped map))
         (state_of size t heads.old bytes.old) id) }
@@ -289,10 +305,10 @@ pub fn moachest_omap_drop_trusted(
     ensures words { tree.new ≡ edited_tree tree.old (edited_back result tree.new) }
 {
     if tree.len() < words::TREE_WORDS {
-        return refusal::LENT;
+        return u64::from(Refusal::Lent);
     }
     let lent = words::lent(size, slots, mapped, map);
     let t = words::load(tree);
     let edited = t.omap_drop_in(image, heads, bytes, lent, scratch, id);
-    answers::leave_edited(tree, edited)
+    answers::leave_tree(tree, edited)
 }

@@ -12,7 +12,7 @@ ghost use Rattle.moachest.specs.Words.{tree_of, lent_numbers, on_words};
 ghost use Rattle.moachest.specs.Answers.{flushed_answer, flushed_back};
 
 use crate::{answers, words};
-use tree::refusal;
+use tree::refusal::Refusal;
 
 // Writes what was changed and fills the lists; the tree is ended.
 pub fn moachest_flush(
@@ -35,6 +35,7 @@ pub fn moachest_flush(
     next: u64,
     answer: &mut [u64],
 ) -> u64
+    ensures number { result ≤ 20 }
     ensures answer { flushed_means size (tree_of tree.now) image.new
         (space_of bitmap.new counts.now free.new) heads.new bytes.now freed.new removed.new ids.new
         places.new (flushed_back result answer.new)
@@ -48,10 +49,10 @@ pub fn moachest_flush(
     ensures words { answer.new ≡ flushed_answer answer.old (flushed_back result answer.new) }
 {
     if tree.len() < words::TREE_WORDS {
-        return refusal::LENT;
+        return u64::from(Refusal::Lent);
     }
     if answer.len() < words::ANSWER_WORDS {
-        return refusal::LENT;
+        return u64::from(Refusal::Lent);
     }
     let lent = words::lent(size, slots, mapped, map);
     let t = words::load(tree);
@@ -86,6 +87,7 @@ pub fn moachest_flush_trusted(
     requires ready { Ready size slots (tree_of tree.now).used heads.old bytes.now }
     requires bytes_value { trusted (lent_of image.old (lent_numbers size slots mapped map)) (state_of size (tree_of tree.now) heads.old bytes.now)
         ≡ true }
+    ensures number { result ≤ 20 }
     ensures answer { flushed_means size (tree_of tree.now) image.new
         (space_of bitmap.new counts.now free.new) heads.new bytes.now freed.new removed.new ids.new
         places.new (flushed_back result answer.new)

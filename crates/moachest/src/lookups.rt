@@ -1,5 +1,5 @@
 // Lookups: open, get, floor and range.
-ghost use Rattle.std.specs.Prelude.{◌≡◌, length};
+ghost use Rattle.std.specs.Prelude.{◌≡◌, ◌≤◌, length};
 ghost use Rattle.tree.specs.Lent.{lent_of};
 ghost use Rattle.tree.specs.Answers.{opened_of, opened_in, opened_leaves, got_means, got_in, got_output, got_leaves, floor_means, floored_in, floored_output, floored_leaves, range_means, ranged_in, ranged_output, ranged_length, ranged_leaves};
 ghost use Rattle.tree.specs.Lookup.{get_in, floor_in, range_in};
@@ -9,7 +9,8 @@ ghost use Rattle.moachest.specs.Words.{tree_of, lent_numbers, on_tree, on_words}
 ghost use Rattle.moachest.specs.Answers.{opened_tree, opened_back, got_tree, got_answer, got_back, floored_tree, floored_answer, floored_back, ranged_tree, ranged_answer, ranged_back};
 
 use crate::{answers, words};
-use tree::{lookup, refusal};
+use tree::lookup;
+use tree::refusal::Refusal;
 
 // Opens the tree whose root is `root`, with keys in this order, as seen from a transaction. Accepted, `tree` holds its words.
 pub fn moachest_open(
@@ -25,6 +26,7 @@ pub fn moachest_open(
     order: u64,
     xid: u64,
 ) -> u64
+    ensures number { result ≤ 20 }
     ensures answer { opened_of size heads.new bytes.new (opened_back result tree.new)
         ≡ on_tree tree.old (λ t. opened_in (lent_of image.now (lent_numbers size slots mapped map)) heads.old bytes.old root order xid) }
     ensures left { opened_leaves size slots heads.new bytes.new (opened_back result tree.new) }
@@ -33,11 +35,11 @@ pub fn moachest_open(
     ensures words { tree.new ≡ opened_tree tree.old (opened_back result tree.new) }
 {
     if tree.len() < words::TREE_WORDS {
-        return refusal::LENT;
+        return u64::from(Refusal::Lent);
     }
     let lent = words::lent(size, slots, mapped, map);
     let opened = lookup::open(image, heads, bytes, lent, root, order, xid);
-    answers::leave_opened(tree, opened)
+    answers::leave_tree(tree, opened)
 }
 
 // What a key holds. `answer` says which, and a value is copied to the start of `out`.
@@ -54,6 +56,7 @@ pub fn moachest_get(
     out: &mut [u8],
     answer: &mut [u64],
 ) -> u64
+    ensures number { result ≤ 20 }
     ensures answer { got_means size heads.new bytes.new out.new (got_back result tree.new answer.new)
         ≡ on_words tree.old answer.old (λ t. got_in (lent_of image.now (lent_numbers size slots mapped
         map)) t heads.old bytes.old (length out.old) key.now) }
@@ -65,10 +68,10 @@ pub fn moachest_get(
         × (answer.new ≡ got_answer answer.old (got_back result tree.new answer.new)) }
 {
     if tree.len() < words::TREE_WORDS {
-        return refusal::LENT;
+        return u64::from(Refusal::Lent);
     }
     if answer.len() < words::ANSWER_WORDS {
-        return refusal::LENT;
+        return u64::from(Refusal::Lent);
     }
     let lent = words::lent(size, slots, mapped, map);
     let t = words::load(tree);
@@ -92,6 +95,7 @@ pub fn moachest_get_trusted(
     answer: &mut [u64],
 ) -> u64
     requires trusts { Trusts image.now (lent_numbers size slots mapped map) (tree_of tree.old) heads.old bytes.old }
+    ensures number { result ≤ 20 }
     ensures answer { got_means size heads.new bytes.new out.new
         (got_back result tree.new answer.new)
         ≡ on_words tree.old answer.old (λ t. get_in (lent_of image.now (lent_numbers size slots mapped map))
@@ -107,15 +111,15 @@ pub fn moachest_get_trusted(
         × (answer.new ≡ got_answer answer.old (got_back result tree.new answer.new)) }
 {
     if tree.len() < words::TREE_WORDS {
-        return refusal::LENT;
+        return u64::from(Refusal::Lent);
     }
     if answer.len() < words::ANSWER_WORDS {
-        return refusal::LENT;
+        return u64::from(Refusal::Lent);
     }
     // Where the whole way is loaded the tree stays as it is: its words are neither gathered nor stored.
     let quick = words::load(tree);
     let leaf = quick.leaf_of(heads, bytes, size, slots, key);
-    if leaf < quick.used {
+    if let Some(leaf) = leaf {
         if words::as_stored(tree) {
             let copied = quick.copy_out(heads, bytes, size, slots, leaf, key, out);
             return answers::leave_copied(answer, copied);
@@ -141,6 +145,7 @@ pub fn moachest_floor(
     out: &mut [u8],
     answer: &mut [u64],
 ) -> u64
+    ensures number { result ≤ 20 }
     ensures answer { floor_means size heads.new bytes.new out.new (floored_back result tree.new
         answer.new)
         ≡ on_words tree.old answer.old (λ t. floored_in (lent_of image.now (lent_numbers size slots mapped
@@ -153,10 +158,10 @@ pub fn moachest_floor(
         × (answer.new ≡ floored_answer answer.old (floored_back result tree.new answer.new)) }
 {
     if tree.len() < words::TREE_WORDS {
-        return refusal::LENT;
+        return u64::from(Refusal::Lent);
     }
     if answer.len() < words::ANSWER_WORDS {
-        return refusal::LENT;
+        return u64::from(Refusal::Lent);
     }
     let lent = words::lent(size, slots, mapped, map);
     let t = words::load(tree);
@@ -180,6 +185,7 @@ pub fn moachest_floor_trusted(
     answer: &mut [u64],
 ) -> u64
     requires trusts { Trusts image.now (lent_numbers size slots mapped map) (tree_of tree.old) heads.old bytes.old }
+    ensures number { result ≤ 20 }
     ensures answer { floor_means size heads.new bytes.new out.new
         (floored_back result tree.new answer.new)
         ≡ on_words tree.old answer.old (λ t. floor_in (lent_of image.now (lent_numbers size slots mapped map))
@@ -195,10 +201,10 @@ pub fn moachest_floor_trusted(
         × (answer.new ≡ floored_answer answer.old (floored_back result tree.new answer.new)) }
 {
     if tree.len() < words::TREE_WORDS {
-        return refusal::LENT;
+        return u64::from(Refusal::Lent);
     }
     if answer.len() < words::ANSWER_WORDS {
-        return refusal::LENT;
+        return u64::from(Refusal::Lent);
     }
     let lent = words::lent(size, slots, mapped, map);
     let t = words::load(tree);
@@ -221,6 +227,7 @@ pub fn moachest_range(
     out: &mut [u8],
     answer: &mut [u64],
 ) -> u64
+    ensures number { result ≤ 20 }
     ensures answer { range_means size heads.new bytes.new out.new (ranged_back result tree.new
         answer.new)
         ≡ on_words tree.old answer.old (λ t. ranged_in (lent_of image.now (lent_numbers size slots mapped
@@ -234,10 +241,10 @@ pub fn moachest_range(
         × (answer.new ≡ ranged_answer answer.old (ranged_back result tree.new answer.new)) }
 {
     if tree.len() < words::TREE_WORDS {
-        return refusal::LENT;
+        return u64::from(Refusal::Lent);
     }
     if answer.len() < words::ANSWER_WORDS {
-        return refusal::LENT;
+        return u64::from(Refusal::Lent);
     }
     let lent = words::lent(size, slots, mapped, map);
     let t = words::load(tree);
@@ -262,6 +269,7 @@ pub fn moachest_range_trusted(
     answer: &mut [u64],
 ) -> u64
     requires trusts { Trusts image.now (lent_numbers size slots mapped map) (tree_of tree.old) heads.old bytes.old }
+    ensures number { result ≤ 20 }
     ensures answer { range_means size heads.new bytes.new out.new
         (ranged_back result tree.new answer.new)
         ≡ on_words tree.old answer.old (λ t. range_in (lent_of image.now (lent_numbers size slots mapped map))
@@ -278,10 +286,10 @@ pub fn moachest_range_trusted(
         × (answer.new ≡ ranged_answer answer.old (ranged_back result tree.new answer.new)) }
 {
     if tree.len() < words::TREE_WORDS {
-        return refusal::LENT;
+        return u64::from(Refusal::Lent);
     }
     if answer.len() < words::ANSWER_WORDS {
-        return refusal::LENT;
+        return u64::from(Refusal::Lent);
     }
     let lent = words::lent(size, slots, mapped, map);
     let t = words::load(tree);

@@ -122,7 +122,6 @@ pub fn lent(size: usize, slots: usize, mapped: u64, map: u64) -> Lent
     Lent {
         size,
         slots,
-        mapped: mapped != 0,
-        map,
+        map: if mapped != 0 { Some(map) } else { None },
     }
 }

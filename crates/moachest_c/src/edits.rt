@@ -26,6 +26,7 @@ pub extern "C" fn moachest_upsert(
     is_ghost: u64,
     value: &[u8],
 ) -> u64
+    ensures number { result ≤ 20 }
     ensures answer { edited_of size heads.new bytes.new (edited_back result tree.new)
         ≡ on_tree tree.old (λ t. edits size slots t heads.old bytes.old scratch.old (λ s.
         upsert (lent_of image.now (lent_numbers size slots mapped map)) s key.now (put_value (yes is_ghost) value.now))) }
@@ -57,6 +58,7 @@ pub extern "C" fn moachest_upsert_trusted(
 ) -> u64
     requires trusts { Trusts image.now (lent_numbers size slots mapped map) (tree_of tree.old) heads.old bytes.old }
     requires room { 2 * size ≤ length scratch.old }
+    ensures number { result ≤ 20 }
     ensures answer { edited_of size heads.new bytes.new (edited_back result tree.new)
         ≡ on_tree tree.old (λ t. upsert_in (lent_of image.now (lent_numbers size slots mapped map))
         (state_of size t heads.old bytes.old) key.now (put_value (yes is_ghost) value.now)) }
@@ -84,6 +86,7 @@ pub extern "C" fn moachest_remove(
     key: &[u8],
     answer: &mut [u64],
 ) -> u64
+    ensures number { result ≤ 20 }
     ensures answer { removed_of size heads.new bytes.new (removed_back result tree.new answer.new)
         ≡ on_words tree.old answer.old (λ t. edits size slots t heads.old bytes.old scratch.old
         (λ s. remove (lent_of image.now (lent_numbers size slots mapped map)) s key.now)) }
@@ -115,6 +118,7 @@ pub extern "C" fn moachest_remove_trusted(
 ) -> u64
     requires trusts { Trusts image.now (lent_numbers size slots mapped map) (tree_of tree.old) heads.old bytes.old }
     requires room { 2 * size ≤ length scratch.old }
+    ensures number { result ≤ 20 }
     ensures answer { removed_of size heads.new bytes.new (removed_back result tree.new answer.new)
         ≡ on_words tree.old answer.old (λ t. remove_in
         (lent_of image.now (lent_numbers size slots mapped map)) (state_of size t heads.old bytes.old)
@@ -147,6 +151,7 @@ pub extern "C" fn moachest_omap_put(
     address: u64,
     length: u64,
 ) -> u64
+    ensures number { result ≤ 20 }
     ensures answer { edited_of size heads.new bytes.new (edited_back result tree.new)
         ≡ on_tree tree.old (λ t. edits size slots t heads.old bytes.old scratch.old (λ s.
         omap_put (lent_of image.now (lent_numbers size slots mapped map)) s id xid address length)) }
@@ -179,6 +184,7 @@ pub extern "C" fn moachest_omap_put_trusted(
 ) -> u64
     requires trusts { Trusts image.now (lent_numbers size slots mapped map) (tree_of tree.old) heads.old bytes.old }
     requires room { scratch_holds size slots scratch.old ≡ true }
+    ensures number { result ≤ 20 }
     ensures answer { edited_of size heads.new bytes.new (edited_back result tree.new)
         ≡ on_tree tree.old (λ t. omap_put_in (lent_of image.now (lent_numbers size slots mapped map))
         (state_of size t heads.old bytes.old) id xid address length) }
@@ -205,6 +211,7 @@ pub extern "C" fn moachest_omap_drop(
     map: u64,
     id: u64,
 ) -> u64
+    ensures number { result ≤ 20 }
     ensures answer { edited_of size heads.new bytes.new (edited_back result tree.new)
         ≡ on_tree tree.old (λ t. edits size slots t heads.old bytes.old scratch.old (λ s.
         omap_drop (lent_of image.now (lent_numbers size slots mapped map)) s id)) }
@@ -234,6 +241,7 @@ pub extern "C" fn moachest_omap_drop_trusted(
 ) -> u64
     requires trusts { Trusts image.now (lent_numbers size slots mapped map) (tree_of tree.old) heads.old bytes.old }
     requires room { scratch_holds size slots scratch.old ≡ true }
+    ensures number { result ≤ 20 }
     ensures answer { edited_of size heads.new bytes.new (edited_back result tree.new)
         ≡ on_tree tree.old (λ t. omap_drop_in (lent_of image.now (lent_numbers size slots mapped map))
         (state_of size t heads.old bytes.old) id) }

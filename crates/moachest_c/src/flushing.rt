@@ -33,6 +33,7 @@ pub extern "C" fn moachest_flush(
     next: u64,
     answer: &mut [u64],
 ) -> u64
+    ensures number { result ≤ 20 }
     ensures answer { flushed_means size (tree_of tree.now) image.new
         (space_of bitmap.new counts.now free.new) heads.new bytes.now freed.new removed.new ids.new
         places.new (flushed_back result answer.new)
@@ -77,6 +78,7 @@ pub extern "C" fn moachest_flush_trusted(
     requires ready { Ready size slots (tree_of tree.now).used heads.old bytes.now }
     requires bytes_value { trusted (lent_of image.old (lent_numbers size slots mapped map)) (state_of size (tree_of tree.now) heads.old bytes.now)
         ≡ true }
+    ensures number { result ≤ 20 }
     ensures answer { flushed_means size (tree_of tree.now) image.new
         (space_of bitmap.new counts.now free.new) heads.new bytes.now freed.new removed.new ids.new
         places.new (flushed_back result answer.new)

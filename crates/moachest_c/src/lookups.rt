@@ -1,5 +1,5 @@
 // Lookups: open, get, floor and range.
-ghost use Rattle.std.specs.Prelude.{◌≡◌, length};
+ghost use Rattle.std.specs.Prelude.{◌≡◌, ◌≤◌, length};
 ghost use Rattle.tree.specs.Lent.{lent_of};
 ghost use Rattle.tree.specs.Answers.{opened_of, opened_in, opened_leaves, got_means, got_in, got_output, got_leaves, floor_means, floored_in, floored_output, floored_leaves, range_means, ranged_in, ranged_output, ranged_length, ranged_leaves};
 ghost use Rattle.tree.specs.Lookup.{get_in, floor_in, range_in};
@@ -23,6 +23,7 @@ pub extern "C" fn moachest_open(
     order: u64,
     xid: u64,
 ) -> u64
+    ensures number { result ≤ 20 }
     ensures answer { opened_of size heads.new bytes.new (opened_back result tree.new)
         ≡ on_tree tree.old (λ t. opened_in (lent_of image.now (lent_numbers size slots mapped map)) heads.old bytes.old root order xid) }
     ensures left { opened_leaves size slots heads.new bytes.new (opened_back result tree.new) }
@@ -50,6 +51,7 @@ pub extern "C" fn moachest_get(
     out: &mut [u8],
     answer: &mut [u64],
 ) -> u64
+    ensures number { result ≤ 20 }
     ensures answer { got_means size heads.new bytes.new out.new (got_back result tree.new answer.new)
         ≡ on_words tree.old answer.old (λ t. got_in (lent_of image.now (lent_numbers size slots mapped
         map)) t heads.old bytes.old (length out.old) key.now) }
@@ -82,6 +84,7 @@ pub extern "C" fn moachest_get_trusted(
     answer: &mut [u64],
 ) -> u64
     requires trusts { Trusts image.now (lent_numbers size slots mapped map) (tree_of tree.old) heads.old bytes.old }
+    ensures number { result ≤ 20 }
     ensures answer { got_means size heads.new bytes.new out.new
         (got_back result tree.new answer.new)
         ≡ on_words tree.old answer.old (λ t. get_in (lent_of image.now (lent_numbers size slots mapped map))
@@ -116,6 +119,7 @@ pub extern "C" fn moachest_floor(
     out: &mut [u8],
     answer: &mut [u64],
 ) -> u64
+    ensures number { result ≤ 20 }
     ensures answer { floor_means size heads.new bytes.new out.new (floored_back result tree.new
         answer.new)
         ≡ on_words tree.old answer.old (λ t. floored_in (lent_of image.now (lent_numbers size slots mapped
@@ -149,6 +153,7 @@ pub extern "C" fn moachest_floor_trusted(
     answer: &mut [u64],
 ) -> u64
     requires trusts { Trusts image.now (lent_numbers size slots mapped map) (tree_of tree.old) heads.old bytes.old }
+    ensures number { result ≤ 20 }
     ensures answer { floor_means size heads.new bytes.new out.new
         (floored_back result tree.new answer.new)
         ≡ on_words tree.old answer.old (λ t. floor_in (lent_of image.now (lent_numbers size slots mapped map))
@@ -184,6 +189,7 @@ pub extern "C" fn moachest_range(
     out: &mut [u8],
     answer: &mut [u64],
 ) -> u64
+    ensures number { result ≤ 20 }
     ensures answer { range_means size heads.new bytes.new out.new (ranged_back result tree.new
         answer.new)
         ≡ on_words tree.old answer.old (λ t. ranged_in (lent_of image.now (lent_numbers size slots mapped
@@ -219,6 +225,7 @@ pub extern "C" fn moachest_range_trusted(
     answer: &mut [u64],
 ) -> u64
     requires trusts { Trusts image.now (lent_numbers size slots mapped map) (tree_of tree.old) heads.old bytes.old }
+    ensures number { result ≤ 20 }
     ensures answer { range_means size heads.new bytes.new out.new
         (ranged_back result tree.new answer.new)
         ≡ on_words tree.old answer.old (λ t. range_in (lent_of image.now (lent_numbers size slots mapped map))

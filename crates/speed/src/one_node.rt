@@ -1,19 +1,22 @@
 // One node, read and packed: `node::read`, `node::adopt` and `node::pack` for arguments of any kind.
 ghost use Rattle.std.specs.Prelude.{◌≡◌, cond, ◌≤◌, ◌<◌, ◌^◌, length};
 ghost use Rattle.node.specs.Fit.{Sized};
+ghost use Rattle.node.specs.Refusals.{number_of};
 ghost use Rattle.speed.specs.OneNode.{answered, answer_of, read_into, root_place, build_like, lent, sizes_hold, records_fit, packable, pack_into};
 
 use node::build::NodeBuild;
 use node::info::BTreeInfo;
 use node::order::Order;
-use node::read::{Node, Place, Read};
-use node::{adopt, fit, pack, read, refusal, slot};
+use node::read::{Node, Place, ReadNode};
+use node::refusal::Refusal;
+use node::slot::Records;
+use node::{pack, read, slot};
 
 // A refusal's answer: more than the bytes of any slot.
-fn refused(n: u64) -> u64
-    ensures { result ≡ answer_of n }
+fn refused(refusal: Refusal) -> u64
+    ensures { result ≡ answer_of (number_of refusal) }
 {
-    0xFFFF_FFFF_FFFF_FFFF - n
+    0xFFFF_FFFF_FFFF_FFFF - u64::from(refusal)
 }
 
 fn root_place(oid: u64) -> Place
@@ -48,12 +51,12 @@ pub fn rattle_read_node(block: &[u8], slot: &mut [u8], order: u64, oid: u64) -> 
     ensures { answered result slot.new ≡ read_into order oid block.now slot.old }
 {
     if !lent(block, slot) {
-        return refused(refusal::LENT);
+        return refused(Refusal::Lent);
     }
     let read = read::read_node(block, Order { code: order }, root_place(oid), block, block);
     match read {
-        Read::Refused(n) => refused(n),
-        Read::Loaded(v) => adopt::adopt(block, v, slot) as u64,
+        Err(x) => refused(x),
+        Ok(node) => ReadNode { block, node }.adopt(slot) as u64,
     }
 }
 
@@ -100,7 +103,11 @@ fn records_fit(b: NodeBuild, slot: &[u8], n: usize, used: u64) -> bool
     if !slot::records_hold(slot, n as u64, used) {
         return false;
     }
-    fit::fits(slot, n, used, b.info, b.root, b.level)
+    let records = Records {
+        slot,
+        count: n as u64,
+    };
+    records.fits(used, b.info, b.root, b.level)
 }
 
 // Packs the n records of a slot, `used` bytes, as a root with the numbers of the root block `like`: false where they are not n records, or do
@@ -127,6 +134,10 @@ pub fn rattle_pack_node(
     if !records_fit(b, slot, n, used) {
         return false;
     }
-    pack::pack(dst, slot, n, heads, false, b);
+    let records = Records {
+        slot,
+        count: n as u64,
+    };
+    pack::pack(dst, records, heads, false, b);
     true
 }

@@ -1,74 +1,127 @@
 -- Laws of answers as numbers: what is returned and written is read back. Assumes nothing.
-use Rattle.std.specs.Prelude.{◌≡◌, refl, List, Bool, true, cond, ℕ, eqb}
-use Rattle.std.proofs.Common.{ap, subst, ne_eqb}
+use Rattle.std.specs.Prelude.{◌≡◌, refl, List, Bool, true, false, ℕ, ◌≤◌, cond, eqb, Option, Some, None, Ok, Err}
+use Rattle.std.proofs.Common.{ap, ap₂, arith}
 use Rattle.seal.specs.Bytes.{splice}
-use Rattle.tree.specs.declared.lookup.Opened.{Opened}
-use Rattle.tree.specs.declared.lookup.Opened.TheVariants as opening
-use Rattle.tree.specs.declared.get.Got.{Got}
-use Rattle.tree.specs.declared.get.Got.TheVariants as getting
-use Rattle.tree.specs.declared.floor.Floor.{Floor}
-use Rattle.tree.specs.declared.floor.Floor.TheVariants as flooring
+use Rattle.std.specs.Prelude as std
+use Rattle.node.specs.Refusals.{number_of}
+use Rattle.node.specs.declared.refusal.Refusal.{Refusal}
+use Rattle.node.specs.declared.refusal.Refusal.TheVariants as is
+use Rattle.tree.specs.declared.editor.Tree.{Tree}
+use Rattle.tree.specs.declared.get.Copied.{Copied}
+use Rattle.tree.specs.declared.get.Copied.TheVariants as copied
 use Rattle.tree.specs.declared.range.Ranged.{Ranged}
-use Rattle.tree.specs.declared.range.Ranged.TheVariants as ranging
-use Rattle.tree.specs.declared.edited.Edited.{Edited}
-use Rattle.tree.specs.declared.edited.Edited.TheVariants as editing
-use Rattle.tree.specs.declared.edited.Removed.{Removed}
-use Rattle.tree.specs.declared.edited.Removed.TheVariants as taking
-use Rattle.flush.specs.declared.flush.Answer.{Answer}
-use Rattle.flush.specs.declared.flush.Answer.TheVariants as flushing
-use Rattle.tree.specs.laws.base.Node.{never}
-use Rattle.moachest.specs.Answers.{opened_tree, opened_back, got_tree, got_answer, got_back, floored_tree, floored_answer, floored_back, ranged_tree, ranged_answer, ranged_back, edited_tree, edited_back, removed_tree, removed_answer, removed_back, flushed_words, flushed_answer, flushed_of_words, flushed_back}
-use Rattle.moachest.specs.internal.Returned.{opened_number, got_number, floored_number, ranged_number, edited_number, removed_number, flushed_number}
-use Rattle.moachest.specs.laws.RefusalLaws.{in_table}
+use Rattle.flush.specs.declared.flush.Flushed.{Flushed}
+use Rattle.moachest.specs.Words.{tree_of}
+use Rattle.moachest.specs.Answers.{returned, refusal_of, back, opened_tree, opened_back, copied_words, copied_back, got_tree, got_answer, got_back, found_words, found_back, floored_tree, floored_answer, floored_back, ranged_tree, ranged_answer, ranged_back, edited_tree, edited_back, removed_tree, removed_answer, removed_back, flushed_words, flushed_answer, flushed_of_words, flushed_back}
 use Rattle.moachest.specs.laws.WordLaws.{tree_back}
 
--- a refusal's number is not 0
-pub not_zero : {A : Type 0} (x : ℕ) (a b : A) → in_table x ≡ true → cond (eqb x 0) a b ≡ b
-not_zero x a b h =
-    ap (λ (t : Bool). cond t a b) (ne_eqb x 0 (λ z. let k : in_table 0 ≡ true = subst (λ (n : ℕ). in_table n ≡ true) z h in never k refl))
+-- a refusal's number is one of 1 to 20, and the refusal's alone
+refusal_back : {A : Type 0} (x : Refusal) (a : A) → cond (eqb (number_of x) 0) (Ok a) (Err (refusal_of (number_of x))) ≡ Err x
+refusal_back is.Lent a = refl
+refusal_back is.Address a = refl
+refusal_back is.Fletcher a = refl
+refusal_back is.Kind a = refl
+refusal_back is.Hashed a = refl
+refusal_back is.Layout a = refl
+refusal_back is.Level a = refl
+refusal_back is.Entry a = refl
+refusal_back is.Keys a = refl
+refusal_back is.Root a = refl
+refusal_back is.NoSlot a = refl
+refusal_back is.Argument a = refl
+refusal_back is.Single a = refl
+refusal_back is.NoCut a = refl
+refusal_back is.NewRoot a = refl
+refusal_back is.Full a = refl
+refusal_back is.Count a = refl
+refusal_back is.Unmapped a = refl
+refusal_back is.Encrypted a = refl
+refusal_back is.Output a = refl
 
-pub opened_back_lem : (w : List ℕ) (o : Opened) → ((x : ℕ) → o ≡ opening.Refused x → in_table x ≡ true)
-    → opened_back (opened_number o) (opened_tree w o) ≡ o
-unfolding opened_back opened_number opened_tree
-opened_back_lem w (opening.Refused x) h = not_zero x _ _ (h x refl)
-opened_back_lem w (opening.Open t) h = ap opening.Open (tree_back w t)
+number_most : (x : Refusal) → number_of x ≤ 20
+number_most is.Lent = omega arith
+number_most is.Address = omega arith
+number_most is.Fletcher = omega arith
+number_most is.Kind = omega arith
+number_most is.Hashed = omega arith
+number_most is.Layout = omega arith
+number_most is.Level = omega arith
+number_most is.Entry = omega arith
+number_most is.Keys = omega arith
+number_most is.Root = omega arith
+number_most is.NoSlot = omega arith
+number_most is.Argument = omega arith
+number_most is.Single = omega arith
+number_most is.NoCut = omega arith
+number_most is.NewRoot = omega arith
+number_most is.Full = omega arith
+number_most is.Count = omega arith
+number_most is.Unmapped = omega arith
+number_most is.Encrypted = omega arith
+number_most is.Output = omega arith
 
-pub got_back_lem : (w a : List ℕ) (g : Got) → ((x : ℕ) → g ≡ getting.Refused x → in_table x ≡ true)
-    → got_back (got_number g) (got_tree w g) (got_answer a g) ≡ g
-unfolding got_back got_number got_tree got_answer splice
-got_back_lem w a (getting.Refused x) h = not_zero x _ _ (h x refl)
-got_back_lem w a (getting.None t) h = ap getting.None (tree_back w t)
-got_back_lem w a (getting.Ghost t) h = ap getting.Ghost (tree_back w t)
-got_back_lem w a (getting.Value t n) h = ap (λ u. getting.Value u n) (tree_back w t)
+-- no call returns more than 20
+pub returned_most : {A : Type 0} (g : std.Result A Refusal) → returned g ≤ 20
+unfolding returned
+returned_most (Err x) = number_most x
+returned_most (Ok a) = omega arith
 
-pub floored_back_lem : (w a : List ℕ) (g : Floor) → ((x : ℕ) → g ≡ flooring.Refused x → in_table x ≡ true)
-    → floored_back (floored_number g) (floored_tree w g) (floored_answer a g) ≡ g
-unfolding floored_back floored_number floored_tree floored_answer splice
-floored_back_lem w a (flooring.Refused x) h = not_zero x _ _ (h x refl)
-floored_back_lem w a (flooring.None t) h = ap flooring.None (tree_back w t)
-floored_back_lem w a (flooring.Record t n) h = ap (λ u. flooring.Record u n) (tree_back w t)
+pub number_within : {A : Type 0} (g : std.Result A Refusal) (r : ℕ) → r ≡ returned g → r ≤ 20
+number_within g r e = rw e (returned_most g)
 
-pub ranged_back_lem : (w a : List ℕ) (g : Ranged) → ((x : ℕ) → g ≡ ranging.Refused x → in_table x ≡ true)
-    → ranged_back (ranged_number g) (ranged_tree w g) (ranged_answer a g) ≡ g
-unfolding ranged_back ranged_number ranged_tree ranged_answer splice
-ranged_back_lem w a (ranging.Refused x) h = not_zero x _ _ (h x refl)
-ranged_back_lem w a (ranging.Done t count long) h = ap (λ u. ranging.Done u count long) (tree_back w t)
+pub lent_within : (r : ℕ) → r ≡ 1 → r ≤ 20
+lent_within r e = omega (arith, e)
 
-pub edited_back_lem : (w : List ℕ) (g : Edited) → ((x : ℕ) → g ≡ editing.Refused x → in_table x ≡ true)
-    → edited_back (edited_number g) (edited_tree w g) ≡ g
-unfolding edited_back edited_number edited_tree
-edited_back_lem w (editing.Refused x) h = not_zero x _ _ (h x refl)
-edited_back_lem w (editing.Done t) h = ap editing.Done (tree_back w t)
+pub opened_back_lem : (w : List ℕ) (o : std.Result Tree Refusal) → opened_back (returned o) (opened_tree w o) ≡ o
+unfolding opened_back back returned opened_tree
+opened_back_lem w (Err x) = refusal_back x (tree_of w)
+opened_back_lem w (Ok t) = ap Ok (tree_back w t)
 
-pub removed_back_lem : (w a : List ℕ) (g : Removed) → ((x : ℕ) → g ≡ taking.Refused x → in_table x ≡ true)
-    → removed_back (removed_number g) (removed_tree w g) (removed_answer a g) ≡ g
-unfolding removed_back removed_number removed_tree removed_answer splice
-removed_back_lem w a (taking.Refused x) h = not_zero x _ _ (h x refl)
-removed_back_lem w a (taking.Yes t) h = ap taking.Yes (tree_back w t)
-removed_back_lem w a (taking.No t) h = ap taking.No (tree_back w t)
+copied_back_lem : (a : List ℕ) (c : Option Copied) → copied_back (splice a 0 (copied_words c)) ≡ c
+unfolding copied_back copied_words splice
+copied_back_lem a None = refl
+copied_back_lem a (Some copied.Ghost) = refl
+copied_back_lem a (Some (copied.Value n)) = refl
 
-pub flushed_back_lem : (a : List ℕ) (g : Answer) → ((x : ℕ) → g ≡ flushing.Refused x → in_table x ≡ true)
-    → flushed_back (flushed_number g) (flushed_answer a g) ≡ g
-unfolding flushed_back flushed_number flushed_answer flushed_of_words flushed_words splice
-flushed_back_lem a (flushing.Refused x) h = not_zero x _ _ (h x refl)
-flushed_back_lem a (flushing.Done f) h = refl
+pub got_back_lem : (w a : List ℕ) (g : std.Result (Tree × Option Copied) Refusal) → got_back (returned g) (got_tree w g) (got_answer a g) ≡ g
+unfolding got_back back returned got_tree got_answer
+got_back_lem w a (Err x) = refusal_back x (tree_of w, copied_back a)
+got_back_lem w a (Ok (t, c)) = ap₂ (λ u d. Ok (u, d)) (tree_back w t) (copied_back_lem a c)
+
+found_back_lem : (a : List ℕ) (n : Option ℕ) → found_back (splice a 0 (found_words n)) ≡ n
+unfolding found_back found_words splice
+found_back_lem a None = refl
+found_back_lem a (Some n) = refl
+
+pub floored_back_lem : (w a : List ℕ) (g : std.Result (Tree × Option ℕ) Refusal)
+    → floored_back (returned g) (floored_tree w g) (floored_answer a g) ≡ g
+unfolding floored_back back returned floored_tree floored_answer
+floored_back_lem w a (Err x) = refusal_back x (tree_of w, found_back a)
+floored_back_lem w a (Ok (t, n)) = ap₂ (λ u d. Ok (u, d)) (tree_back w t) (found_back_lem a n)
+
+pub ranged_back_lem : (w a : List ℕ) (g : std.Result Ranged Refusal) → ranged_back (returned g) (ranged_tree w g) (ranged_answer a g) ≡ g
+unfolding ranged_back back returned ranged_tree ranged_answer splice
+ranged_back_lem w a (Err x) = refusal_back x _
+ranged_back_lem w a (Ok g) = ap (λ (u : Tree). Ok (record { tree = u; count = g.count; length = g.length })) (tree_back w g.tree)
+
+pub edited_back_lem : (w : List ℕ) (g : std.Result Tree Refusal) → edited_back (returned g) (edited_tree w g) ≡ g
+unfolding edited_back back returned edited_tree
+edited_back_lem w (Err x) = refusal_back x (tree_of w)
+edited_back_lem w (Ok t) = ap Ok (tree_back w t)
+
+pub removed_back_lem : (w a : List ℕ) (g : std.Result (Tree × Bool) Refusal) → removed_back (returned g) (removed_tree w g) (removed_answer a g) ≡ g
+unfolding removed_back back returned removed_tree removed_answer splice
+removed_back_lem w a (Err x) = refusal_back x _
+removed_back_lem w a (Ok (t, true)) = ap (λ (u : Tree). Ok (u, true)) (tree_back w t)
+removed_back_lem w a (Ok (t, false)) = ap (λ (u : Tree). Ok (u, false)) (tree_back w t)
+
+pub flushed_back_lem : (a : List ℕ) (g : std.Result Flushed Refusal) → flushed_back (returned g) (flushed_answer a g) ≡ g
+unfolding flushed_back back returned flushed_answer flushed_of_words flushed_words splice
+flushed_back_lem a (Err x) = refusal_back x _
+flushed_back_lem a (Ok f) = refl
+
+-- what an opened tree leaves is what an edited one leaves
+pub edited_opened : (w : List ℕ) (r : std.Result Tree Refusal) → edited_tree w r ≡ opened_tree w r
+unfolding edited_tree opened_tree
+edited_opened w (Err x) = refl
+edited_opened w (Ok t) = refl

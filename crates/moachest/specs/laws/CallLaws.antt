@@ -1,36 +1,28 @@
 -- Laws of the calls on words: what a call's contract says of its tree and its answer, said of the words. Assumes nothing.
 use Rattle.std.specs.Prelude.{◌≡◌, refl, List, ℕ, ◌≤◌, length}
 use Rattle.std.proofs.Common.{sym, ap, subst, ◌∙◌}
-use Rattle.node.specs.Result.{Result, refused}
+use Rattle.node.specs.Result.{refused}
 use Rattle.node.specs.Refusals as refusal
-use Rattle.node.specs.Entry.{Entry, Val}
+use Rattle.node.specs.Entry.{Val}
 use Rattle.tree.specs.Lent.{lent_of}
-use Rattle.tree.specs.State.{State}
-use Rattle.tree.specs.Lookup as lookup
 use Rattle.tree.specs.Remove as removing
 use Rattle.tree.specs.Answers.{opened_of, opened_in, opened_leaves, got_means, got_in, got_output, got_leaves, floor_means, floored_in, floored_output, floored_leaves, range_means, ranged_in, ranged_output, ranged_length, ranged_leaves, edited_of, edited_leaves, removed_of, removed_leaves}
 use Rattle.tree.specs.internal.Open.{OpenedTrusts}
+use Rattle.std.specs.Prelude as std
+use Rattle.node.specs.declared.refusal.Refusal.{Refusal}
 use Rattle.tree.specs.declared.editor.Tree.{Tree}
-use Rattle.tree.specs.declared.lent.Lent.{Lent}
-use Rattle.tree.specs.declared.lookup.Opened.{Opened}
-use Rattle.tree.specs.declared.get.Got.{Got}
-use Rattle.tree.specs.declared.floor.Floor.{Floor}
+use Rattle.tree.specs.declared.get.Copied.{Copied}
 use Rattle.tree.specs.declared.range.Ranged.{Ranged}
-use Rattle.tree.specs.declared.edited.Edited.{Edited}
-use Rattle.tree.specs.declared.edited.Removed.{Removed}
+use Rattle.flush.specs.declared.flush.Flushed as done
+use Rattle.tree.specs.declared.lent.Lent.{Lent}
 use Rattle.moachest.specs.Words.{tree_of, on_tree, on_words}
 use Rattle.tree.specs.Upsert.{upsert}
 use Rattle.tree.specs.Omap.{omap_put, omap_drop}
 use Rattle.tree.specs.Workspace.{edits}
-use Rattle.flush.specs.Space.{Space}
-use Rattle.flush.specs.Flush.{Flushed}
-use Rattle.flush.specs.Answers.{flushed_means}
-use Rattle.flush.specs.declared.flush.Answer.{Answer}
-use Rattle.moachest.specs.Answers.{opened_tree, opened_back, got_tree, got_answer, got_back, floored_tree, floored_answer, floored_back, ranged_tree, ranged_answer, ranged_back, edited_tree, edited_back, removed_tree, removed_answer, removed_back, flushed_answer, flushed_back}
-use Rattle.moachest.specs.internal.Returned.{opened_number, got_number, floored_number, ranged_number, edited_number, removed_number, flushed_number}
-use Rattle.moachest.specs.laws.RefusalLaws.{Numbered, open_numbered, get_numbered, floor_numbered, range_numbered, upsert_numbered, put_numbered, drop_numbered, remove_numbered}
+use Rattle.moachest.specs.Answers.{returned, back, opened_tree, opened_back, got_tree, got_answer, got_back, floored_tree, floored_answer, floored_back, ranged_tree, ranged_answer, ranged_back, edited_tree, edited_back, removed_tree, removed_answer, removed_back, flushed_answer, flushed_back}
 use Rattle.moachest.specs.laws.WordLaws.{on_tree_lem, on_words_lem}
 use Rattle.moachest.specs.laws.AnswerLaws.{opened_back_lem, got_back_lem, floored_back_lem, ranged_back_lem, edited_back_lem, removed_back_lem, flushed_back_lem}
+use Rattle.std.specs.Prelude.{Bool, Option}
 
 -- what is said of one lent, tree and answer is said of equal ones
 pub moved : {A : Type 0} (P : Lent → Tree → A → Type 0) {l m : Lent} {t u : Tree} {a b : A} → l ≡ m → t ≡ u → b ≡ a → P l t a → P m u b
@@ -39,49 +31,30 @@ moved P {m = m} {t = t} {u = u} {a = a} el et ea p =
 
 -- ---- the answer read back is the answer that was given
 
-pub opened_told : (size : ℕ) (heads bytes : List ℕ) (R : Result State) (w w' : List ℕ) (r : ℕ) (g : Opened) → Numbered R
-    → opened_of size heads bytes g ≡ R → r ≡ opened_number g → w' ≡ opened_tree w g → opened_back r w' ≡ g
-unfolding opened_of
-opened_told size heads bytes R w w' r g h e p q =
-    rw (p, q) (opened_back_lem w g (λ x z. h.at x (sym e ∙ ap (opened_of size heads bytes) z)))
+pub opened_told : (w w' : List ℕ) (r : ℕ) (g : std.Result Tree Refusal) → r ≡ returned g → w' ≡ opened_tree w g → opened_back r w' ≡ g
+opened_told w w' r g p q = rw (p, q) (opened_back_lem w g)
 
-pub got_told : (size : ℕ) (heads bytes out : List ℕ) (R : Result (lookup.Got Val)) (w a w' a' : List ℕ) (r : ℕ) (g : Got) → Numbered R
-    → got_means size heads bytes out g ≡ R → r ≡ got_number g → w' ≡ got_tree w g → a' ≡ got_answer a g → got_back r w' a' ≡ g
-unfolding got_means
-got_told size heads bytes out R w a w' a' r g h e p q s =
-    rw (p, q, s) (got_back_lem w a g (λ x z. h.at x (sym e ∙ ap (got_means size heads bytes out) z)))
+pub got_told : (w a w' a' : List ℕ) (r : ℕ) (g : std.Result (Tree × Option Copied) Refusal) → r ≡ returned g → w' ≡ got_tree w g → a' ≡ got_answer a g
+    → got_back r w' a' ≡ g
+got_told w a w' a' r g p q s = rw (p, q, s) (got_back_lem w a g)
 
-pub floored_told : (size : ℕ) (heads bytes out : List ℕ) (R : Result (lookup.Got Entry)) (w a w' a' : List ℕ) (r : ℕ) (g : Floor) → Numbered R
-    → floor_means size heads bytes out g ≡ R → r ≡ floored_number g → w' ≡ floored_tree w g → a' ≡ floored_answer a g → floored_back r w' a' ≡ g
-unfolding floor_means
-floored_told size heads bytes out R w a w' a' r g h e p q s =
-    rw (p, q, s) (floored_back_lem w a g (λ x z. h.at x (sym e ∙ ap (floor_means size heads bytes out) z)))
+pub floored_told : (w a w' a' : List ℕ) (r : ℕ) (g : std.Result (Tree × Option ℕ) Refusal) → r ≡ returned g → w' ≡ floored_tree w g
+    → a' ≡ floored_answer a g → floored_back r w' a' ≡ g
+floored_told w a w' a' r g p q s = rw (p, q, s) (floored_back_lem w a g)
 
-pub ranged_told : (size : ℕ) (heads bytes out : List ℕ) (R : Result (lookup.Got Entry)) (w a w' a' : List ℕ) (r : ℕ) (g : Ranged) → Numbered R
-    → range_means size heads bytes out g ≡ R → r ≡ ranged_number g → w' ≡ ranged_tree w g → a' ≡ ranged_answer a g → ranged_back r w' a' ≡ g
-unfolding range_means
-ranged_told size heads bytes out R w a w' a' r g h e p q s =
-    rw (p, q, s) (ranged_back_lem w a g (λ x z. h.at x (sym e ∙ ap (range_means size heads bytes out) z)))
+pub ranged_told : (w a w' a' : List ℕ) (r : ℕ) (g : std.Result Ranged Refusal) → r ≡ returned g → w' ≡ ranged_tree w g → a' ≡ ranged_answer a g
+    → ranged_back r w' a' ≡ g
+ranged_told w a w' a' r g p q s = rw (p, q, s) (ranged_back_lem w a g)
 
-pub edited_told : (size : ℕ) (heads bytes : List ℕ) (R : Result State) (w w' : List ℕ) (r : ℕ) (g : Edited) → Numbered R
-    → edited_of size heads bytes g ≡ R → r ≡ edited_number g → w' ≡ edited_tree w g → edited_back r w' ≡ g
-unfolding edited_of
-edited_told size heads bytes R w w' r g h e p q =
-    rw (p, q) (edited_back_lem w g (λ x z. h.at x (sym e ∙ ap (edited_of size heads bytes) z)))
+pub edited_told : (w w' : List ℕ) (r : ℕ) (g : std.Result Tree Refusal) → r ≡ returned g → w' ≡ edited_tree w g → edited_back r w' ≡ g
+edited_told w w' r g p q = rw (p, q) (edited_back_lem w g)
 
-pub removed_told : (size : ℕ) (heads bytes : List ℕ) (R : Result removing.Removed) (w a w' a' : List ℕ) (r : ℕ) (g : Removed) → Numbered R
-    → removed_of size heads bytes g ≡ R → r ≡ removed_number g → w' ≡ removed_tree w g → a' ≡ removed_answer a g → removed_back r w' a' ≡ g
-unfolding removed_of
-removed_told size heads bytes R w a w' a' r g h e p q s =
-    rw (p, q, s) (removed_back_lem w a g (λ x z. h.at x (sym e ∙ ap (removed_of size heads bytes) z)))
+pub removed_told : (w a w' a' : List ℕ) (r : ℕ) (g : std.Result (Tree × Bool) Refusal) → r ≡ returned g → w' ≡ removed_tree w g
+    → a' ≡ removed_answer a g → removed_back r w' a' ≡ g
+removed_told w a w' a' r g p q s = rw (p, q, s) (removed_back_lem w a g)
 
-pub flushed_told : (size : ℕ) (t : Tree) (image : List ℕ) (p₀ : Space) (heads bytes freed removed ids places : List ℕ) (R : Result
-    Flushed) (a a' : List ℕ) (r : ℕ) (g : Answer) → Numbered R
-    → flushed_means size t image p₀ heads bytes freed removed ids places g ≡ R → r ≡ flushed_number g → a' ≡ flushed_answer a g
-    → flushed_back r a' ≡ g
-unfolding flushed_means
-flushed_told size t image p₀ heads bytes freed removed ids places R a a' r g h e p s =
-    rw (p, s) (flushed_back_lem a g (λ x z. h.at x (sym e ∙ ap (flushed_means size t image p₀ heads bytes freed removed ids places) z)))
+pub flushed_told : (a a' : List ℕ) (r : ℕ) (g : std.Result done.Flushed Refusal) → r ≡ returned g → a' ≡ flushed_answer a g → flushed_back r a' ≡ g
+flushed_told a a' r g p s = rw (p, s) (flushed_back_lem a g)
 
 -- ---- open
 
@@ -91,28 +64,29 @@ OpenCalled image heads bytes heads' bytes' w w' root order xid l r =
     × (opened_leaves l.size l.slots heads' bytes' (opened_back r w')
     × (OpenedTrusts image l heads' bytes' (opened_back r w') × (w' ≡ opened_tree w (opened_back r w'))))
 
-pub open_called : (image heads bytes heads' bytes' w w' : List ℕ) (root order xid : ℕ) (l m : Lent) (r : ℕ) (o : Opened) → 14 ≤ length w → l ≡ m
+pub open_called : (image heads bytes heads' bytes' w w' : List ℕ) (root order xid : ℕ) (l m : Lent) (r : ℕ) (o : std.Result Tree Refusal)
+    → 14 ≤ length w → l ≡ m
     → (opened_of l.size heads' bytes' o ≡ opened_in (lent_of image l) heads bytes root order xid)
-    × (opened_leaves l.size l.slots heads' bytes' o × OpenedTrusts image l heads' bytes' o) → r ≡ opened_number o → w' ≡ opened_tree w o
+    × (opened_leaves l.size l.slots heads' bytes' o × OpenedTrusts image l heads' bytes' o) → r ≡ returned o → w' ≡ opened_tree w o
     → OpenCalled image heads bytes heads' bytes' w w' root order xid m r
 open_called image heads bytes heads' bytes' w w' root order xid l m r o h el s er ew =
-    let q : opened_back r w' ≡ o = opened_told l.size heads' bytes' _ w w' r o (open_numbered (lent_of image l) heads bytes root order xid) s.0
+    let q : opened_back r w' ≡ o = opened_told w w' r o
     er ew in
     let p : on_tree w (λ t. opened_in (lent_of image m) heads bytes root order xid) ≡ opened_in (lent_of image m) heads bytes root order xid =
     on_tree_lem w (λ t. opened_in (lent_of image m) heads bytes root order xid) h in
-    let z = moved {A = Opened} (λ x t b. (opened_of x.size heads' bytes' b ≡ opened_in (lent_of image x) heads bytes root order xid)
+    let z = moved {A = std.Result Tree Refusal} (λ x t b. (opened_of x.size heads' bytes' b ≡ opened_in (lent_of image x) heads bytes root order xid)
     × (opened_leaves x.size x.slots heads' bytes' b × OpenedTrusts image x heads' bytes' b)) {t = tree_of w} {u = tree_of w} el refl q s in
     (z.0 ∙ sym p, (z.1.0, (z.1.1, ew ∙ ap (opened_tree w) (sym q))))
 
 pub open_few : (image heads bytes w : List ℕ) (root order xid : ℕ) (l : Lent)
     → on_tree w (λ t. opened_in (lent_of image l) heads bytes root order xid) ≡ refused refusal.lent
     → OpenCalled image heads bytes heads bytes w w root order xid l refusal.lent
-unfolding opened_of opened_back opened_tree
+unfolding opened_of opened_back back opened_tree
 open_few image heads bytes w root order xid l e = (sym e, (tt, (tt, refl)))
 
 -- ---- get
 
-abbrev pub GetSays : (image heads bytes out k heads' bytes' out' : List ℕ) → Lent → Tree → Got → Type 0
+abbrev pub GetSays : (image heads bytes out k heads' bytes' out' : List ℕ) → Lent → Tree → std.Result (Tree × Option Copied) Refusal → Type 0
 GetSays image heads bytes out k heads' bytes' out' l t g =
     (got_means l.size heads' bytes' out' g ≡ got_in (lent_of image l) t heads bytes (length out) k) × ((out'
     ≡ got_output out (got_in (lent_of image l) t heads bytes (length out) k))
@@ -126,13 +100,13 @@ GetCalled image heads bytes out k heads' bytes' out' w a w' a' l r =
     × ((got_leaves l.size l.slots (tree_of w) heads bytes heads' bytes' (got_back r w' a')) × ((w' ≡ got_tree w (got_back r w' a'))
     × (a' ≡ got_answer a (got_back r w' a')))))
 
-pub get_called : (image heads bytes out k heads' bytes' out' w a w' a' : List ℕ) (l m : Lent) (t : Tree) (r : ℕ) (g : Got)
+pub get_called : (image heads bytes out k heads' bytes' out' w a w' a' : List ℕ) (l m : Lent) (t : Tree) (r : ℕ)
+    (g : std.Result (Tree × Option Copied) Refusal)
     → 14 ≤ length w → 8 ≤ length a → l ≡ m → t ≡ tree_of w
-    → GetSays image heads bytes out k heads' bytes' out' l t g → r ≡ got_number g → w' ≡ got_tree w g → a' ≡ got_answer a g
+    → GetSays image heads bytes out k heads' bytes' out' l t g → r ≡ returned g → w' ≡ got_tree w g → a' ≡ got_answer a g
     → GetCalled image heads bytes out k heads' bytes' out' w a w' a' m r
 get_called image heads bytes out k heads' bytes' out' w a w' a' l m t r g h j el et s er ew ea =
-    let q : got_back r w' a' ≡ g = got_told l.size heads' bytes' out' _ w a w' a' r g (get_numbered (lent_of image l) t heads bytes
-    (length out) k) s.0 er ew ea in
+    let q : got_back r w' a' ≡ g = got_told w a w' a' r g er ew ea in
     let p : on_words w a (λ t. got_in (lent_of image m) t heads bytes (length out) k)
     ≡ got_in (lent_of image m) (tree_of w) heads bytes (length out) k = on_words_lem w a (λ u. got_in (lent_of image m) u heads bytes (length
     out) k) h j in
@@ -143,12 +117,12 @@ get_called image heads bytes out k heads' bytes' out' w a w' a' l m t r g h j el
 pub get_few : (image heads bytes out k w a : List ℕ) (l : Lent)
     → on_words w a (λ t. got_in (lent_of image l) t heads bytes (length out) k) ≡ refused refusal.lent
     → GetCalled image heads bytes out k heads bytes out w a w a l refusal.lent
-unfolding got_means got_back got_output got_tree got_answer
+unfolding got_means got_back back got_output got_tree got_answer
 get_few image heads bytes out k w a l e = (sym e, (rw e refl, ((refl, refl), (refl, refl))))
 
 -- ---- floor
 
-abbrev pub FloorSays : (image heads bytes out k heads' bytes' out' : List ℕ) → Lent → Tree → Floor → Type 0
+abbrev pub FloorSays : (image heads bytes out k heads' bytes' out' : List ℕ) → Lent → Tree → std.Result (Tree × Option ℕ) Refusal → Type 0
 FloorSays image heads bytes out k heads' bytes' out' l t g =
     (floor_means l.size heads' bytes' out' g ≡ floored_in (lent_of image l) t heads bytes (length out) k) × ((out'
     ≡ floored_output out (floored_in (lent_of image l) t heads bytes (length out) k))
@@ -162,13 +136,13 @@ FloorCalled image heads bytes out k heads' bytes' out' w a w' a' l r =
     × ((floored_leaves l.size l.slots (tree_of w) heads bytes heads' bytes' (floored_back r w' a')) × ((w'
     ≡ floored_tree w (floored_back r w' a')) × (a' ≡ floored_answer a (floored_back r w' a')))))
 
-pub floor_called : (image heads bytes out k heads' bytes' out' w a w' a' : List ℕ) (l m : Lent) (t : Tree) (r : ℕ) (g : Floor)
+pub floor_called : (image heads bytes out k heads' bytes' out' w a w' a' : List ℕ) (l m : Lent) (t : Tree) (r : ℕ)
+    (g : std.Result (Tree × Option ℕ) Refusal)
     → 14 ≤ length w → 8 ≤ length a → l ≡ m → t ≡ tree_of w
-    → FloorSays image heads bytes out k heads' bytes' out' l t g → r ≡ floored_number g → w' ≡ floored_tree w g → a'
+    → FloorSays image heads bytes out k heads' bytes' out' l t g → r ≡ returned g → w' ≡ floored_tree w g → a'
     ≡ floored_answer a g → FloorCalled image heads bytes out k heads' bytes' out' w a w' a' m r
 floor_called image heads bytes out k heads' bytes' out' w a w' a' l m t r g h j el et s er ew ea =
-    let q : floored_back r w' a' ≡ g = floored_told l.size heads' bytes' out' _ w a w' a' r g (floor_numbered (lent_of image l) t
-    heads bytes (length out) k) s.0 er ew ea in
+    let q : floored_back r w' a' ≡ g = floored_told w a w' a' r g er ew ea in
     let p : on_words w a (λ t. floored_in (lent_of image m) t heads bytes (length out) k)
     ≡ floored_in (lent_of image m) (tree_of w) heads bytes (length out) k = on_words_lem w a (λ u. floored_in (lent_of image m) u heads bytes
     (length out) k) h j in
@@ -179,12 +153,12 @@ floor_called image heads bytes out k heads' bytes' out' w a w' a' l m t r g h j 
 pub floor_few : (image heads bytes out k w a : List ℕ) (l : Lent)
     → on_words w a (λ t. floored_in (lent_of image l) t heads bytes (length out) k) ≡ refused refusal.lent
     → FloorCalled image heads bytes out k heads bytes out w a w a l refusal.lent
-unfolding floor_means floored_back floored_output floored_tree floored_answer
+unfolding floor_means floored_back back floored_output floored_tree floored_answer
 floor_few image heads bytes out k w a l e = (sym e, (rw e refl, ((refl, refl), (refl, refl))))
 
 -- ---- range
 
-abbrev pub RangeSays : (image heads bytes out lo hi heads' bytes' out' : List ℕ) → Lent → Tree → Ranged → Type 0
+abbrev pub RangeSays : (image heads bytes out lo hi heads' bytes' out' : List ℕ) → Lent → Tree → std.Result Ranged Refusal → Type 0
 RangeSays image heads bytes out lo hi heads' bytes' out' l t g =
     (range_means l.size heads' bytes' out' g ≡ ranged_in (lent_of image l) t heads bytes (length out) lo hi) × ((out'
     ≡ ranged_output out (ranged_in (lent_of image l) t heads bytes (length out) lo hi)) × ((ranged_length out' g)
@@ -198,13 +172,12 @@ RangeCalled image heads bytes out lo hi heads' bytes' out' w a w' a' l r =
     × ((ranged_length out' (ranged_back r w' a')) × ((ranged_leaves l.size l.slots (tree_of w) heads bytes heads' bytes' (ranged_back
     r w' a')) × ((w' ≡ ranged_tree w (ranged_back r w' a')) × (a' ≡ ranged_answer a (ranged_back r w' a'))))))
 
-pub range_called : (image heads bytes out lo hi heads' bytes' out' w a w' a' : List ℕ) (l m : Lent) (t : Tree) (r : ℕ) (g : Ranged)
+pub range_called : (image heads bytes out lo hi heads' bytes' out' w a w' a' : List ℕ) (l m : Lent) (t : Tree) (r : ℕ) (g : std.Result Ranged Refusal)
     → 14 ≤ length w → 8 ≤ length a → l ≡ m → t ≡ tree_of w
-    → RangeSays image heads bytes out lo hi heads' bytes' out' l t g → r ≡ ranged_number g → w' ≡ ranged_tree w g → a'
+    → RangeSays image heads bytes out lo hi heads' bytes' out' l t g → r ≡ returned g → w' ≡ ranged_tree w g → a'
     ≡ ranged_answer a g → RangeCalled image heads bytes out lo hi heads' bytes' out' w a w' a' m r
 range_called image heads bytes out lo hi heads' bytes' out' w a w' a' l m t r g h j el et s er ew ea =
-    let q : ranged_back r w' a' ≡ g = ranged_told l.size heads' bytes' out' _ w a w' a' r g (range_numbered (lent_of image l) t heads
-    bytes (length out) lo hi) s.0 er ew ea in
+    let q : ranged_back r w' a' ≡ g = ranged_told w a w' a' r g er ew ea in
     let p : on_words w a (λ t. ranged_in (lent_of image m) t heads bytes (length out) lo hi)
     ≡ ranged_in (lent_of image m) (tree_of w) heads bytes (length out) lo hi = on_words_lem w a (λ u. ranged_in (lent_of image m) u heads bytes
     (length out) lo hi) h j in
@@ -230,12 +203,12 @@ range_called image heads bytes out lo hi heads' bytes' out' w a w' a' l m t r g 
 pub range_few : (image heads bytes out lo hi w a : List ℕ) (l : Lent)
     → on_words w a (λ t. ranged_in (lent_of image l) t heads bytes (length out) lo hi) ≡ refused refusal.lent
     → RangeCalled image heads bytes out lo hi heads bytes out w a w a l refusal.lent
-unfolding range_means ranged_back ranged_output ranged_tree ranged_answer
+unfolding range_means ranged_back back ranged_output ranged_tree ranged_answer
 range_few image heads bytes out lo hi w a l e = (sym e, (rw e refl, (tt, ((refl, refl), (refl, refl)))))
 
 -- ---- upsert
 
-abbrev pub UpsertSays : (image heads bytes scratch k heads' bytes' : List ℕ) → (v : Val) → Lent → Tree → Edited → Type 0
+abbrev pub UpsertSays : (image heads bytes scratch k heads' bytes' : List ℕ) → (v : Val) → Lent → Tree → std.Result Tree Refusal → Type 0
 UpsertSays image heads bytes scratch k heads' bytes' v l t g =
     (edited_of l.size heads' bytes' g ≡ edits l.size l.slots t heads bytes scratch (λ s. upsert (lent_of image l) s k v))
     × (edited_leaves l.size l.slots t heads bytes heads' bytes' g)
@@ -246,13 +219,12 @@ UpsertCalled image heads bytes scratch k heads' bytes' w w' v l r =
     (lent_of image l) s k v))) × ((edited_leaves l.size l.slots (tree_of w) heads bytes heads' bytes' (edited_back r w')) × (w'
     ≡ edited_tree w (edited_back r w')))
 
-pub upsert_called : (image heads bytes scratch k heads' bytes' w w' : List ℕ) (v : Val) (l m : Lent) (t : Tree) (r : ℕ) (g : Edited)
+pub upsert_called : (image heads bytes scratch k heads' bytes' w w' : List ℕ) (v : Val) (l m : Lent) (t : Tree) (r : ℕ) (g : std.Result Tree Refusal)
     → 14 ≤ length w → l ≡ m → t ≡ tree_of w
-    → UpsertSays image heads bytes scratch k heads' bytes' v l t g → r ≡ edited_number g → w' ≡ edited_tree w g
+    → UpsertSays image heads bytes scratch k heads' bytes' v l t g → r ≡ returned g → w' ≡ edited_tree w g
     → UpsertCalled image heads bytes scratch k heads' bytes' w w' v m r
 upsert_called image heads bytes scratch k heads' bytes' w w' v l m t r g h el et s er ew =
-    let q : edited_back r w' ≡ g = edited_told l.size heads' bytes' _ w w' r g (upsert_numbered l.size l.slots t heads bytes
-    scratch (lent_of image l) k v) s.0 er ew in
+    let q : edited_back r w' ≡ g = edited_told w w' r g er ew in
     let p : on_tree w (λ t. edits m.size m.slots t heads bytes scratch (λ s. upsert (lent_of image m) s k v))
     ≡ edits m.size m.slots (tree_of w) heads bytes scratch (λ s. upsert (lent_of image m) s k v) = on_tree_lem w (λ u. edits m.size
     m.slots u heads bytes scratch (λ s. upsert (lent_of image m) s k v)) h in
@@ -263,13 +235,13 @@ upsert_called image heads bytes scratch k heads' bytes' w w' v l m t r g h el et
 pub upsert_few : (image heads bytes scratch k w : List ℕ) (v : Val) (l : Lent)
     → on_tree w (λ t. edits l.size l.slots t heads bytes scratch (λ s. upsert (lent_of image l) s k v)) ≡ refused refusal.lent
     → UpsertCalled image heads bytes scratch k heads bytes w w v l refusal.lent
-unfolding edited_of edited_back edited_tree
+unfolding edited_of edited_back back edited_tree
 upsert_few image heads bytes scratch k w v l e = (sym e, ((refl, refl), refl))
 
 -- ---- omap_put
 
 abbrev pub PutSays : (image heads bytes scratch heads' bytes' : List ℕ) → (id : ℕ) → (xid : ℕ) → (address : ℕ) → (long : ℕ) → Lent
-    → Tree → Edited → Type 0
+    → Tree → std.Result Tree Refusal → Type 0
 PutSays image heads bytes scratch heads' bytes' id xid address long l t g =
     (edited_of l.size heads' bytes' g ≡ edits l.size l.slots t heads bytes scratch (λ s. omap_put (lent_of image l) s id xid
     address long)) × (edited_leaves l.size l.slots t heads bytes heads' bytes' g)
@@ -281,12 +253,11 @@ PutCalled image heads bytes scratch heads' bytes' w w' id xid address long l r =
     w')) × (w' ≡ edited_tree w (edited_back r w')))
 
 pub put_called : (image heads bytes scratch heads' bytes' w w' : List ℕ) (id : ℕ) (xid : ℕ) (address : ℕ) (long : ℕ) (l m : Lent) (t :
-    Tree) (r : ℕ) (g : Edited) → 14 ≤ length w → l ≡ m → t ≡ tree_of w
-    → PutSays image heads bytes scratch heads' bytes' id xid address long l t g → r ≡ edited_number g → w' ≡ edited_tree w g
+    Tree) (r : ℕ) (g : std.Result Tree Refusal) → 14 ≤ length w → l ≡ m → t ≡ tree_of w
+    → PutSays image heads bytes scratch heads' bytes' id xid address long l t g → r ≡ returned g → w' ≡ edited_tree w g
     → PutCalled image heads bytes scratch heads' bytes' w w' id xid address long m r
 put_called image heads bytes scratch heads' bytes' w w' id xid address long l m t r g h el et s er ew =
-    let q : edited_back r w' ≡ g = edited_told l.size heads' bytes' _ w w' r g (put_numbered l.size l.slots t heads bytes
-    scratch (lent_of image l) id xid address long) s.0 er ew in
+    let q : edited_back r w' ≡ g = edited_told w w' r g er ew in
     let p : on_tree w (λ t. edits m.size m.slots t heads bytes scratch (λ s. omap_put (lent_of image m) s id xid address long))
     ≡ edits m.size m.slots (tree_of w) heads bytes scratch (λ s. omap_put (lent_of image m) s id xid address long) = on_tree_lem w (λ u.
     edits m.size m.slots u heads bytes scratch (λ s. omap_put (lent_of image m) s id xid address long)) h in
@@ -298,12 +269,12 @@ pub put_few : (image heads bytes scratch w : List ℕ) (id : ℕ) (xid : ℕ) (a
     → on_tree w (λ t. edits l.size l.slots t heads bytes scratch (λ s. omap_put (lent_of image l) s id xid address long))
     ≡ refused refusal.lent
     → PutCalled image heads bytes scratch heads bytes w w id xid address long l refusal.lent
-unfolding edited_of edited_back edited_tree
+unfolding edited_of edited_back back edited_tree
 put_few image heads bytes scratch w id xid address long l e = (sym e, ((refl, refl), refl))
 
 -- ---- omap_drop
 
-abbrev pub DropSays : (image heads bytes scratch heads' bytes' : List ℕ) → (id : ℕ) → Lent → Tree → Edited → Type 0
+abbrev pub DropSays : (image heads bytes scratch heads' bytes' : List ℕ) → (id : ℕ) → Lent → Tree → std.Result Tree Refusal → Type 0
 DropSays image heads bytes scratch heads' bytes' id l t g =
     (edited_of l.size heads' bytes' g ≡ edits l.size l.slots t heads bytes scratch (λ s. omap_drop (lent_of image l) s id))
     × (edited_leaves l.size l.slots t heads bytes heads' bytes' g)
@@ -314,13 +285,12 @@ DropCalled image heads bytes scratch heads' bytes' w w' id l r =
     omap_drop (lent_of image l) s id))) × ((edited_leaves l.size l.slots (tree_of w) heads bytes heads' bytes' (edited_back r w'))
     × (w' ≡ edited_tree w (edited_back r w')))
 
-pub drop_called : (image heads bytes scratch heads' bytes' w w' : List ℕ) (id : ℕ) (l m : Lent) (t : Tree) (r : ℕ) (g : Edited)
+pub drop_called : (image heads bytes scratch heads' bytes' w w' : List ℕ) (id : ℕ) (l m : Lent) (t : Tree) (r : ℕ) (g : std.Result Tree Refusal)
     → 14 ≤ length w → l ≡ m → t ≡ tree_of w
-    → DropSays image heads bytes scratch heads' bytes' id l t g → r ≡ edited_number g → w' ≡ edited_tree w g
+    → DropSays image heads bytes scratch heads' bytes' id l t g → r ≡ returned g → w' ≡ edited_tree w g
     → DropCalled image heads bytes scratch heads' bytes' w w' id m r
 drop_called image heads bytes scratch heads' bytes' w w' id l m t r g h el et s er ew =
-    let q : edited_back r w' ≡ g = edited_told l.size heads' bytes' _ w w' r g (drop_numbered l.size l.slots t heads bytes
-    scratch (lent_of image l) id) s.0 er ew in
+    let q : edited_back r w' ≡ g = edited_told w w' r g er ew in
     let p : on_tree w (λ t. edits m.size m.slots t heads bytes scratch (λ s. omap_drop (lent_of image m) s id))
     ≡ edits m.size m.slots (tree_of w) heads bytes scratch (λ s. omap_drop (lent_of image m) s id) = on_tree_lem w (λ u. edits m.size
     m.slots u heads bytes scratch (λ s. omap_drop (lent_of image m) s id)) h in
@@ -331,12 +301,12 @@ drop_called image heads bytes scratch heads' bytes' w w' id l m t r g h el et s 
 pub drop_few : (image heads bytes scratch w : List ℕ) (id : ℕ) (l : Lent)
     → on_tree w (λ t. edits l.size l.slots t heads bytes scratch (λ s. omap_drop (lent_of image l) s id)) ≡ refused refusal.lent
     → DropCalled image heads bytes scratch heads bytes w w id l refusal.lent
-unfolding edited_of edited_back edited_tree
+unfolding edited_of edited_back back edited_tree
 drop_few image heads bytes scratch w id l e = (sym e, ((refl, refl), refl))
 
 -- ---- remove
 
-abbrev pub RemoveSays : (image heads bytes scratch k heads' bytes' : List ℕ) → Lent → Tree → Removed → Type 0
+abbrev pub RemoveSays : (image heads bytes scratch k heads' bytes' : List ℕ) → Lent → Tree → std.Result (Tree × Bool) Refusal → Type 0
 RemoveSays image heads bytes scratch k heads' bytes' l t g =
     (removed_of l.size heads' bytes' g ≡ edits l.size l.slots t heads bytes scratch (λ s. removing.remove (lent_of image l) s
     k)) × (removed_leaves l.size l.slots t heads bytes heads' bytes' g)
@@ -348,13 +318,13 @@ RemoveCalled image heads bytes scratch k heads' bytes' w a w' a' l r =
     × ((removed_leaves l.size l.slots (tree_of w) heads bytes heads' bytes' (removed_back r w' a')) × ((w'
     ≡ removed_tree w (removed_back r w' a')) × (a' ≡ removed_answer a (removed_back r w' a'))))
 
-pub remove_called : (image heads bytes scratch k heads' bytes' w a w' a' : List ℕ) (l m : Lent) (t : Tree) (r : ℕ) (g : Removed)
+pub remove_called : (image heads bytes scratch k heads' bytes' w a w' a' : List ℕ) (l m : Lent) (t : Tree) (r : ℕ)
+    (g : std.Result (Tree × Bool) Refusal)
     → 14 ≤ length w → 8 ≤ length a → l ≡ m → t ≡ tree_of w
-    → RemoveSays image heads bytes scratch k heads' bytes' l t g → r ≡ removed_number g → w' ≡ removed_tree w g → a'
+    → RemoveSays image heads bytes scratch k heads' bytes' l t g → r ≡ returned g → w' ≡ removed_tree w g → a'
     ≡ removed_answer a g → RemoveCalled image heads bytes scratch k heads' bytes' w a w' a' m r
 remove_called image heads bytes scratch k heads' bytes' w a w' a' l m t r g h j el et s er ew ea =
-    let q : removed_back r w' a' ≡ g = removed_told l.size heads' bytes' _ w a w' a' r g (remove_numbered l.size l.slots t
-    heads bytes scratch (lent_of image l) k) s.0 er ew ea in
+    let q : removed_back r w' a' ≡ g = removed_told w a w' a' r g er ew ea in
     let p : on_words w a (λ t. edits m.size m.slots t heads bytes scratch (λ s. removing.remove (lent_of image m) s k))
     ≡ edits m.size m.slots (tree_of w) heads bytes scratch (λ s. removing.remove (lent_of image m) s k) = on_words_lem w a (λ u. edits
     m.size m.slots u heads bytes scratch (λ s. removing.remove (lent_of image m) s k)) h j in
@@ -366,5 +336,5 @@ pub remove_few : (image heads bytes scratch k w a : List ℕ) (l : Lent)
     → on_words w a (λ t. edits l.size l.slots t heads bytes scratch (λ s. removing.remove (lent_of image l) s k))
     ≡ refused refusal.lent
     → RemoveCalled image heads bytes scratch k heads bytes w a w a l refusal.lent
-unfolding removed_of removed_back removed_tree removed_answer
+unfolding removed_of removed_back back removed_tree removed_answer
 remove_few image heads bytes scratch k w a l e = (sym e, ((refl, refl), (refl, refl)))

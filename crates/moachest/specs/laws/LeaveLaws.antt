@@ -6,29 +6,19 @@ use Rattle.std.proofs.lemmas.List.Edits.{sets-eq}
 use Rattle.seal.specs.Bytes.{splice}
 use Rattle.seal.specs.laws.WindowLaws.{splice_two}
 use Rattle.node.specs.declared.info.BTreeInfo.{BTreeInfo}
+use Rattle.std.specs.Prelude as std
+use Rattle.node.specs.Refusals.{number_of}
+use Rattle.node.specs.declared.refusal.Refusal.{Refusal}
 use Rattle.tree.specs.declared.editor.Tree.{Tree}
-use Rattle.tree.specs.declared.lookup.Opened.{Opened}
-use Rattle.tree.specs.declared.lookup.Opened.TheVariants as opening
 use Rattle.tree.specs.declared.get.Copied.{Copied}
 use Rattle.tree.specs.declared.get.Copied.TheVariants as copied
-use Rattle.tree.specs.internal.Get.{got_of}
-use Rattle.tree.specs.declared.get.Got.{Got}
-use Rattle.tree.specs.declared.get.Got.TheVariants as getting
-use Rattle.tree.specs.declared.floor.Floor.{Floor}
-use Rattle.tree.specs.declared.floor.Floor.TheVariants as flooring
 use Rattle.tree.specs.declared.range.Ranged.{Ranged}
-use Rattle.tree.specs.declared.range.Ranged.TheVariants as ranging
-use Rattle.tree.specs.declared.edited.Edited.{Edited}
-use Rattle.tree.specs.declared.edited.Edited.TheVariants as editing
-use Rattle.tree.specs.declared.edited.Removed.{Removed}
-use Rattle.tree.specs.declared.edited.Removed.TheVariants as taking
 use Rattle.flush.specs.declared.flush.Flushed.{Flushed}
-use Rattle.flush.specs.declared.flush.Answer.{Answer}
-use Rattle.flush.specs.declared.flush.Answer.TheVariants as flushing
 use Rattle.moachest.specs.Words.{yes, mark, info_of, tree_of, words_of, stored}
 use Rattle.moachest.specs.internal.Stored.{info_words}
-use Rattle.moachest.specs.Answers.{opened_tree, got_tree, got_answer, floored_tree, floored_answer, ranged_tree, ranged_answer, edited_tree, removed_tree, removed_answer, flushed_words, flushed_answer}
-use Rattle.moachest.specs.internal.Returned.{CopiedLeft, opened_number, got_number, floored_number, ranged_number, edited_number, removed_number, flushed_number}
+use Rattle.moachest.specs.Answers.{returned, copied_words, got_tree, got_answer, found_words, floored_tree, floored_answer, ranged_tree, ranged_answer, edited_tree, removed_tree, removed_answer, flushed_words, flushed_answer}
+use Rattle.moachest.specs.internal.Returned.{CopiedLeft}
+use Rattle.std.specs.Prelude.{Bool, cond, Option, Some, None, Ok, Err}
 
 -- ---- words
 
@@ -83,246 +73,150 @@ flushed_put w v u f e2 e1 h =
     rw (e2, e1) (splice_two w 0 (f.root ∷ f.done.allocated ∷ f.done.freed ∷ f.done.removed ∷ [])
     (f.done.moved ∷ f.keys ∷ f.fill ∷ f.done.next ∷ []) (omega arith))
 
--- ---- opened
-
-pub opened_refused_number : (g : Opened) (x : ℕ) → g ≡ opening.Refused x → x ≡ opened_number g
-unfolding opened_number
-opened_refused_number g x e = rw e refl
-
-pub opened_refused_tree : (w : List ℕ) (g : Opened) (x : ℕ) → g ≡ opening.Refused x → w ≡ opened_tree w g
-unfolding opened_tree
-opened_refused_tree w g x e = rw e refl
-
-pub opened_open_number : (g : Opened) (t : Tree) → g ≡ opening.Open t → 0 ≡ opened_number g
-unfolding opened_number
-opened_open_number g t e = rw e refl
-
-pub opened_open_tree : (w v : List ℕ) (g : Opened) (t : Tree) → g ≡ opening.Open t → v ≡ stored w t → v ≡ opened_tree w g
-unfolding opened_tree
-opened_open_tree w v g t e p = rw e p
-
--- ---- got
-
-pub got_refused_number : (g : Got) (x : ℕ) → g ≡ getting.Refused x → x ≡ got_number g
-unfolding got_number
-got_refused_number g x e = rw e refl
-
-pub got_refused_tree : (w : List ℕ) (g : Got) (x : ℕ) → g ≡ getting.Refused x → w ≡ got_tree w g
-unfolding got_tree
-got_refused_tree w g x e = rw e refl
-
-pub got_refused_words : (a : List ℕ) (g : Got) (x : ℕ) → g ≡ getting.Refused x → a ≡ got_answer a g
-unfolding got_answer
-got_refused_words a g x e = rw e refl
-
-pub got_none_number : (g : Got) (t : Tree) → g ≡ getting.None t → 0 ≡ got_number g
-unfolding got_number
-got_none_number g t e = rw e refl
-
-pub got_none_tree : (w v : List ℕ) (g : Got) (t : Tree) → g ≡ getting.None t → v ≡ stored w t → v ≡ got_tree w g
-unfolding got_tree
-got_none_tree w v g t e p = rw e p
-
-pub got_none_words : (a v : List ℕ) (g : Got) (t : Tree) → g ≡ getting.None t → v ≡ set a 0 0 → 8 ≤ length a → v ≡ got_answer a g
-unfolding got_answer splice
-got_none_words a v g t e p h = rw (e, p) (sets-eq (0 ∷ []) a 0 (omega arith))
-
-pub got_ghost_number : (g : Got) (t : Tree) → g ≡ getting.Ghost t → 0 ≡ got_number g
-unfolding got_number
-got_ghost_number g t e = rw e refl
-
-pub got_ghost_tree : (w v : List ℕ) (g : Got) (t : Tree) → g ≡ getting.Ghost t → v ≡ stored w t → v ≡ got_tree w g
-unfolding got_tree
-got_ghost_tree w v g t e p = rw e p
-
-pub got_ghost_words : (a v : List ℕ) (g : Got) (t : Tree) → g ≡ getting.Ghost t → v ≡ set a 0 1 → 8 ≤ length a → v ≡ got_answer a g
-unfolding got_answer splice
-got_ghost_words a v g t e p h = rw (e, p) (sets-eq (1 ∷ []) a 0 (omega arith))
-
-pub got_value_number : (g : Got) (t : Tree) (n : ℕ) → g ≡ getting.Value t n → 0 ≡ got_number g
-unfolding got_number
-got_value_number g t n e = rw e refl
-
-pub got_value_tree : (w v : List ℕ) (g : Got) (t : Tree) (n : ℕ) → g ≡ getting.Value t n → v ≡ stored w t → v ≡ got_tree w g
-unfolding got_tree
-got_value_tree w v g t n e p = rw e p
-
-pub got_value_words : (a v u : List ℕ) (g : Got) (t : Tree) (n : ℕ) → g ≡ getting.Value t n → u ≡ set v 1 n → v ≡ set a 0 2
-    → 8 ≤ length a → u ≡ got_answer a g
-unfolding got_answer splice
-got_value_words a v u g t n e q p h = rw (e, q, p) (sets-eq (2 ∷ n ∷ []) a 0 (omega arith))
-
 pub as_stored_said : (w : List ℕ) (x : ℕ) → x ≡ get_or w 10 0 → ltb x 2 ≡ ltb (get_or w 10 0) 2
 as_stored_said w x e = ap (λ (y : ℕ). ltb y 2) e
 
+-- ---- what is returned
+
+module _ {A : Type 0} (g : std.Result A Refusal) where
+  pub refused_number : (x : Refusal) (r : ℕ) → g ≡ Err x → r ≡ number_of x → r ≡ returned g
+  unfolding returned
+  refused_number x r e q = rw e q
+
+  pub done_number : (a : A) → g ≡ Ok a → 0 ≡ returned g
+  unfolding returned
+  done_number a e = rw e
+
+-- ---- got
+
+module _ (a : List ℕ) (h : 8 ≤ length a) (c : Option Copied) where
+  pub copied_none : c ≡ None → (v : List ℕ) → v ≡ set a 0 0 → v ≡ splice a 0 (copied_words c)
+  unfolding copied_words splice
+  copied_none e v p = rw (e, p) (sets-eq (0 ∷ []) a 0 (omega arith))
+
+  pub copied_ghost : (x : Copied) → c ≡ Some x → x ≡ copied.Ghost → (v : List ℕ) → v ≡ set a 0 1 → v ≡ splice a 0 (copied_words c)
+  unfolding copied_words splice
+  copied_ghost x e f v p = rw (e, f, p) (sets-eq (1 ∷ []) a 0 (omega arith))
+
+  pub copied_value : (x : Copied) (n : ℕ) → c ≡ Some x → x ≡ copied.Value n → (v u : List ℕ) → u ≡ set v 1 n → v ≡ set a 0 2
+      → u ≡ splice a 0 (copied_words c)
+  unfolding copied_words
+  copied_value x n e f v u q p = rw (e, f) (both_put a v u 2 n q p (omega arith))
+
+module _ (w a : List ℕ) (g : std.Result (Tree × Option Copied) Refusal) where
+  pub got_refused_tree : (x : Refusal) → g ≡ Err x → w ≡ got_tree w g
+  unfolding got_tree
+  got_refused_tree x e = rw e
+
+  pub got_refused_words : (x : Refusal) → g ≡ Err x → a ≡ got_answer a g
+  unfolding got_answer
+  got_refused_words x e = rw e
+
+  module _ (t : Tree) (c : Option Copied) (e : g ≡ Ok (t, c)) where
+    pub got_done_tree : (v : List ℕ) → v ≡ stored w t → v ≡ got_tree w g
+    unfolding got_tree
+    got_done_tree v p = rw e p
+
+    pub got_done_words : (b : List ℕ) → b ≡ splice a 0 (copied_words c) → b ≡ got_answer a g
+    unfolding got_answer
+    got_done_words b p = rw e p
+
 -- what get copied out
-module _ (a : List ℕ) (c : Copied) where
-  pub copied_refused : c ≡ copied.Refused → CopiedLeft a a c 20
-  copied_refused e =
-      record {
-        number = λ t. got_refused_number (got_of t c) 20 (ap (got_of t) e);
-        words = λ t. got_refused_words a (got_of t c) 20 (ap (got_of t) e);
-      }
+module _ (a : List ℕ) (g : std.Result (Option Copied) Refusal) where
+  pub left_refused : (x : Refusal) (r : ℕ) → g ≡ Err x → r ≡ number_of x → CopiedLeft a a g r
+  unfolding returned got_answer
+  left_refused x r e q = record { number = λ t. rw e q; words = λ t. rw e }
 
-  module _ (h : 8 ≤ length a) (v : List ℕ) where
-    pub copied_none : c ≡ copied.None → v ≡ set a 0 0 → CopiedLeft a v c 0
-    copied_none e p =
-        record {
-          number = λ t. got_none_number (got_of t c) t (ap (got_of t) e);
-          words = λ t. got_none_words a v (got_of t c) t (ap (got_of t) e) p h;
-        }
-
-    pub copied_ghost : c ≡ copied.Ghost → v ≡ set a 0 1 → CopiedLeft a v c 0
-    copied_ghost e p =
-        record {
-          number = λ t. got_ghost_number (got_of t c) t (ap (got_of t) e);
-          words = λ t. got_ghost_words a v (got_of t c) t (ap (got_of t) e) p h;
-        }
-
-    pub copied_value : (u : List ℕ) (n : ℕ) → c ≡ copied.Value n → u ≡ set v 1 n → v ≡ set a 0 2 → CopiedLeft a u c 0
-    copied_value u n e q p =
-        record {
-          number = λ t. got_value_number (got_of t c) t n (ap (got_of t) e);
-          words = λ t. got_value_words a v u (got_of t c) t n (ap (got_of t) e) q p h;
-        }
+  pub left_done : (c : Option Copied) (b : List ℕ) → g ≡ Ok c → b ≡ splice a 0 (copied_words c) → CopiedLeft a b g 0
+  unfolding returned got_answer
+  left_done c b e p = record { number = λ t. rw e; words = λ t. rw e p }
 
 -- ---- floored
 
-pub floored_refused_number : (g : Floor) (x : ℕ) → g ≡ flooring.Refused x → x ≡ floored_number g
-unfolding floored_number
-floored_refused_number g x e = rw e refl
+module _ (a : List ℕ) (h : 8 ≤ length a) (c : Option ℕ) where
+  pub found_none : c ≡ None → (v : List ℕ) → v ≡ set a 0 0 → v ≡ splice a 0 (found_words c)
+  unfolding found_words splice
+  found_none e v p = rw (e, p) (sets-eq (0 ∷ []) a 0 (omega arith))
 
-pub floored_refused_tree : (w : List ℕ) (g : Floor) (x : ℕ) → g ≡ flooring.Refused x → w ≡ floored_tree w g
-unfolding floored_tree
-floored_refused_tree w g x e = rw e refl
+  pub found_some : (n : ℕ) → c ≡ Some n → (v u : List ℕ) → u ≡ set v 1 n → v ≡ set a 0 1 → u ≡ splice a 0 (found_words c)
+  unfolding found_words
+  found_some n e v u q p = rw e (both_put a v u 1 n q p (omega arith))
 
-pub floored_refused_words : (a : List ℕ) (g : Floor) (x : ℕ) → g ≡ flooring.Refused x → a ≡ floored_answer a g
-unfolding floored_answer
-floored_refused_words a g x e = rw e refl
+module _ (w a : List ℕ) (g : std.Result (Tree × Option ℕ) Refusal) where
+  pub floored_refused_tree : (x : Refusal) → g ≡ Err x → w ≡ floored_tree w g
+  unfolding floored_tree
+  floored_refused_tree x e = rw e
 
-pub floored_none_number : (g : Floor) (t : Tree) → g ≡ flooring.None t → 0 ≡ floored_number g
-unfolding floored_number
-floored_none_number g t e = rw e refl
+  pub floored_refused_words : (x : Refusal) → g ≡ Err x → a ≡ floored_answer a g
+  unfolding floored_answer
+  floored_refused_words x e = rw e
 
-pub floored_none_tree : (w v : List ℕ) (g : Floor) (t : Tree) → g ≡ flooring.None t → v ≡ stored w t → v ≡ floored_tree w g
-unfolding floored_tree
-floored_none_tree w v g t e p = rw e p
+  module _ (t : Tree) (c : Option ℕ) (e : g ≡ Ok (t, c)) where
+    pub floored_done_tree : (v : List ℕ) → v ≡ stored w t → v ≡ floored_tree w g
+    unfolding floored_tree
+    floored_done_tree v p = rw e p
 
-pub floored_none_words : (a v : List ℕ) (g : Floor) (t : Tree) → g ≡ flooring.None t → v ≡ set a 0 0 → 8 ≤ length a → v ≡ floored_answer a g
-unfolding floored_answer splice
-floored_none_words a v g t e p h = rw (e, p) (sets-eq (0 ∷ []) a 0 (omega arith))
-
-pub floored_record_number : (g : Floor) (t : Tree) (n : ℕ) → g ≡ flooring.Record t n → 0 ≡ floored_number g
-unfolding floored_number
-floored_record_number g t n e = rw e refl
-
-pub floored_record_tree : (w v : List ℕ) (g : Floor) (t : Tree) (n : ℕ) → g ≡ flooring.Record t n → v ≡ stored w t → v ≡ floored_tree w g
-unfolding floored_tree
-floored_record_tree w v g t n e p = rw e p
-
-pub floored_record_words : (a v u : List ℕ) (g : Floor) (t : Tree) (n : ℕ) → g ≡ flooring.Record t n → u ≡ set v 1 n → v ≡ set a 0 1
-    → 8 ≤ length a → u ≡ floored_answer a g
-unfolding floored_answer splice
-floored_record_words a v u g t n e q p h = rw (e, q, p) (sets-eq (1 ∷ n ∷ []) a 0 (omega arith))
+    pub floored_done_words : (b : List ℕ) → b ≡ splice a 0 (found_words c) → b ≡ floored_answer a g
+    unfolding floored_answer
+    floored_done_words b p = rw e p
 
 -- ---- ranged
 
-pub ranged_refused_number : (g : Ranged) (x : ℕ) → g ≡ ranging.Refused x → x ≡ ranged_number g
-unfolding ranged_number
-ranged_refused_number g x e = rw e refl
+module _ (w a : List ℕ) (g : std.Result Ranged Refusal) where
+  pub ranged_refused_tree : (x : Refusal) → g ≡ Err x → w ≡ ranged_tree w g
+  unfolding ranged_tree
+  ranged_refused_tree x e = rw e
 
-pub ranged_refused_tree : (w : List ℕ) (g : Ranged) (x : ℕ) → g ≡ ranging.Refused x → w ≡ ranged_tree w g
-unfolding ranged_tree
-ranged_refused_tree w g x e = rw e refl
+  pub ranged_refused_words : (x : Refusal) → g ≡ Err x → a ≡ ranged_answer a g
+  unfolding ranged_answer
+  ranged_refused_words x e = rw e
 
-pub ranged_refused_words : (a : List ℕ) (g : Ranged) (x : ℕ) → g ≡ ranging.Refused x → a ≡ ranged_answer a g
-unfolding ranged_answer
-ranged_refused_words a g x e = rw e refl
+  module _ (r : Ranged) (e : g ≡ Ok r) where
+    pub ranged_done_tree : (v : List ℕ) → v ≡ stored w r.tree → v ≡ ranged_tree w g
+    unfolding ranged_tree
+    ranged_done_tree v p = rw e p
 
-pub ranged_done_number : (g : Ranged) (t : Tree) (count : ℕ) (long : ℕ) → g ≡ ranging.Done t count long → 0 ≡ ranged_number g
-unfolding ranged_number
-ranged_done_number g t count long e = rw e refl
-
-pub ranged_done_tree : (w v : List ℕ) (g : Ranged) (t : Tree) (count : ℕ) (long : ℕ) → g ≡ ranging.Done t count long → v ≡ stored w t
-    → v ≡ ranged_tree w g
-unfolding ranged_tree
-ranged_done_tree w v g t count long e p = rw e p
-
-pub ranged_done_words : (a v u : List ℕ) (g : Ranged) (t : Tree) (count : ℕ) (long : ℕ) → g ≡ ranging.Done t count long → u
-    ≡ set v 1 long → v ≡ set a 0 count → 8 ≤ length a → u ≡ ranged_answer a g
-unfolding ranged_answer splice
-ranged_done_words a v u g t count long e q p h = rw (e, q, p) (sets-eq (count ∷ long ∷ []) a 0 (omega arith))
+    pub ranged_done_words : (v u : List ℕ) → u ≡ set v 1 r.length → v ≡ set a 0 r.count → 8 ≤ length a → u ≡ ranged_answer a g
+    unfolding ranged_answer
+    ranged_done_words v u q p h = rw e (both_put a v u r.count r.length q p (omega arith))
 
 -- ---- edited
 
-pub edited_refused_number : (g : Edited) (x : ℕ) → g ≡ editing.Refused x → x ≡ edited_number g
-unfolding edited_number
-edited_refused_number g x e = rw e refl
-
-pub edited_refused_tree : (w : List ℕ) (g : Edited) (x : ℕ) → g ≡ editing.Refused x → w ≡ edited_tree w g
+pub edited_refused : (w : List ℕ) (g : std.Result Tree Refusal) (x : Refusal) → g ≡ Err x → w ≡ edited_tree w g
 unfolding edited_tree
-edited_refused_tree w g x e = rw e refl
+edited_refused w g x e = rw e
 
-pub edited_done_number : (g : Edited) (t : Tree) → g ≡ editing.Done t → 0 ≡ edited_number g
-unfolding edited_number
-edited_done_number g t e = rw e refl
-
-pub edited_done_tree : (w v : List ℕ) (g : Edited) (t : Tree) → g ≡ editing.Done t → v ≡ stored w t → v ≡ edited_tree w g
+pub edited_done : (w v : List ℕ) (g : std.Result Tree Refusal) (t : Tree) → g ≡ Ok t → v ≡ stored w t → v ≡ edited_tree w g
 unfolding edited_tree
-edited_done_tree w v g t e p = rw e p
+edited_done w v g t e p = rw e p
 
 -- ---- removed
 
-pub removed_refused_number : (g : Removed) (x : ℕ) → g ≡ taking.Refused x → x ≡ removed_number g
-unfolding removed_number
-removed_refused_number g x e = rw e refl
+module _ (w a : List ℕ) (g : std.Result (Tree × Bool) Refusal) where
+  pub removed_refused_tree : (x : Refusal) → g ≡ Err x → w ≡ removed_tree w g
+  unfolding removed_tree
+  removed_refused_tree x e = rw e
 
-pub removed_refused_tree : (w : List ℕ) (g : Removed) (x : ℕ) → g ≡ taking.Refused x → w ≡ removed_tree w g
-unfolding removed_tree
-removed_refused_tree w g x e = rw e refl
+  pub removed_refused_words : (x : Refusal) → g ≡ Err x → a ≡ removed_answer a g
+  unfolding removed_answer
+  removed_refused_words x e = rw e
 
-pub removed_refused_words : (a : List ℕ) (g : Removed) (x : ℕ) → g ≡ taking.Refused x → a ≡ removed_answer a g
-unfolding removed_answer
-removed_refused_words a g x e = rw e refl
+  module _ (t : Tree) (there : Bool) (e : g ≡ Ok (t, there)) where
+    pub removed_done_tree : (v : List ℕ) → v ≡ stored w t → v ≡ removed_tree w g
+    unfolding removed_tree
+    removed_done_tree v p = rw e p
 
-pub removed_yes_number : (g : Removed) (t : Tree) → g ≡ taking.Yes t → 0 ≡ removed_number g
-unfolding removed_number
-removed_yes_number g t e = rw e refl
-
-pub removed_yes_tree : (w v : List ℕ) (g : Removed) (t : Tree) → g ≡ taking.Yes t → v ≡ stored w t → v ≡ removed_tree w g
-unfolding removed_tree
-removed_yes_tree w v g t e p = rw e p
-
-pub removed_yes_words : (a v : List ℕ) (g : Removed) (t : Tree) → g ≡ taking.Yes t → v ≡ set a 0 1 → 8 ≤ length a → v ≡ removed_answer a g
-unfolding removed_answer splice
-removed_yes_words a v g t e p h = rw (e, p) (sets-eq (1 ∷ []) a 0 (omega arith))
-
-pub removed_no_number : (g : Removed) (t : Tree) → g ≡ taking.No t → 0 ≡ removed_number g
-unfolding removed_number
-removed_no_number g t e = rw e refl
-
-pub removed_no_tree : (w v : List ℕ) (g : Removed) (t : Tree) → g ≡ taking.No t → v ≡ stored w t → v ≡ removed_tree w g
-unfolding removed_tree
-removed_no_tree w v g t e p = rw e p
-
-pub removed_no_words : (a v : List ℕ) (g : Removed) (t : Tree) → g ≡ taking.No t → v ≡ set a 0 0 → 8 ≤ length a → v ≡ removed_answer a g
-unfolding removed_answer splice
-removed_no_words a v g t e p h = rw (e, p) (sets-eq (0 ∷ []) a 0 (omega arith))
+    pub removed_done_words : (m : ℕ) (v : List ℕ) → m ≡ cond there 1 0 → v ≡ set a 0 m → 8 ≤ length a → v ≡ removed_answer a g
+    unfolding removed_answer splice
+    removed_done_words m v q p h = rw (e, p, q) (sets-eq (cond there 1 0 ∷ []) a 0 (omega arith))
 
 -- ---- flushed
 
-pub flushed_refused_number : (g : Answer) (x : ℕ) → g ≡ flushing.Refused x → x ≡ flushed_number g
-unfolding flushed_number
-flushed_refused_number g x e = rw e refl
-
-pub flushed_refused_words : (a : List ℕ) (g : Answer) (x : ℕ) → g ≡ flushing.Refused x → a ≡ flushed_answer a g
+pub flushed_refused : (a : List ℕ) (g : std.Result Flushed Refusal) (x : Refusal) → g ≡ Err x → a ≡ flushed_answer a g
 unfolding flushed_answer
-flushed_refused_words a g x e = rw e refl
+flushed_refused a g x e = rw e
 
-pub flushed_done_number : (g : Answer) (f : Flushed) → g ≡ flushing.Done f → 0 ≡ flushed_number g
-unfolding flushed_number
-flushed_done_number g f e = rw e refl
-
-pub flushed_done_words : (a v : List ℕ) (g : Answer) (f : Flushed) → g ≡ flushing.Done f → v ≡ splice a 0 (flushed_words f) → v ≡ flushed_answer a g
+pub flushed_done : (a v : List ℕ) (g : std.Result Flushed Refusal) (f : Flushed) → g ≡ Ok f → v ≡ splice a 0 (flushed_words f)
+    → v ≡ flushed_answer a g
 unfolding flushed_answer
-flushed_done_words a v g f e p = rw e p
+flushed_done a v g f e p = rw e p

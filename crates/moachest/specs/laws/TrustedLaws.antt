@@ -25,21 +25,18 @@ use Rattle.tree.specs.internal.Get.{got_at, got_of, ReadyGot, GotCalled}
 use Rattle.tree.specs.laws.lookup.LoadedCalls.{leaf_suits, leaf_answer, leaf_output, got_left}
 use Rattle.tree.specs.internal.Floor.{FloorCalled}
 use Rattle.tree.specs.internal.Range.{RangeCalled}
+use Rattle.std.specs.Prelude as std
+use Rattle.node.specs.declared.refusal.Refusal.{Refusal}
 use Rattle.tree.specs.declared.editor.Tree.{Tree}
-use Rattle.tree.specs.declared.lent.Lent.{Lent}
 use Rattle.tree.specs.declared.get.Copied.{Copied}
-use Rattle.tree.specs.declared.get.Copied.TheVariants as copied
-use Rattle.tree.specs.declared.get.Got.{Got}
-use Rattle.tree.specs.declared.floor.Floor.{Floor}
 use Rattle.tree.specs.declared.range.Ranged.{Ranged}
-use Rattle.tree.specs.declared.edited.Edited.{Edited}
-use Rattle.tree.specs.declared.edited.Removed.{Removed}
+use Rattle.tree.specs.declared.lent.Lent.{Lent}
 use Rattle.moachest.specs.Words.{yes, mark, info_of, tree_of, words_of, stored, on_tree, on_words}
-use Rattle.moachest.specs.Answers.{got_tree, got_answer, got_back, floored_tree, floored_answer, floored_back, ranged_tree, ranged_answer, ranged_back, edited_tree, edited_back, removed_tree, removed_answer, removed_back}
-use Rattle.moachest.specs.internal.Returned.{CopiedLeft, got_number, floored_number, ranged_number, edited_number, removed_number}
-use Rattle.moachest.specs.laws.RefusalLaws.{Numbered, n_get_in, n_floor_in, n_range_in, n_upsert_in, n_remove_in, n_put_in, n_drop_in}
+use Rattle.moachest.specs.Answers.{returned, back, got_tree, got_answer, got_back, floored_tree, floored_answer, floored_back, ranged_tree, ranged_answer, ranged_back, edited_tree, edited_back, removed_tree, removed_answer, removed_back}
+use Rattle.moachest.specs.internal.Returned.{CopiedLeft}
 use Rattle.moachest.specs.laws.WordLaws.{on_tree_lem, on_words_lem}
 use Rattle.moachest.specs.laws.CallLaws.{moved, got_told, floored_told, ranged_told, edited_told, removed_told}
+use Rattle.std.specs.Prelude.{Bool, Option, Some, Ok, Err}
 
 -- ---- what is required
 
@@ -65,7 +62,7 @@ room_all scratch l m e h =
 abbrev pub gets : (image heads bytes out k : List ℕ) → Lent → Tree → Result (lookup.Got Val)
 gets image heads bytes out k l t = get_in (lent_of image l) (state_of l.size t heads bytes) (length out) k
 
-abbrev pub GetSays : (image heads bytes out k heads' bytes' out' : List ℕ) → Lent → Tree → Got → Type 0
+abbrev pub GetSays : (image heads bytes out k heads' bytes' out' : List ℕ) → Lent → Tree → std.Result (Tree × Option Copied) Refusal → Type 0
 GetSays image heads bytes out k heads' bytes' out' l t g =
     (got_means l.size heads' bytes' out' g ≡ gets image heads bytes out k l t)
     × ((out' ≡ got_output out (gets image heads bytes out k l t)) × GotCalled image l t heads bytes heads' bytes' g)
@@ -77,12 +74,13 @@ GetTrusted image heads bytes out k heads' bytes' out' w a w' a' l r =
     × ((GotCalled image l (tree_of w) heads bytes heads' bytes' (got_back r w' a'))
     × ((w' ≡ got_tree w (got_back r w' a')) × (a' ≡ got_answer a (got_back r w' a')))))
 
-pub get_trusted : (image heads bytes out k heads' bytes' out' w a w' a' : List ℕ) (l m : Lent) (t : Tree) (r : ℕ) (g : Got)
+pub get_trusted : (image heads bytes out k heads' bytes' out' w a w' a' : List ℕ) (l m : Lent) (t : Tree) (r : ℕ)
+    (g : std.Result (Tree × Option Copied) Refusal)
     → 14 ≤ length w → 8 ≤ length a → l ≡ m → t ≡ tree_of w
-    → GetSays image heads bytes out k heads' bytes' out' l t g → r ≡ got_number g → w' ≡ got_tree w g → a' ≡ got_answer a g
+    → GetSays image heads bytes out k heads' bytes' out' l t g → r ≡ returned g → w' ≡ got_tree w g → a' ≡ got_answer a g
     → GetTrusted image heads bytes out k heads' bytes' out' w a w' a' m r
 get_trusted image heads bytes out k heads' bytes' out' w a w' a' l m t r g h j el et s er ew ea =
-    let q : got_back r w' a' ≡ g = got_told l.size heads' bytes' out' _ w a w' a' r g (n_get_in _ _ _ _) s.0 er ew ea in
+    let q : got_back r w' a' ≡ g = got_told w a w' a' r g er ew ea in
     let p : on_words w a (λ t. gets image heads bytes out k m t) ≡ gets image heads bytes out k m (tree_of w) = on_words_lem w a
     (λ u. gets image heads bytes out k m u) h j in
     let z : GetSays image heads bytes out k heads' bytes' out' m (tree_of w) (got_back r w' a') = moved
@@ -92,7 +90,7 @@ get_trusted image heads bytes out k heads' bytes' out' w a w' a' l m t r g h j e
 pub get_few : (image heads bytes out k w a : List ℕ) (l : Lent) → Trusts image l (tree_of w) heads bytes
     → on_words w a (λ t. gets image heads bytes out k l t) ≡ refused refusal.lent
     → GetTrusted image heads bytes out k heads bytes out w a w a l refusal.lent
-unfolding got_means got_back got_output got_tree got_answer
+unfolding got_means got_back back got_output got_tree got_answer
 get_few image heads bytes out k w a l h e = (sym e, (rw e refl, ((refl, h.ready), (refl, refl))))
 
 -- ---- get where the whole way is loaded: the words stay as they are
@@ -122,12 +120,10 @@ stored_same (x0 ∷ x1 ∷ x2 ∷ x3 ∷ x4 ∷ x5 ∷ x6 ∷ x7 ∷ x8 ∷ x9 �
 stored_same (x0 ∷ x1 ∷ x2 ∷ x3 ∷ x4 ∷ x5 ∷ x6 ∷ x7 ∷ x8 ∷ x9 ∷ x10 ∷ x11 ∷ x12 ∷ []) h e = absurd (omega arith)
 stored_same (x0 ∷ x1 ∷ x2 ∷ x3 ∷ x4 ∷ x5 ∷ x6 ∷ x7 ∷ x8 ∷ x9 ∷ x10 ∷ x11 ∷ x12 ∷ x13 ∷ w) h e = rw (mark_small x10 e) refl
 
-kept_tree : (w : List ℕ) (c : Copied) → 14 ≤ length w → get_or w 10 0 < 2 → w ≡ got_tree w (got_of (tree_of w) c)
+kept_tree : (w : List ℕ) (c : std.Result (Option Copied) Refusal) → 14 ≤ length w → get_or w 10 0 < 2 → w ≡ got_tree w (got_of (tree_of w) c)
 unfolding got_tree
-kept_tree w copied.Refused h e = refl
-kept_tree w copied.None h e = sym (stored_same w h e)
-kept_tree w copied.Ghost h e = sym (stored_same w h e)
-kept_tree w (copied.Value n) h e = sym (stored_same w h e)
+kept_tree w (Err x) h e = refl
+kept_tree w (Ok c) h e = sym (stored_same w h e)
 
 module _ (image heads bytes k w : List ℕ) (l : Lent) (t : Tree) (et : t ≡ tree_of w) (p : Trusts image l (tree_of w) heads bytes) where
   loaded : Trusts image l t heads bytes
@@ -136,17 +132,18 @@ module _ (image heads bytes k w : List ℕ) (l : Lent) (t : Tree) (et : t ≡ tr
   pub quick_ready : Ready l.size l.slots t.used heads bytes
   quick_ready = loaded.ready
 
-  module _ (m : ℕ) (q : LeafIs t.used (state_of l.size t heads bytes) k m) (f : m < t.used) where
+  module _ (leaf : Option ℕ) (q : LeafIs t.used (state_of l.size t heads bytes) k leaf) (m : ℕ) (f : leaf ≡ Some m) where
     pub quick_suits : suits true (node_at (state_of l.size t heads bytes) m).entries ≡ true
-    quick_suits = leaf_suits image l t heads bytes loaded k m q f
+    quick_suits = leaf_suits image l t heads bytes loaded k m (q.keys m f) (q.leads m f)
 
-    pub get_quick : (out out' a a' : List ℕ) (c : Copied) (r : ℕ) (b : Bool) → 14 ≤ length w → 8 ≤ length a → b ≡ ltb (get_or w 10 0) 2 → b ≡ true
+    pub get_quick : (out out' a a' : List ℕ) (c : std.Result (Option Copied) Refusal) (r : ℕ) (b : Bool) → 14 ≤ length w → 8 ≤ length a
+        → b ≡ ltb (get_or w 10 0) 2 → b ≡ true
         → (got_means l.size heads bytes out' (got_of t c) ≡ got_at (state_of l.size t heads bytes) (length out) m k)
         × ((out' ≡ got_output out (got_at (state_of l.size t heads bytes) (length out) m k)) × ReadyGot l.size l.slots heads bytes (got_of t c))
         → CopiedLeft a a' c r → GetTrusted image heads bytes out k heads bytes out' w a w a' l r
     get_quick out out' a a' c r b h j eb y s v =
-        let e = leaf_answer image l t heads bytes loaded k m q f (length out) _ s.0 in
-        let o = leaf_output image l t heads bytes loaded k m q f out' out s.1.0 in
+        let e = leaf_answer image l t heads bytes loaded k m (q.keys m f) (q.leads m f) (length out) _ s.0 in
+        let o = leaf_output image l t heads bytes loaded k m (q.keys m f) (q.leads m f) out' out s.1.0 in
         let g = got_left image l t heads bytes loaded k out' (length out) (got_of t c) e s.1.1 in
         let z : w ≡ got_tree w (got_of t c)
         = subst (λ x. w ≡ got_tree w (got_of x c)) (sym et) (kept_tree w c h (ltb-true (get_or w 10 0) 2 (sym eb ∙ y))) in
@@ -157,7 +154,7 @@ module _ (image heads bytes k w : List ℕ) (l : Lent) (t : Tree) (et : t ≡ tr
 abbrev pub floors : (image heads bytes out k : List ℕ) → Lent → Tree → Result (lookup.Got Entry)
 floors image heads bytes out k l t = floor_in (lent_of image l) (state_of l.size t heads bytes) (length out) k
 
-abbrev pub FloorSays : (image heads bytes out k heads' bytes' out' : List ℕ) → Lent → Tree → Floor → Type 0
+abbrev pub FloorSays : (image heads bytes out k heads' bytes' out' : List ℕ) → Lent → Tree → std.Result (Tree × Option ℕ) Refusal → Type 0
 FloorSays image heads bytes out k heads' bytes' out' l t g =
     (floor_means l.size heads' bytes' out' g ≡ floors image heads bytes out k l t)
     × ((out' ≡ floored_output out (floors image heads bytes out k l t)) × FloorCalled image l t heads bytes heads' bytes' g)
@@ -169,12 +166,13 @@ FloorTrusted image heads bytes out k heads' bytes' out' w a w' a' l r =
     × ((FloorCalled image l (tree_of w) heads bytes heads' bytes' (floored_back r w' a'))
     × ((w' ≡ floored_tree w (floored_back r w' a')) × (a' ≡ floored_answer a (floored_back r w' a')))))
 
-pub floor_trusted : (image heads bytes out k heads' bytes' out' w a w' a' : List ℕ) (l m : Lent) (t : Tree) (r : ℕ) (g : Floor)
+pub floor_trusted : (image heads bytes out k heads' bytes' out' w a w' a' : List ℕ) (l m : Lent) (t : Tree) (r : ℕ)
+    (g : std.Result (Tree × Option ℕ) Refusal)
     → 14 ≤ length w → 8 ≤ length a → l ≡ m → t ≡ tree_of w
-    → FloorSays image heads bytes out k heads' bytes' out' l t g → r ≡ floored_number g → w' ≡ floored_tree w g → a' ≡ floored_answer a g
+    → FloorSays image heads bytes out k heads' bytes' out' l t g → r ≡ returned g → w' ≡ floored_tree w g → a' ≡ floored_answer a g
     → FloorTrusted image heads bytes out k heads' bytes' out' w a w' a' m r
 floor_trusted image heads bytes out k heads' bytes' out' w a w' a' l m t r g h j el et s er ew ea =
-    let q : floored_back r w' a' ≡ g = floored_told l.size heads' bytes' out' _ w a w' a' r g (n_floor_in _ _ _ _) s.0 er ew ea in
+    let q : floored_back r w' a' ≡ g = floored_told w a w' a' r g er ew ea in
     let p : on_words w a (λ t. floors image heads bytes out k m t) ≡ floors image heads bytes out k m (tree_of w) = on_words_lem w a
     (λ u. floors image heads bytes out k m u) h j in
     let z : FloorSays image heads bytes out k heads' bytes' out' m (tree_of w) (floored_back r w' a') = moved
@@ -192,7 +190,7 @@ floor_trusted image heads bytes out k heads' bytes' out' w a w' a' l m t r g h j
 pub floor_few : (image heads bytes out k w a : List ℕ) (l : Lent) → Trusts image l (tree_of w) heads bytes
     → on_words w a (λ t. floors image heads bytes out k l t) ≡ refused refusal.lent
     → FloorTrusted image heads bytes out k heads bytes out w a w a l refusal.lent
-unfolding floor_means floored_back floored_output floored_tree floored_answer
+unfolding floor_means floored_back back floored_output floored_tree floored_answer
 floor_few image heads bytes out k w a l h e = (sym e, (rw e refl, ((refl, h.ready), (refl, refl))))
 
 -- ---- range
@@ -200,7 +198,7 @@ floor_few image heads bytes out k w a l h e = (sym e, (rw e refl, ((refl, h.read
 abbrev pub ranges : (image heads bytes out lo hi : List ℕ) → Lent → Tree → Result (lookup.Got Entry)
 ranges image heads bytes out lo hi l t = range_in (lent_of image l) (state_of l.size t heads bytes) (length out) lo hi
 
-abbrev pub RangeSays : (image heads bytes out lo hi heads' bytes' out' : List ℕ) → Lent → Tree → Ranged → Type 0
+abbrev pub RangeSays : (image heads bytes out lo hi heads' bytes' out' : List ℕ) → Lent → Tree → std.Result Ranged Refusal → Type 0
 RangeSays image heads bytes out lo hi heads' bytes' out' l t g =
     (range_means l.size heads' bytes' out' g ≡ ranges image heads bytes out lo hi l t)
     × ((out' ≡ ranged_output out (ranges image heads bytes out lo hi l t))
@@ -213,12 +211,13 @@ RangeTrusted image heads bytes out lo hi heads' bytes' out' w a w' a' l r =
     × ((ranged_length out' (ranged_back r w' a')) × ((RangeCalled image l (tree_of w) heads bytes heads' bytes' (ranged_back r w' a'))
     × ((w' ≡ ranged_tree w (ranged_back r w' a')) × (a' ≡ ranged_answer a (ranged_back r w' a'))))))
 
-pub range_trusted : (image heads bytes out lo hi heads' bytes' out' w a w' a' : List ℕ) (l m : Lent) (t : Tree) (r : ℕ) (g : Ranged)
+pub range_trusted : (image heads bytes out lo hi heads' bytes' out' w a w' a' : List ℕ) (l m : Lent) (t : Tree) (r : ℕ)
+    (g : std.Result Ranged Refusal)
     → 14 ≤ length w → 8 ≤ length a → l ≡ m → t ≡ tree_of w
-    → RangeSays image heads bytes out lo hi heads' bytes' out' l t g → r ≡ ranged_number g → w' ≡ ranged_tree w g → a' ≡ ranged_answer a g
+    → RangeSays image heads bytes out lo hi heads' bytes' out' l t g → r ≡ returned g → w' ≡ ranged_tree w g → a' ≡ ranged_answer a g
     → RangeTrusted image heads bytes out lo hi heads' bytes' out' w a w' a' m r
 range_trusted image heads bytes out lo hi heads' bytes' out' w a w' a' l m t r g h j el et s er ew ea =
-    let q : ranged_back r w' a' ≡ g = ranged_told l.size heads' bytes' out' _ w a w' a' r g (n_range_in _ _ _ _ _) s.0 er ew ea in
+    let q : ranged_back r w' a' ≡ g = ranged_told w a w' a' r g er ew ea in
     let p : on_words w a (λ t. ranges image heads bytes out lo hi m t) ≡ ranges image heads bytes out lo hi m (tree_of w) = on_words_lem w a
     (λ u. ranges image heads bytes out lo hi m u) h j in
     let z : RangeSays image heads bytes out lo hi heads' bytes' out' m (tree_of w) (ranged_back r w' a') = moved
@@ -229,12 +228,12 @@ range_trusted image heads bytes out lo hi heads' bytes' out' w a w' a' l m t r g
 pub range_few : (image heads bytes out lo hi w a : List ℕ) (l : Lent) → Trusts image l (tree_of w) heads bytes
     → on_words w a (λ t. ranges image heads bytes out lo hi l t) ≡ refused refusal.lent
     → RangeTrusted image heads bytes out lo hi heads bytes out w a w a l refusal.lent
-unfolding range_means ranged_back ranged_output ranged_tree ranged_answer
+unfolding range_means ranged_back back ranged_output ranged_tree ranged_answer
 range_few image heads bytes out lo hi w a l h e = (sym e, (rw e refl, (tt, ((refl, h.ready), (refl, refl)))))
 
 -- ---- upsert, omap_put, omap_drop: one law of any such edit, then each
 
-abbrev pub EditSays : (image heads bytes heads' bytes' : List ℕ) → (Lent → Tree → Result State) → Lent → Tree → Edited → Type 0
+abbrev pub EditSays : (image heads bytes heads' bytes' : List ℕ) → (Lent → Tree → Result State) → Lent → Tree → std.Result Tree Refusal → Type 0
 EditSays image heads bytes heads' bytes' f l t g =
     (edited_of l.size heads' bytes' g ≡ f l t) × EditedCalled image l t heads bytes heads' bytes' g
 
@@ -243,11 +242,12 @@ EditTrusted image heads bytes heads' bytes' w w' f l r =
     (edited_of l.size heads' bytes' (edited_back r w') ≡ on_tree w (λ t. f l t))
     × ((EditedCalled image l (tree_of w) heads bytes heads' bytes' (edited_back r w')) × (w' ≡ edited_tree w (edited_back r w')))
 
-edit_trusted : (image heads bytes heads' bytes' w w' : List ℕ) (f : Lent → Tree → Result State) (l m : Lent) (t : Tree) (r : ℕ) (g : Edited)
-    → Numbered (f l t) → 14 ≤ length w → l ≡ m → t ≡ tree_of w → EditSays image heads bytes heads' bytes' f l t g
-    → r ≡ edited_number g → w' ≡ edited_tree w g → EditTrusted image heads bytes heads' bytes' w w' f m r
-edit_trusted image heads bytes heads' bytes' w w' f l m t r g n h el et s er ew =
-    let q : edited_back r w' ≡ g = edited_told l.size heads' bytes' (f l t) w w' r g n s.0 er ew in
+edit_trusted : (image heads bytes heads' bytes' w w' : List ℕ) (f : Lent → Tree → Result State) (l m : Lent) (t : Tree) (r : ℕ)
+    (g : std.Result Tree Refusal)
+    → 14 ≤ length w → l ≡ m → t ≡ tree_of w → EditSays image heads bytes heads' bytes' f l t g
+    → r ≡ returned g → w' ≡ edited_tree w g → EditTrusted image heads bytes heads' bytes' w w' f m r
+edit_trusted image heads bytes heads' bytes' w w' f l m t r g h el et s er ew =
+    let q : edited_back r w' ≡ g = edited_told w w' r g er ew in
     let p : on_tree w (λ t. f m t) ≡ f m (tree_of w) = on_tree_lem w (λ u. f m u) h in
     let z : EditSays image heads bytes heads' bytes' f m (tree_of w) (edited_back r w') = moved (EditSays image heads bytes heads' bytes' f)
     el et q s in
@@ -255,17 +255,17 @@ edit_trusted image heads bytes heads' bytes' w w' f l m t r g n h el et s er ew 
 
 edit_few : (image heads bytes w : List ℕ) (f : Lent → Tree → Result State) (l : Lent) → Trusts image l (tree_of w) heads bytes
     → on_tree w (λ t. f l t) ≡ refused refusal.lent → EditTrusted image heads bytes heads bytes w w f l refusal.lent
-unfolding edited_of edited_back edited_tree
+unfolding edited_of edited_back back edited_tree
 edit_few image heads bytes w f l h e = (sym e, ((refl, h.ready), refl))
 
 abbrev pub upserts : (image heads bytes k : List ℕ) → Val → Lent → Tree → Result State
 upserts image heads bytes k v l t = upsert_in (lent_of image l) (state_of l.size t heads bytes) k v
 
-pub upsert_trusted : (image heads bytes k heads' bytes' w w' : List ℕ) (v : Val) (l m : Lent) (t : Tree) (r : ℕ) (g : Edited)
+pub upsert_trusted : (image heads bytes k heads' bytes' w w' : List ℕ) (v : Val) (l m : Lent) (t : Tree) (r : ℕ) (g : std.Result Tree Refusal)
     → 14 ≤ length w → l ≡ m → t ≡ tree_of w → EditSays image heads bytes heads' bytes' (upserts image heads bytes k v) l t g
-    → r ≡ edited_number g → w' ≡ edited_tree w g → EditTrusted image heads bytes heads' bytes' w w' (upserts image heads bytes k v) m r
+    → r ≡ returned g → w' ≡ edited_tree w g → EditTrusted image heads bytes heads' bytes' w w' (upserts image heads bytes k v) m r
 upsert_trusted image heads bytes k heads' bytes' w w' v l m t r g =
-    edit_trusted image heads bytes heads' bytes' w w' (upserts image heads bytes k v) l m t r g (n_upsert_in _ _ _ _)
+    edit_trusted image heads bytes heads' bytes' w w' (upserts image heads bytes k v) l m t r g
 
 pub upsert_few : (image heads bytes k w : List ℕ) (v : Val) (l : Lent) → Trusts image l (tree_of w) heads bytes
     → on_tree w (λ t. upserts image heads bytes k v l t) ≡ refused refusal.lent
@@ -275,12 +275,13 @@ upsert_few image heads bytes k w v l = edit_few image heads bytes w (upserts ima
 abbrev pub puts : (image heads bytes : List ℕ) → (id xid address long : ℕ) → Lent → Tree → Result State
 puts image heads bytes id xid address long l t = omap_put_in (lent_of image l) (state_of l.size t heads bytes) id xid address long
 
-pub put_trusted : (image heads bytes heads' bytes' w w' : List ℕ) (id xid address long : ℕ) (l m : Lent) (t : Tree) (r : ℕ) (g : Edited)
+pub put_trusted : (image heads bytes heads' bytes' w w' : List ℕ) (id xid address long : ℕ) (l m : Lent) (t : Tree) (r : ℕ)
+    (g : std.Result Tree Refusal)
     → 14 ≤ length w → l ≡ m → t ≡ tree_of w → EditSays image heads bytes heads' bytes' (puts image heads bytes id xid address long) l t g
-    → r ≡ edited_number g → w' ≡ edited_tree w g
+    → r ≡ returned g → w' ≡ edited_tree w g
     → EditTrusted image heads bytes heads' bytes' w w' (puts image heads bytes id xid address long) m r
 put_trusted image heads bytes heads' bytes' w w' id xid address long l m t r g =
-    edit_trusted image heads bytes heads' bytes' w w' (puts image heads bytes id xid address long) l m t r g (n_put_in _ _ _ _ _ _)
+    edit_trusted image heads bytes heads' bytes' w w' (puts image heads bytes id xid address long) l m t r g
 
 pub put_few : (image heads bytes w : List ℕ) (id xid address long : ℕ) (l : Lent) → Trusts image l (tree_of w) heads bytes
     → on_tree w (λ t. puts image heads bytes id xid address long l t) ≡ refused refusal.lent
@@ -290,11 +291,11 @@ put_few image heads bytes w id xid address long l = edit_few image heads bytes w
 abbrev pub drops : (image heads bytes : List ℕ) → (id : ℕ) → Lent → Tree → Result State
 drops image heads bytes id l t = omap_drop_in (lent_of image l) (state_of l.size t heads bytes) id
 
-pub drop_trusted : (image heads bytes heads' bytes' w w' : List ℕ) (id : ℕ) (l m : Lent) (t : Tree) (r : ℕ) (g : Edited)
+pub drop_trusted : (image heads bytes heads' bytes' w w' : List ℕ) (id : ℕ) (l m : Lent) (t : Tree) (r : ℕ) (g : std.Result Tree Refusal)
     → 14 ≤ length w → l ≡ m → t ≡ tree_of w → EditSays image heads bytes heads' bytes' (drops image heads bytes id) l t g
-    → r ≡ edited_number g → w' ≡ edited_tree w g → EditTrusted image heads bytes heads' bytes' w w' (drops image heads bytes id) m r
+    → r ≡ returned g → w' ≡ edited_tree w g → EditTrusted image heads bytes heads' bytes' w w' (drops image heads bytes id) m r
 drop_trusted image heads bytes heads' bytes' w w' id l m t r g =
-    edit_trusted image heads bytes heads' bytes' w w' (drops image heads bytes id) l m t r g (n_drop_in _ _ _)
+    edit_trusted image heads bytes heads' bytes' w w' (drops image heads bytes id) l m t r g
 
 pub drop_few : (image heads bytes w : List ℕ) (id : ℕ) (l : Lent) → Trusts image l (tree_of w) heads bytes
     → on_tree w (λ t. drops image heads bytes id l t) ≡ refused refusal.lent
@@ -306,7 +307,7 @@ drop_few image heads bytes w id l = edit_few image heads bytes w (drops image he
 abbrev pub removes : (image heads bytes k : List ℕ) → Lent → Tree → Result removing.Removed
 removes image heads bytes k l t = remove_in (lent_of image l) (state_of l.size t heads bytes) k
 
-abbrev pub RemoveSays : (image heads bytes k heads' bytes' : List ℕ) → Lent → Tree → Removed → Type 0
+abbrev pub RemoveSays : (image heads bytes k heads' bytes' : List ℕ) → Lent → Tree → std.Result (Tree × Bool) Refusal → Type 0
 RemoveSays image heads bytes k heads' bytes' l t g =
     (removed_of l.size heads' bytes' g ≡ removes image heads bytes k l t) × RemovedCalled image l t heads bytes heads' bytes' g
 
@@ -316,11 +317,11 @@ RemoveTrusted image heads bytes k heads' bytes' w a w' a' l r =
     × ((RemovedCalled image l (tree_of w) heads bytes heads' bytes' (removed_back r w' a'))
     × ((w' ≡ removed_tree w (removed_back r w' a')) × (a' ≡ removed_answer a (removed_back r w' a'))))
 
-pub remove_trusted : (image heads bytes k heads' bytes' w a w' a' : List ℕ) (l m : Lent) (t : Tree) (r : ℕ) (g : Removed)
+pub remove_trusted : (image heads bytes k heads' bytes' w a w' a' : List ℕ) (l m : Lent) (t : Tree) (r : ℕ) (g : std.Result (Tree × Bool) Refusal)
     → 14 ≤ length w → 8 ≤ length a → l ≡ m → t ≡ tree_of w → RemoveSays image heads bytes k heads' bytes' l t g
-    → r ≡ removed_number g → w' ≡ removed_tree w g → a' ≡ removed_answer a g → RemoveTrusted image heads bytes k heads' bytes' w a w' a' m r
+    → r ≡ returned g → w' ≡ removed_tree w g → a' ≡ removed_answer a g → RemoveTrusted image heads bytes k heads' bytes' w a w' a' m r
 remove_trusted image heads bytes k heads' bytes' w a w' a' l m t r g h j el et s er ew ea =
-    let q : removed_back r w' a' ≡ g = removed_told l.size heads' bytes' _ w a w' a' r g (n_remove_in _ _ _) s.0 er ew ea in
+    let q : removed_back r w' a' ≡ g = removed_told w a w' a' r g er ew ea in
     let p : on_words w a (λ t. removes image heads bytes k m t) ≡ removes image heads bytes k m (tree_of w) = on_words_lem w a
     (λ u. removes image heads bytes k m u) h j in
     let z : RemoveSays image heads bytes k heads' bytes' m (tree_of w) (removed_back r w' a') = moved
@@ -330,5 +331,5 @@ remove_trusted image heads bytes k heads' bytes' w a w' a' l m t r g h j el et s
 pub remove_few : (image heads bytes k w a : List ℕ) (l : Lent) → Trusts image l (tree_of w) heads bytes
     → on_words w a (λ t. removes image heads bytes k l t) ≡ refused refusal.lent
     → RemoveTrusted image heads bytes k heads bytes w a w a l refusal.lent
-unfolding removed_of removed_back removed_tree removed_answer
+unfolding removed_of removed_back back removed_tree removed_answer
 remove_few image heads bytes k w a l h e = (sym e, ((refl, h.ready), (refl, refl)))

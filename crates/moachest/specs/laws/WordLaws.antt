@@ -1,11 +1,13 @@
 -- Laws of a tree's words: what is stored is read back. Assumes nothing.
-use Rattle.std.specs.Prelude.{◌≡◌, refl, List, Bool, true, false, ℕ, ◌≤◌, ◌<◌, length, leb}
-use Rattle.std.proofs.Common.{ap, ◌∙◌, arith, le-leb}
+use Rattle.std.specs.Prelude.{◌≡◌, refl, List, Bool, true, false, ℕ, ◌≤◌, ◌<◌, length, leb, Some, None}
+use Rattle.std.specs.Borrow.{Bor}
+use Rattle.std.proofs.Common.{sym, ap, ◌∙◌, arith, le-leb, ne_eqb}
 use Rattle.std.proofs.lemmas.Bool.{lt-leb}
 use Rattle.seal.specs.Bytes.{splice}
 use Rattle.node.specs.Result.{Result, refused, ◌>>◌, check}
 use Rattle.node.specs.Refusals as refusal
 use Rattle.node.specs.laws.base.Results.{check_passes, check_refuses}
+use Rattle.tree.specs.Answers.{put_value, lent_value}
 use Rattle.tree.specs.declared.editor.Tree.{Tree}
 use Rattle.moachest.specs.Words.{yes, mark, info_of, tree_of, words_of, stored, on_tree, on_words}
 
@@ -23,6 +25,16 @@ marked t b =
 pub tree_back : (w : List ℕ) (t : Tree) → tree_of (stored w t) ≡ t
 unfolding tree_of info_of stored splice words_of marked
 tree_back w t = ap (marked t) (yes_mark t.by_id)
+
+-- ---- what is put
+
+pub put_ghost : (n : ℕ) (v : List ℕ) → (n ≡ 0 → ⊥) → lent_value None ≡ put_value (yes n) v
+unfolding lent_value put_value
+put_ghost n v h = sym (rw (ne_eqb n 0 h))
+
+pub put_bytes : (n : ℕ) (v : Bor (List ℕ)) → n ≡ 0 → lent_value (Some v) ≡ put_value (yes n) v.now
+unfolding lent_value put_value
+put_bytes n v e = sym (rw e)
 
 -- ---- 1 of the words
 

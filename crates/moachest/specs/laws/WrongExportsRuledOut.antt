@@ -4,64 +4,63 @@ use Rattle.std.specs.Prelude.{◌≡◌, refl, true}
 use Rattle.moachest.specs.WrongExports.{all_ruled_out, table}
 
 pub ruled_out : all_ruled_out table ≡ true
-unfolding Rattle.moachest.specs.WrongExports.listed Rattle.moachest.specs.WrongExports.node_numbers
-    Rattle.moachest.specs.WrongExports.state_numbers Rattle.moachest.specs.WrongExports.value_numbers
-    Rattle.moachest.specs.WrongExports.pair_numbers Rattle.moachest.specs.WrongExports.flush_numbers
+unfolding Rattle.moachest.specs.WrongExports.listed Rattle.moachest.specs.WrongExports.node_numbers Rattle.moachest.specs.WrongExports.state_numbers
+    Rattle.moachest.specs.WrongExports.value_numbers Rattle.moachest.specs.WrongExports.pair_numbers Rattle.moachest.specs.WrongExports.flush_numbers
     Rattle.moachest.specs.WrongExports.outcome Rattle.moachest.specs.WrongExports.words Rattle.moachest.specs.WrongExports.entry
     Rattle.moachest.specs.WrongExports.two Rattle.moachest.specs.WrongExports.packed Rattle.moachest.specs.WrongExports.image
     Rattle.moachest.specs.WrongExports.lent Rattle.moachest.specs.WrongExports.heads_of Rattle.moachest.specs.WrongExports.bytes_of
     Rattle.moachest.specs.WrongExports.heads Rattle.moachest.specs.WrongExports.bytes Rattle.moachest.specs.WrongExports.sevens
     Rattle.moachest.specs.WrongExports.opens Rattle.moachest.specs.WrongExports.gets Rattle.moachest.specs.WrongExports.found_numbers
     Rattle.moachest.specs.WrongExports.floors Rattle.moachest.specs.WrongExports.ranges Rattle.moachest.specs.WrongExports.edited
-    Rattle.moachest.specs.WrongExports.upserts Rattle.moachest.specs.WrongExports.removes
-    Rattle.moachest.specs.WrongExports.map_words Rattle.moachest.specs.WrongExports.version
-    Rattle.moachest.specs.WrongExports.versions Rattle.moachest.specs.WrongExports.puts Rattle.moachest.specs.WrongExports.drops
-    Rattle.moachest.specs.WrongExports.flushes Rattle.moachest.specs.WrongExports.size_rows
-    Rattle.moachest.specs.WrongExports.open_rows Rattle.moachest.specs.WrongExports.get_rows
-    Rattle.moachest.specs.WrongExports.floor_rows Rattle.moachest.specs.WrongExports.range_rows
-    Rattle.moachest.specs.WrongExports.upsert_rows Rattle.moachest.specs.WrongExports.remove_rows
-    Rattle.moachest.specs.WrongExports.omap_rows Rattle.moachest.specs.WrongExports.flush_rows
-    Rattle.moachest.specs.WrongExports.table Rattle.seal.specs.Bytes.window Rattle.seal.specs.Bytes.splice Rattle.seal.specs.Bytes.moved
-    Rattle.seal.specs.Bytes.le Rattle.seal.specs.Bytes.bytes_of Rattle.seal.specs.Bytes.field_at Rattle.node.specs.Order.known
-    Rattle.node.specs.Order.keyed_length Rattle.node.specs.Order.keyed Rattle.node.specs.Order.pair_key Rattle.node.specs.Order.pair_less
-    Rattle.node.specs.Order.byte_less Rattle.node.specs.Order.less Rattle.node.specs.Order.same_key Rattle.node.specs.Entry.value_length
-    Rattle.node.specs.Entry.rise_after Rattle.node.specs.Entry.rising Rattle.node.specs.Entry.every Rattle.node.specs.Entry.value_bytes
-    Rattle.node.specs.Records.mark_of Rattle.node.specs.Records.record_bytes Rattle.node.specs.Records.record_of Rattle.node.specs.Records.records_of
-    Rattle.node.specs.Records.mark_length Rattle.node.specs.Records.value_of Rattle.node.specs.Records.record_length Rattle.node.specs.Records.entry_of
-    Rattle.node.specs.Records.records_length Rattle.node.specs.Records.entries_of Rattle.node.specs.Slot.head_at Rattle.node.specs.Slot.head_words
-    Rattle.node.specs.Slot.marked Rattle.node.specs.Slot.node_of Rattle.node.specs.Slot.only Rattle.node.specs.Slot.number_of
-    Rattle.node.specs.Slot.insert_at Rattle.node.specs.Slot.remove_at Rattle.node.specs.Slot.rekeyed Rattle.node.specs.Slot.with_key
-    Rattle.node.specs.Slot.revalued Rattle.node.specs.Slot.with_value Rattle.node.specs.Slot.records_hold Rattle.node.specs.Slot.is_child
-    Rattle.node.specs.Slot.suit Rattle.node.specs.Slot.suits Rattle.node.specs.Slot.key_length_holds Rattle.node.specs.Slot.value_length_holds
-    Rattle.node.specs.Slot.value_holds Rattle.node.specs.Slot.entry_holds Rattle.node.specs.Slot.child_means Rattle.node.specs.Slot.value_means
-    Rattle.node.specs.Pack.child_number Rattle.node.specs.Pack.numbered_value Rattle.node.specs.Pack.numbered Rattle.node.specs.Pack.pad_to
-    Rattle.node.specs.Pack.value_offset Rattle.node.specs.Pack.toc_entry Rattle.node.specs.Pack.toc Rattle.node.specs.Pack.key_area
-    Rattle.node.specs.Pack.value_area Rattle.node.specs.Pack.node_flags Rattle.node.specs.Pack.head_bytes Rattle.node.specs.Pack.info_bytes
-    Rattle.node.specs.Pack.pack_node Rattle.tree.specs.Lent.lent_of Rattle.tree.specs.Lent.is_size Rattle.tree.specs.Lent.blocks
-    Rattle.tree.specs.Lent.sizes_hold Rattle.tree.specs.Lent.block_at Rattle.tree.specs.Lent.in_image Rattle.tree.specs.State.with_nodes
-    Rattle.tree.specs.State.with_root Rattle.tree.specs.State.with_info Rattle.tree.specs.State.with_counts Rattle.tree.specs.State.with_longest
-    Rattle.tree.specs.State.no_node Rattle.tree.specs.State.node_at Rattle.tree.specs.State.put_node Rattle.tree.specs.State.add_node
-    Rattle.tree.specs.State.with_entries Rattle.tree.specs.State.changed Rattle.tree.specs.State.marked_dirty Rattle.tree.specs.State.marked_dead
-    Rattle.tree.specs.State.with_place Rattle.tree.specs.State.with_level Rattle.tree.specs.State.made Rattle.tree.specs.Workspace.slot_bytes
-    Rattle.tree.specs.Workspace.nodes_from Rattle.tree.specs.Workspace.nodes_of Rattle.tree.specs.Workspace.state_of
-    Rattle.tree.specs.Workspace.slot_holds Rattle.tree.specs.Workspace.slots_hold Rattle.tree.specs.Workspace.workspace_holds
-    Rattle.tree.specs.Workspace.called Rattle.tree.specs.Workspace.scratch_holds Rattle.tree.specs.Workspace.edits Rattle.tree.specs.Lookup.opened_at
-    Rattle.tree.specs.Lookup.opened Rattle.tree.specs.Lookup.above Rattle.tree.specs.Lookup.way_from Rattle.tree.specs.Lookup.way
-    Rattle.tree.specs.Lookup.leaf_of Rattle.tree.specs.Lookup.held Rattle.tree.specs.Lookup.got_length Rattle.tree.specs.Lookup.get_in
-    Rattle.tree.specs.Lookup.get Rattle.tree.specs.Lookup.last_from Rattle.tree.specs.Lookup.floor_from Rattle.tree.specs.Lookup.floor_in
-    Rattle.tree.specs.Lookup.floor Rattle.tree.specs.Lookup.ends_above Rattle.tree.specs.Lookup.between Rattle.tree.specs.Lookup.range_enters
-    Rattle.tree.specs.Lookup.range_kids Rattle.tree.specs.Lookup.range_from Rattle.tree.specs.Lookup.range_in Rattle.tree.specs.Lookup.range
-    Rattle.tree.specs.Upsert.put_entry Rattle.tree.specs.Upsert.grown_longest Rattle.tree.specs.Upsert.put_in_leaf Rattle.tree.specs.Upsert.upsert_on
-    Rattle.tree.specs.Upsert.entry_fits Rattle.tree.specs.Upsert.upserted Rattle.tree.specs.Upsert.upsert_in Rattle.tree.specs.Upsert.upsert
-    Rattle.tree.specs.Remove.drop_node Rattle.tree.specs.Remove.drop_emptied Rattle.tree.specs.Remove.leveled_root Rattle.tree.specs.Remove.handed_down
-    Rattle.tree.specs.Remove.has_only_child Rattle.tree.specs.Remove.root_taken Rattle.tree.specs.Remove.hand_down Rattle.tree.specs.Remove.take_from_leaf
-    Rattle.tree.specs.Remove.shrunk_on Rattle.tree.specs.Remove.remove_on Rattle.tree.specs.Remove.removed Rattle.tree.specs.Remove.remove_in
-    Rattle.tree.specs.Remove.remove Rattle.tree.specs.Omap.is_omap Rattle.tree.specs.Omap.versions_end Rattle.tree.specs.Omap.remove_all
-    Rattle.tree.specs.Omap.dropped Rattle.tree.specs.Omap.omap_value Rattle.tree.specs.Omap.omap_drop_in Rattle.tree.specs.Omap.omap_drop
-    Rattle.tree.specs.Omap.omap_put_in Rattle.tree.specs.Omap.omap_put Rattle.tree.specs.Answers.opened_of Rattle.tree.specs.Answers.opened_in
+    Rattle.moachest.specs.WrongExports.upserts Rattle.moachest.specs.WrongExports.removes Rattle.moachest.specs.WrongExports.map_words
+    Rattle.moachest.specs.WrongExports.version Rattle.moachest.specs.WrongExports.versions Rattle.moachest.specs.WrongExports.puts
+    Rattle.moachest.specs.WrongExports.drops Rattle.moachest.specs.WrongExports.flushes Rattle.moachest.specs.WrongExports.size_rows
+    Rattle.moachest.specs.WrongExports.open_rows Rattle.moachest.specs.WrongExports.get_rows Rattle.moachest.specs.WrongExports.floor_rows
+    Rattle.moachest.specs.WrongExports.range_rows Rattle.moachest.specs.WrongExports.upsert_rows Rattle.moachest.specs.WrongExports.remove_rows
+    Rattle.moachest.specs.WrongExports.omap_rows Rattle.moachest.specs.WrongExports.flush_rows Rattle.moachest.specs.WrongExports.table
+    Rattle.seal.specs.Bytes.window Rattle.seal.specs.Bytes.splice Rattle.seal.specs.Bytes.moved Rattle.seal.specs.Bytes.le
+    Rattle.seal.specs.Bytes.bytes_of Rattle.seal.specs.Bytes.field_at Rattle.node.specs.Order.known Rattle.node.specs.Order.keyed_length
+    Rattle.node.specs.Order.keyed Rattle.node.specs.Order.pair_key Rattle.node.specs.Order.pair_less Rattle.node.specs.Order.byte_less
+    Rattle.node.specs.Order.less Rattle.node.specs.Order.same_key Rattle.node.specs.Entry.value_length Rattle.node.specs.Entry.rise_after
+    Rattle.node.specs.Entry.rising Rattle.node.specs.Entry.every Rattle.node.specs.Entry.value_bytes Rattle.node.specs.Records.mark_of
+    Rattle.node.specs.Records.record_bytes Rattle.node.specs.Records.record_of Rattle.node.specs.Records.records_of
+    Rattle.node.specs.Records.mark_length Rattle.node.specs.Records.value_of Rattle.node.specs.Records.record_length
+    Rattle.node.specs.Records.entry_of Rattle.node.specs.Records.records_length Rattle.node.specs.Records.entries_of Rattle.node.specs.Slot.head_at
+    Rattle.node.specs.Slot.head_words Rattle.node.specs.Slot.marked Rattle.node.specs.Slot.node_of Rattle.node.specs.Slot.only
+    Rattle.node.specs.Slot.number_of Rattle.node.specs.Slot.insert_at Rattle.node.specs.Slot.remove_at Rattle.node.specs.Slot.rekeyed
+    Rattle.node.specs.Slot.with_key Rattle.node.specs.Slot.revalued Rattle.node.specs.Slot.with_value Rattle.node.specs.Slot.records_hold
+    Rattle.node.specs.Slot.is_child Rattle.node.specs.Slot.suit Rattle.node.specs.Slot.suits Rattle.node.specs.Slot.key_length_holds
+    Rattle.node.specs.Slot.value_length_holds Rattle.node.specs.Slot.value_holds Rattle.node.specs.Slot.entry_holds Rattle.node.specs.Slot.child_means
+    Rattle.node.specs.Slot.value_means Rattle.node.specs.Pack.child_number Rattle.node.specs.Pack.numbered_value Rattle.node.specs.Pack.numbered
+    Rattle.node.specs.Pack.pad_to Rattle.node.specs.Pack.value_offset Rattle.node.specs.Pack.toc_entry Rattle.node.specs.Pack.toc
+    Rattle.node.specs.Pack.key_area Rattle.node.specs.Pack.value_area Rattle.node.specs.Pack.node_flags Rattle.node.specs.Pack.head_bytes
+    Rattle.node.specs.Pack.info_bytes Rattle.node.specs.Pack.pack_node Rattle.tree.specs.Lent.lent_of Rattle.tree.specs.Lent.is_size
+    Rattle.tree.specs.Lent.blocks Rattle.tree.specs.Lent.sizes_hold Rattle.tree.specs.Lent.block_at Rattle.tree.specs.Lent.in_image
+    Rattle.tree.specs.State.with_nodes Rattle.tree.specs.State.with_root Rattle.tree.specs.State.with_info Rattle.tree.specs.State.with_counts
+    Rattle.tree.specs.State.with_longest Rattle.tree.specs.State.no_node Rattle.tree.specs.State.node_at Rattle.tree.specs.State.put_node
+    Rattle.tree.specs.State.add_node Rattle.tree.specs.State.with_entries Rattle.tree.specs.State.changed Rattle.tree.specs.State.marked_dirty
+    Rattle.tree.specs.State.marked_dead Rattle.tree.specs.State.with_place Rattle.tree.specs.State.with_level Rattle.tree.specs.State.made
+    Rattle.tree.specs.Workspace.slot_bytes Rattle.tree.specs.Workspace.nodes_from Rattle.tree.specs.Workspace.nodes_of
+    Rattle.tree.specs.Workspace.state_of Rattle.tree.specs.Workspace.slot_holds Rattle.tree.specs.Workspace.slots_hold
+    Rattle.tree.specs.Workspace.workspace_holds Rattle.tree.specs.Workspace.called Rattle.tree.specs.Workspace.scratch_holds
+    Rattle.tree.specs.Workspace.edits Rattle.tree.specs.Lookup.opened_at Rattle.tree.specs.Lookup.opened Rattle.tree.specs.Lookup.above
+    Rattle.tree.specs.Lookup.way_from Rattle.tree.specs.Lookup.way Rattle.tree.specs.Lookup.leaf_of Rattle.tree.specs.Lookup.held
+    Rattle.tree.specs.Lookup.got_length Rattle.tree.specs.Lookup.get_in Rattle.tree.specs.Lookup.get Rattle.tree.specs.Lookup.last_from
+    Rattle.tree.specs.Lookup.floor_from Rattle.tree.specs.Lookup.floor_in Rattle.tree.specs.Lookup.floor Rattle.tree.specs.Lookup.ends_above
+    Rattle.tree.specs.Lookup.between Rattle.tree.specs.Lookup.range_enters Rattle.tree.specs.Lookup.range_kids Rattle.tree.specs.Lookup.range_from
+    Rattle.tree.specs.Lookup.range_in Rattle.tree.specs.Lookup.range Rattle.tree.specs.Upsert.put_entry Rattle.tree.specs.Upsert.grown_longest
+    Rattle.tree.specs.Upsert.put_in_leaf Rattle.tree.specs.Upsert.upsert_on Rattle.tree.specs.Upsert.entry_fits Rattle.tree.specs.Upsert.upserted
+    Rattle.tree.specs.Upsert.upsert_in Rattle.tree.specs.Upsert.upsert Rattle.tree.specs.Remove.drop_node Rattle.tree.specs.Remove.drop_emptied
+    Rattle.tree.specs.Remove.leveled_root Rattle.tree.specs.Remove.handed_down Rattle.tree.specs.Remove.has_only_child
+    Rattle.tree.specs.Remove.root_taken Rattle.tree.specs.Remove.hand_down Rattle.tree.specs.Remove.take_from_leaf Rattle.tree.specs.Remove.shrunk_on
+    Rattle.tree.specs.Remove.remove_on Rattle.tree.specs.Remove.removed Rattle.tree.specs.Remove.remove_in Rattle.tree.specs.Remove.remove
+    Rattle.tree.specs.Omap.is_omap Rattle.tree.specs.Omap.versions_end Rattle.tree.specs.Omap.remove_all Rattle.tree.specs.Omap.dropped
+    Rattle.tree.specs.Omap.omap_value Rattle.tree.specs.Omap.omap_drop_in Rattle.tree.specs.Omap.omap_drop Rattle.tree.specs.Omap.omap_put_in
+    Rattle.tree.specs.Omap.omap_put Rattle.tree.specs.Answers.opened_of Rattle.tree.specs.Answers.opened_in Rattle.tree.specs.Answers.copied_of
     Rattle.tree.specs.Answers.got_means Rattle.tree.specs.Answers.got_in Rattle.tree.specs.Answers.got_bytes Rattle.tree.specs.Answers.got_output
-    Rattle.tree.specs.Answers.floor_means Rattle.tree.specs.Answers.floored_in Rattle.tree.specs.Answers.floored_output
-    Rattle.tree.specs.Answers.range_means Rattle.tree.specs.Answers.ranged_in Rattle.tree.specs.Answers.ranged_output Rattle.tree.specs.Answers.put_value
+    Rattle.tree.specs.Answers.record_in Rattle.tree.specs.Answers.floor_means Rattle.tree.specs.Answers.floored_in
+    Rattle.tree.specs.Answers.floored_output Rattle.tree.specs.Answers.range_means Rattle.tree.specs.Answers.ranged_in
+    Rattle.tree.specs.Answers.ranged_output Rattle.tree.specs.Answers.put_value Rattle.tree.specs.Answers.lent_value
     Rattle.tree.specs.Answers.edited_of Rattle.tree.specs.Answers.removed_of Rattle.flush.specs.Space.chunk_blocks Rattle.flush.specs.Space.is_used
     Rattle.flush.specs.Space.mark_used Rattle.flush.specs.Space.ones_below Rattle.flush.specs.Space.first_zero Rattle.flush.specs.Space.first_free
     Rattle.flush.specs.Space.zeros_below Rattle.flush.specs.Space.zeros Rattle.flush.specs.Space.choose_from Rattle.flush.specs.Space.choose
@@ -73,42 +72,44 @@ unfolding Rattle.moachest.specs.WrongExports.listed Rattle.moachest.specs.WrongE
     Rattle.flush.specs.Flush.ids_wanted Rattle.flush.specs.Flush.fill Rattle.flush.specs.Flush.flushed Rattle.flush.specs.Flush.lists_hold
     Rattle.flush.specs.Flush.flush_in Rattle.flush.specs.Flush.flush Rattle.flush.specs.Answers.pairs_of Rattle.flush.specs.Answers.lists_of
     Rattle.flush.specs.Answers.flushed_of Rattle.flush.specs.Answers.flushed_means Rattle.flush.specs.Answers.flushed_in
-    Rattle.moachest.specs.Words.info_of Rattle.moachest.specs.Words.tree_of Rattle.moachest.specs.Words.words_of
-    Rattle.moachest.specs.Words.stored Rattle.moachest.specs.Words.on_tree Rattle.moachest.specs.Words.on_words
-    Rattle.moachest.specs.Answers.opened_tree Rattle.moachest.specs.Answers.opened_back Rattle.moachest.specs.Answers.got_tree
-    Rattle.moachest.specs.Answers.got_answer Rattle.moachest.specs.Answers.got_back Rattle.moachest.specs.Answers.floored_tree
-    Rattle.moachest.specs.Answers.floored_answer Rattle.moachest.specs.Answers.floored_back Rattle.moachest.specs.Answers.ranged_tree
-    Rattle.moachest.specs.Answers.ranged_answer Rattle.moachest.specs.Answers.ranged_back Rattle.moachest.specs.Answers.edited_tree
-    Rattle.moachest.specs.Answers.edited_back Rattle.moachest.specs.Answers.removed_tree Rattle.moachest.specs.Answers.removed_answer
-    Rattle.moachest.specs.Answers.removed_back Rattle.moachest.specs.Answers.flushed_words Rattle.moachest.specs.Answers.flushed_answer
-    Rattle.moachest.specs.Answers.flushed_of_words Rattle.moachest.specs.Answers.flushed_back
+    Rattle.moachest.specs.Words.info_of Rattle.moachest.specs.Words.tree_of Rattle.moachest.specs.Words.words_of Rattle.moachest.specs.Words.stored
+    Rattle.moachest.specs.Words.on_tree Rattle.moachest.specs.Words.on_words Rattle.moachest.specs.Answers.returned Rattle.moachest.specs.Answers.back
+    Rattle.moachest.specs.Answers.opened_tree Rattle.moachest.specs.Answers.opened_back Rattle.moachest.specs.Answers.copied_words
+    Rattle.moachest.specs.Answers.copied_back Rattle.moachest.specs.Answers.got_tree Rattle.moachest.specs.Answers.got_answer
+    Rattle.moachest.specs.Answers.got_back Rattle.moachest.specs.Answers.found_words Rattle.moachest.specs.Answers.found_back
+    Rattle.moachest.specs.Answers.floored_tree Rattle.moachest.specs.Answers.floored_answer Rattle.moachest.specs.Answers.floored_back
+    Rattle.moachest.specs.Answers.ranged_tree Rattle.moachest.specs.Answers.ranged_answer Rattle.moachest.specs.Answers.ranged_back
+    Rattle.moachest.specs.Answers.edited_tree Rattle.moachest.specs.Answers.edited_back Rattle.moachest.specs.Answers.removed_tree
+    Rattle.moachest.specs.Answers.removed_answer Rattle.moachest.specs.Answers.removed_back Rattle.moachest.specs.Answers.flushed_words
+    Rattle.moachest.specs.Answers.flushed_answer Rattle.moachest.specs.Answers.flushed_of_words Rattle.moachest.specs.Answers.flushed_back
     Rattle.moachest.specs.Sizes.workspace_words Rattle.moachest.specs.Sizes.workspace_bytes Rattle.moachest.specs.Sizes.scratch_bytes
-    Rattle.node.specs.Fit.flag Rattle.node.specs.Fit.align8 Rattle.node.specs.Fit.greater Rattle.node.specs.Fit.padded Rattle.node.specs.Fit.data_space
-    Rattle.node.specs.Fit.fixed Rattle.node.specs.Fit.slot_width Rattle.node.specs.Fit.fixed_value Rattle.node.specs.Fit.toc_slots
-    Rattle.node.specs.Fit.toc_length Rattle.node.specs.Fit.keys_length Rattle.node.specs.Fit.values_length Rattle.node.specs.Fit.room_of
-    Rattle.node.specs.Fit.packed_length Rattle.node.specs.Fit.fits_sums Rattle.node.specs.Fit.fits Rattle.seal.specs.Checksum.words
-    Rattle.seal.specs.Checksum.s1 Rattle.seal.specs.Checksum.s2 Rattle.seal.specs.Checksum.stored_for Rattle.seal.specs.Checksum.fletcher
-    Rattle.seal.specs.Checksum.verified Rattle.seal.specs.Checksum.sealed Rattle.node.specs.Find.place_of Rattle.node.specs.Find.is_there
-    Rattle.node.specs.Find.not_above Rattle.node.specs.Find.way_index Rattle.node.specs.Find.last_not_above Rattle.node.specs.Find.last_of
-    Rattle.node.specs.Find.key_at Rattle.node.specs.Find.val_at Rattle.node.specs.Read.info_at Rattle.node.specs.Read.parsed
-    Rattle.node.specs.Read.is_fixed Rattle.node.specs.Read.flags_hold Rattle.node.specs.Read.layout_holds Rattle.node.specs.Read.span_at
-    Rattle.node.specs.Read.is_ghost Rattle.node.specs.Read.span_holds Rattle.node.specs.Read.span_length Rattle.node.specs.Read.spans_hold
-    Rattle.node.specs.Read.spans_length Rattle.node.specs.Read.entries_hold Rattle.node.specs.Read.value_at Rattle.node.specs.Read.entry_at
-    Rattle.node.specs.Read.entries_from Rattle.node.specs.Read.in_bounds Rattle.node.specs.Read.keys_rise Rattle.node.specs.Read.keys_within
-    Rattle.node.specs.Read.keys_hold Rattle.node.specs.Read.on_disk Rattle.node.specs.Read.read_node Rattle.node.specs.Read.read_of
-    Rattle.tree.specs.Hold.key_fits Rattle.tree.specs.Hold.value_fits Rattle.tree.specs.Hold.child_holds Rattle.tree.specs.Hold.stands_on_disk
-    Rattle.tree.specs.Hold.node_stands Rattle.tree.specs.Hold.node_holds Rattle.tree.specs.Hold.every_live Rattle.tree.specs.Hold.naming
-    Rattle.tree.specs.Hold.named Rattle.tree.specs.Hold.named_once Rattle.tree.specs.Hold.hold_together Rattle.tree.specs.Hold.info_holds
-    Rattle.tree.specs.Hold.numbers_hold Rattle.tree.specs.Hold.lent_holds Rattle.tree.specs.Load.unbounded Rattle.tree.specs.Load.bound_key
-    Rattle.tree.specs.Load.tighter_lower Rattle.tree.specs.Load.tighter_upper Rattle.tree.specs.Load.child_bounds Rattle.tree.specs.Load.load_block
-    Rattle.tree.specs.Load.root_place Rattle.tree.specs.Load.child_place Rattle.tree.specs.Load.storage_class Rattle.tree.specs.Load.root_holds
-    Rattle.tree.specs.Load.disk_number Rattle.tree.specs.Load.map_child Rattle.tree.specs.Load.map_last Rattle.tree.specs.Load.or_else
-    Rattle.tree.specs.Load.map_floor Rattle.tree.specs.Load.mapping Rattle.tree.specs.Load.map_root_holds Rattle.tree.specs.Load.map_address
-    Rattle.tree.specs.Load.address_of Rattle.tree.specs.Load.adopted Rattle.tree.specs.Load.load_child Rattle.tree.specs.Edit.mark_way
-    Rattle.tree.specs.Edit.mark_dirty Rattle.tree.specs.Edit.touch Rattle.tree.specs.Edit.set_index_key Rattle.tree.specs.Edit.index_keys
-    Rattle.tree.specs.Edit.more_nodes Rattle.tree.specs.Edit.room_for Rattle.tree.specs.Edit.parted Rattle.tree.specs.Edit.link_right
-    Rattle.tree.specs.Edit.root_entries Rattle.tree.specs.Edit.grow_root Rattle.tree.specs.Edit.new_root_holds Rattle.tree.specs.Edit.cut_at
-    Rattle.tree.specs.Edit.cut_node Rattle.tree.specs.Edit.cuts Rattle.seal.specs.Obj.header_bytes Rattle.node.specs.Cut.entry_size
-    Rattle.node.specs.Cut.size Rattle.node.specs.Cut.left_part Rattle.node.specs.Cut.kept_within Rattle.node.specs.Cut.shorten
-    Rattle.node.specs.Cut.lengthen Rattle.node.specs.Cut.cut_place Rattle.node.specs.Cut.cut Rattle.node.specs.Cut.cut_means
+    Rattle.node.specs.Fit.flag Rattle.node.specs.Fit.align8 Rattle.node.specs.Fit.greater Rattle.node.specs.Fit.padded
+    Rattle.node.specs.Fit.data_space Rattle.node.specs.Fit.fixed Rattle.node.specs.Fit.slot_width Rattle.node.specs.Fit.fixed_value
+    Rattle.node.specs.Fit.toc_slots Rattle.node.specs.Fit.toc_length Rattle.node.specs.Fit.keys_length Rattle.node.specs.Fit.values_length
+    Rattle.node.specs.Fit.room_of Rattle.node.specs.Fit.packed_length Rattle.node.specs.Fit.fits_sums Rattle.node.specs.Fit.fits
+    Rattle.seal.specs.Checksum.words Rattle.seal.specs.Checksum.s1 Rattle.seal.specs.Checksum.s2 Rattle.seal.specs.Checksum.stored_for
+    Rattle.seal.specs.Checksum.fletcher Rattle.seal.specs.Checksum.verified Rattle.seal.specs.Checksum.sealed Rattle.node.specs.Find.place_of
+    Rattle.node.specs.Find.is_there Rattle.node.specs.Find.not_above Rattle.node.specs.Find.way_index Rattle.node.specs.Find.last_not_above
+    Rattle.node.specs.Find.last_of Rattle.node.specs.Find.key_at Rattle.node.specs.Find.val_at Rattle.node.specs.Read.info_at
+    Rattle.node.specs.Read.parsed Rattle.node.specs.Read.is_fixed Rattle.node.specs.Read.flags_hold Rattle.node.specs.Read.layout_holds
+    Rattle.node.specs.Read.span_at Rattle.node.specs.Read.is_ghost Rattle.node.specs.Read.span_holds Rattle.node.specs.Read.span_length
+    Rattle.node.specs.Read.spans_hold Rattle.node.specs.Read.spans_length Rattle.node.specs.Read.entries_hold Rattle.node.specs.Read.value_at
+    Rattle.node.specs.Read.entry_at Rattle.node.specs.Read.entries_from Rattle.node.specs.Read.in_bounds Rattle.node.specs.Read.keys_rise
+    Rattle.node.specs.Read.keys_within Rattle.node.specs.Read.keys_hold Rattle.node.specs.Read.on_disk Rattle.node.specs.Read.read_node
+    Rattle.node.specs.Read.read_of Rattle.tree.specs.Hold.key_fits Rattle.tree.specs.Hold.value_fits Rattle.tree.specs.Hold.child_holds
+    Rattle.tree.specs.Hold.stands_on_disk Rattle.tree.specs.Hold.node_stands Rattle.tree.specs.Hold.node_holds Rattle.tree.specs.Hold.every_live
+    Rattle.tree.specs.Hold.naming Rattle.tree.specs.Hold.named Rattle.tree.specs.Hold.named_once Rattle.tree.specs.Hold.hold_together
+    Rattle.tree.specs.Hold.info_holds Rattle.tree.specs.Hold.numbers_hold Rattle.tree.specs.Hold.lent_holds Rattle.tree.specs.Load.unbounded
+    Rattle.tree.specs.Load.bound_key Rattle.tree.specs.Load.tighter_lower Rattle.tree.specs.Load.tighter_upper Rattle.tree.specs.Load.child_bounds
+    Rattle.tree.specs.Load.load_block Rattle.tree.specs.Load.root_place Rattle.tree.specs.Load.child_place Rattle.tree.specs.Load.storage_class
+    Rattle.tree.specs.Load.root_holds Rattle.tree.specs.Load.disk_number Rattle.tree.specs.Load.map_child Rattle.tree.specs.Load.map_last
+    Rattle.tree.specs.Load.or_else Rattle.tree.specs.Load.map_floor Rattle.tree.specs.Load.mapping Rattle.tree.specs.Load.map_root_holds
+    Rattle.tree.specs.Load.map_address Rattle.tree.specs.Load.address_of Rattle.tree.specs.Load.adopted Rattle.tree.specs.Load.load_child
+    Rattle.tree.specs.Edit.mark_way Rattle.tree.specs.Edit.mark_dirty Rattle.tree.specs.Edit.touch Rattle.tree.specs.Edit.set_index_key
+    Rattle.tree.specs.Edit.index_keys Rattle.tree.specs.Edit.more_nodes Rattle.tree.specs.Edit.room_for Rattle.tree.specs.Edit.parted
+    Rattle.tree.specs.Edit.link_right Rattle.tree.specs.Edit.root_entries Rattle.tree.specs.Edit.grow_root Rattle.tree.specs.Edit.new_root_holds
+    Rattle.tree.specs.Edit.cut_at Rattle.tree.specs.Edit.cut_node Rattle.tree.specs.Edit.cuts Rattle.seal.specs.Obj.header_bytes
+    Rattle.node.specs.Cut.entry_size Rattle.node.specs.Cut.size Rattle.node.specs.Cut.left_part Rattle.node.specs.Cut.kept_within
+    Rattle.node.specs.Cut.shorten Rattle.node.specs.Cut.lengthen Rattle.node.specs.Cut.cut_place Rattle.node.specs.Cut.cut
+    Rattle.node.specs.Cut.cut_means
 ruled_out = refl

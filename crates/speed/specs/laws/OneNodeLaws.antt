@@ -21,8 +21,9 @@ use Rattle.node.specs.declared.info.BTreeInfo.{BTreeInfo}
 use Rattle.node.specs.declared.build.NodeBuild.{NodeBuild}
 use Rattle.node.specs.declared.read.Node.{Node}
 use Rattle.node.specs.declared.read.Place.{Place}
-use Rattle.node.specs.declared.read.Read.{Read}
-use Rattle.node.specs.declared.read.Read.TheVariants.{Refused, Loaded}
+use Rattle.std.specs.Prelude as std
+use Rattle.std.specs.Prelude.{Ok, Err}
+use Rattle.node.specs.declared.refusal.Refusal.{Refusal}
 use Rattle.speed.specs.OneNode.{answered, answer_of, root_place, lent, taken, read_into, build_like, sizes_hold, records_fit, packable, pack_into}
 
 pub is_root : (oid : ℕ) → record { root = true; oid = oid; parent = 0; ksize = 0; vsize = 0; bounded = false } ≡ root_place oid
@@ -65,22 +66,22 @@ module _ (b l : List ℕ) where
   unfolding read_into
   read_lent o oid r t e h a = rw (sym e ∙ not-true t h, a)
 
-  module _ (o oid : ℕ) (p : Place) (x : Read) (t : Bool) (e : t ≡ lent b l) (h : not t ≡ false) (ep : p ≡ root_place oid)
+  module _ (o oid : ℕ) (p : Place) (x : std.Result Node Refusal) (t : Bool) (e : t ≡ lent b l) (h : not t ≡ false) (ep : p ≡ root_place oid)
       (q : read_of b x ≡ read_node o p b b b) where
     read_lined : read_into o oid b l ≡ taken l (read_of b x)
     unfolding read_into
     read_lined = rw (sym e ∙ not-false t h, ← ep, q)
 
-    pub read_refused : (n r : ℕ) → x ≡ Refused n → r ≡ answer_of n → answered r l ≡ read_into o oid b l
+    pub read_refused : (n : Refusal) (r : ℕ) → x ≡ Err n → r ≡ answer_of (refusal.number_of n) → answered r l ≡ read_into o oid b l
     unfolding read_of taken
     read_refused n r ex er = rw (read_lined, ex, er)
 
-    pub read_loaded : (v : Node) (r : ℕ) (s : List ℕ) → x ≡ Loaded v → s ≡ splice l 0 (records_of (entries_from v b 0 v.nkeys))
+    pub read_loaded : (v : Node) (r : ℕ) (s : List ℕ) → x ≡ Ok v → s ≡ splice l 0 (records_of (entries_from v b 0 v.nkeys))
         → r ≡ length (records_of (entries_from v b 0 v.nkeys)) → answered r s ≡ read_into o oid b l
     unfolding read_of taken on_disk
     read_loaded v r s ex es er = rw (read_lined, ex, er, es)
 
-    pub read_sound : (v : Node) → x ≡ Loaded v → Sound v b
+    pub read_sound : (v : Node) → x ≡ Ok v → Sound v b
     read_sound v ex = (loaded_accepts o p b b b (lent_all t e h).most v (rw ex at q)).sound
 
 -- ---- packing

@@ -1,5 +1,7 @@
 use Rattle.moachest.specs.Words.{lent_numbers}
 use Rattle.moachest.specs.laws.WordLaws.{on_few}
+use Rattle.std.proofs.Common.{refl}
+use Rattle.moachest.specs.laws.AnswerLaws.{number_within, lent_within}
 use Rattle.moachest.specs.laws.TrustedLaws.{put_trusted, put_few, trusts_loaded, room_all}
 use Rattle.moachest.proofs.edits.moachest_omap_put_trusted.Goals as goal
 
@@ -7,7 +9,7 @@ pub returns-then-tree-lt-TREE_WORDS : goal.returns-then-tree-lt-TREE_WORDS
 returns-then-tree-lt-TREE_WORDS c =
     let a = c.args in
     let p = c.requires in
-    let says = put_few _ _ _ _ _ _ _ _ (lent_numbers a.size a.slots a.mapped a.map) p.trusts (on_few _ _ c.if-tree-lt-TREE_WORDS.true) in record { answer = says.0; left = says.1.0; words = says.1.1 }
+    let says = put_few _ _ _ _ _ _ _ _ (lent_numbers a.size a.slots a.mapped a.map) p.trusts (on_few _ _ c.if-tree-lt-TREE_WORDS.true) in rw c.from.ensures (record { number = lent_within _ refl; answer = says.0; left = says.1.0; words = says.1.1 })
 
 pub omap_put_in-edited-requires : goal.omap_put_in-edited-requires
 omap_put_in-edited-requires c =
@@ -18,4 +20,4 @@ omap_put_in-edited-requires c =
 pub returns : goal.returns
 returns c =
     let a = c.args in
-    let says = put_trusted _ _ _ _ _ _ _ _ _ _ _ _ (lent_numbers a.size a.slots a.mapped a.map) _ _ _ c.if-tree-lt-TREE_WORDS.false c.lent-lent.ensures c.load-t.ensures (c.omap_put_in-edited.ensures.answer, c.omap_put_in-edited.ensures.left) c.leave_edited.ensures.number c.leave_edited.ensures.tree in record { answer = says.0; left = says.1.0; words = says.1.1 }
+    let says = put_trusted _ _ _ _ _ _ _ _ _ _ _ _ (lent_numbers a.size a.slots a.mapped a.map) _ _ _ c.if-tree-lt-TREE_WORDS.false c.lent-lent.ensures c.load-t.ensures (c.omap_put_in-edited.ensures.answer, c.omap_put_in-edited.ensures.left) c.leave_tree.ensures.number c.leave_tree.ensures.tree in record { number = number_within _ _ c.leave_tree.ensures.number; answer = says.0; left = says.1.0; words = says.1.1 }

@@ -1,16 +1,18 @@
 use Rattle.moachest.specs.Words.{lent_numbers}
 use Rattle.moachest.specs.laws.WordLaws.{on_few_words, on_few_answers}
+use Rattle.std.proofs.Common.{refl}
+use Rattle.moachest.specs.laws.AnswerLaws.{number_within, lent_within}
 use Rattle.moachest.specs.laws.CallLaws.{remove_called, remove_few}
 use Rattle.moachest.proofs.edits.moachest_remove.Goals as goal
 
 pub returns-then-tree-lt-TREE_WORDS : goal.returns-then-tree-lt-TREE_WORDS
 returns-then-tree-lt-TREE_WORDS c =
-    let says = remove_few _ _ _ _ _ _ _ (lent_numbers c.args.size c.args.slots c.args.mapped c.args.map) (on_few_words _ _ _ c.if-tree-lt-TREE_WORDS.true) in record { answer = says.0; left = says.1.0; words = says.1.1 }
+    let says = remove_few _ _ _ _ _ _ _ (lent_numbers c.args.size c.args.slots c.args.mapped c.args.map) (on_few_words _ _ _ c.if-tree-lt-TREE_WORDS.true) in rw c.from.ensures (record { number = lent_within _ refl; answer = says.0; left = says.1.0; words = says.1.1 })
 
 pub returns-then-answer-lt-ANSWER_WORDS : goal.returns-then-answer-lt-ANSWER_WORDS
 returns-then-answer-lt-ANSWER_WORDS c =
-    let says = remove_few _ _ _ _ _ _ _ (lent_numbers c.args.size c.args.slots c.args.mapped c.args.map) (on_few_answers _ _ _ c.if-answer-lt-ANSWER_WORDS.true) in record { answer = says.0; left = says.1.0; words = says.1.1 }
+    let says = remove_few _ _ _ _ _ _ _ (lent_numbers c.args.size c.args.slots c.args.mapped c.args.map) (on_few_answers _ _ _ c.if-answer-lt-ANSWER_WORDS.true) in rw c.from-then-answer-lt-ANSWER_WORDS.ensures (record { number = lent_within _ refl; answer = says.0; left = says.1.0; words = says.1.1 })
 
 pub returns : goal.returns
 returns c =
-    let says = remove_called _ _ _ _ _ _ _ _ _ _ _ _ (lent_numbers c.args.size c.args.slots c.args.mapped c.args.map) _ _ _ c.if-tree-lt-TREE_WORDS.false c.if-answer-lt-ANSWER_WORDS.false c.lent-lent.ensures c.load-t.ensures (c.remove-removed.ensures.answer, c.remove-removed.ensures.left) c.leave_removed.ensures.number c.leave_removed.ensures.tree c.leave_removed.ensures.words in record { answer = says.0; left = says.1.0; words = says.1.1 }
+    let says = remove_called _ _ _ _ _ _ _ _ _ _ _ _ (lent_numbers c.args.size c.args.slots c.args.mapped c.args.map) _ _ _ c.if-tree-lt-TREE_WORDS.false c.if-answer-lt-ANSWER_WORDS.false c.lent-lent.ensures c.load-t.ensures (c.remove-removed.ensures.answer, c.remove-removed.ensures.left) c.leave_removed.ensures.number c.leave_removed.ensures.tree c.leave_removed.ensures.words in record { number = number_within _ _ c.leave_removed.ensures.number; answer = says.0; left = says.1.0; words = says.1.1 }

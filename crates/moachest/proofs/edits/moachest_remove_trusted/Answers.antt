@@ -1,5 +1,7 @@
 use Rattle.moachest.specs.Words.{lent_numbers}
 use Rattle.moachest.specs.laws.WordLaws.{on_few_words, on_few_answers}
+use Rattle.std.proofs.Common.{refl}
+use Rattle.moachest.specs.laws.AnswerLaws.{number_within, lent_within}
 use Rattle.moachest.specs.laws.TrustedLaws.{remove_trusted, remove_few, trusts_loaded, room_two}
 use Rattle.moachest.proofs.edits.moachest_remove_trusted.Goals as goal
 
@@ -7,13 +9,13 @@ pub returns-then-tree-lt-TREE_WORDS : goal.returns-then-tree-lt-TREE_WORDS
 returns-then-tree-lt-TREE_WORDS c =
     let a = c.args in
     let p = c.requires in
-    let says = remove_few _ _ _ _ _ _ (lent_numbers a.size a.slots a.mapped a.map) p.trusts (on_few_words _ _ _ c.if-tree-lt-TREE_WORDS.true) in record { answer = says.0; left = says.1.0; words = says.1.1 }
+    let says = remove_few _ _ _ _ _ _ (lent_numbers a.size a.slots a.mapped a.map) p.trusts (on_few_words _ _ _ c.if-tree-lt-TREE_WORDS.true) in rw c.from.ensures (record { number = lent_within _ refl; answer = says.0; left = says.1.0; words = says.1.1 })
 
 pub returns-then-answer-lt-ANSWER_WORDS : goal.returns-then-answer-lt-ANSWER_WORDS
 returns-then-answer-lt-ANSWER_WORDS c =
     let a = c.args in
     let p = c.requires in
-    let says = remove_few _ _ _ _ _ _ (lent_numbers a.size a.slots a.mapped a.map) p.trusts (on_few_answers _ _ _ c.if-answer-lt-ANSWER_WORDS.true) in record { answer = says.0; left = says.1.0; words = says.1.1 }
+    let says = remove_few _ _ _ _ _ _ (lent_numbers a.size a.slots a.mapped a.map) p.trusts (on_few_answers _ _ _ c.if-answer-lt-ANSWER_WORDS.true) in rw c.from-then-answer-lt-ANSWER_WORDS.ensures (record { number = lent_within _ refl; answer = says.0; left = says.1.0; words = says.1.1 })
 
 pub remove_in-removed-requires : goal.remove_in-removed-requires
 remove_in-removed-requires c =
@@ -24,4 +26,4 @@ remove_in-removed-requires c =
 pub returns : goal.returns
 returns c =
     let a = c.args in
-    let says = remove_trusted _ _ _ _ _ _ _ _ _ _ _ (lent_numbers a.size a.slots a.mapped a.map) _ _ _ c.if-tree-lt-TREE_WORDS.false c.if-answer-lt-ANSWER_WORDS.false c.lent-lent.ensures c.load-t.ensures (c.remove_in-removed.ensures.answer, c.remove_in-removed.ensures.left) c.leave_removed.ensures.number c.leave_removed.ensures.tree c.leave_removed.ensures.words in record { answer = says.0; left = says.1.0; words = says.1.1 }
+    let says = remove_trusted _ _ _ _ _ _ _ _ _ _ _ (lent_numbers a.size a.slots a.mapped a.map) _ _ _ c.if-tree-lt-TREE_WORDS.false c.if-answer-lt-ANSWER_WORDS.false c.lent-lent.ensures c.load-t.ensures (c.remove_in-removed.ensures.answer, c.remove_in-removed.ensures.left) c.leave_removed.ensures.number c.leave_removed.ensures.tree c.leave_removed.ensures.words in record { number = number_within _ _ c.leave_removed.ensures.number; answer = says.0; left = says.1.0; words = says.1.1 }

@@ -19,9 +19,12 @@ pub returns-then-not-records_fit : goal.returns-then-not-records_fit
 returns-then-not-records_fit c =
     (pack_unfit _ _ _ _ _ _ c.if-like-lt512.false c.build_like-b.ensures.0 _ c.sizes_hold.ensures (ap not c.if-not-sizes_hold.false) _ c.records_fit.ensures (ap not c.if-not-records_fit.true), refl)
 
+pub invariant_of-records : goal.invariant_of-records
+invariant_of-records c = record { within = fit_within _ _ _ _ _ c.records_fit.ensures (ap not c.if-not-records_fit.false) }
+
 pub pack-requires : goal.pack-requires
 pack-requires c =
-    record { tree = record { least = (sizes_all _ _ _ _ c.sizes_hold.ensures (ap not c.if-not-sizes_hold.false)).least; most = (sizes_all _ _ _ _ c.sizes_hold.ensures (ap not c.if-not-sizes_hold.false)).most; key = c.build_like-b.ensures.1; value = c.build_like-b.ensures.2 }; block = (sizes_all _ _ _ _ c.sizes_hold.ensures (ap not c.if-not-sizes_hold.false)).room; records = (fit_within _ _ _ _ _ c.records_fit.ensures (ap not c.if-not-records_fit.false), (sizes_all _ _ _ _ c.sizes_hold.ensures (ap not c.if-not-sizes_hold.false)).small); fit = fit_fits _ _ _ _ _ c.records_fit.ensures (ap not c.if-not-records_fit.false) }
+    record { tree = record { least = (sizes_all _ _ _ _ c.sizes_hold.ensures (ap not c.if-not-sizes_hold.false)).least; most = (sizes_all _ _ _ _ c.sizes_hold.ensures (ap not c.if-not-sizes_hold.false)).most; key = c.build_like-b.ensures.1; value = c.build_like-b.ensures.2 }; block = (sizes_all _ _ _ _ c.sizes_hold.ensures (ap not c.if-not-sizes_hold.false)).room; small = (sizes_all _ _ _ _ c.sizes_hold.ensures (ap not c.if-not-sizes_hold.false)).small; fit = fit_fits _ _ _ _ _ c.records_fit.ensures (ap not c.if-not-records_fit.false) }
 
 pub returns : goal.returns
 returns c =

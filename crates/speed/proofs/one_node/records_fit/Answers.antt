@@ -6,9 +6,12 @@ use Rattle.speed.proofs.one_node.records_fit.Goals as goal
 pub returns-then-not-records_hold : goal.returns-then-not-records_hold
 returns-then-not-records_hold c = fit_none _ _ _ _ _ c.records_hold.ensures (ap not c.if-not-records_hold.true)
 
+pub invariant_of-records : goal.invariant_of-records
+invariant_of-records c = record { within = lie_within _ _ _ _ c.records_hold.ensures (ap not c.if-not-records_hold.false) }
+
 pub fits-requires : goal.fits-requires
 fits-requires c =
-    record { sized = (c.requires.0, lie_within _ _ _ _ c.records_hold.ensures (ap not c.if-not-records_hold.false), c.requires.1); used_value = lie_used _ _ _ _ c.records_hold.ensures (ap not c.if-not-records_hold.false) }
+    record { sized = (c.requires.0, c.requires.1); used = lie_used _ _ _ _ c.records_hold.ensures (ap not c.if-not-records_hold.false) }
 
 pub returns : goal.returns
 returns c = fit_some _ _ _ _ _ c.records_hold.ensures _ (ap not c.if-not-records_hold.false) c.fits.ensures
