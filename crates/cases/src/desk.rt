@@ -2,17 +2,15 @@
 ghost use Rattle.std.specs.Prelude.{◌≡◌, ◌<◌, [], true};
 ghost use Rattle.node.specs.Fit.{Sized, fits};
 
-use flush::flush::Answer;
 use node::build::NodeBuild;
 use node::head::Head;
 use node::info::BTreeInfo;
 use node::order::Order;
 use node::pack;
-use tree::edited::{Edited, Removed};
+use node::slot::Records;
 use tree::editor::Tree;
 use tree::lent::Lent;
-use tree::lookup::Opened;
-use tree::map::Address;
+use tree::refusal::Refusal;
 use tree::{lookup, map};
 
 const SIZE: usize = 512;
@@ -37,12 +35,8 @@ const OMAP: u64 = 11;
 const LENT: Lent = Lent {
     size: SIZE,
     slots: SLOTS,
-    mapped: false,
-    map: 0,
+    map: None,
 };
-
-// Why a call is refused.
-pub type Refusal = u64;
 
 // The numbers of an empty tree: keys and values of these lengths, 0 for variable ones.
 pub fn empty(each: u64) -> BTreeInfo
@@ -121,8 +115,12 @@ impl Desk {
             info,
         };
         self.image = [0; IMAGE];
-        pack::pack(&mut self.image, &[0; 8], 0, &[0; 9], false, root);
-        let got = lookup::open(
+        let none = Records {
+            slot: &[0; 8],
+            count: 0,
+        };
+        pack::pack(&mut self.image, none, &[0; 9], false, root);
+        lookup::open(
             &self.image,
             &mut self.heads,
             &mut self.bytes,
@@ -130,29 +128,20 @@ impl Desk {
             0,
             order,
             1,
-        );
-        match got {
-            Opened::Open(tree) => Ok(tree),
-            Opened::Refused(x) => Err(x),
-        }
+        )
     }
 
     // An entry put.
     pub fn upsert(&mut self, tree: Tree, key: &[u8], value: &[u8]) -> Result<Tree, Refusal> {
-        let got = tree.upsert(
+        tree.upsert(
             &self.image,
             &mut self.heads,
             &mut self.bytes,
             &mut self.scratch,
             LENT,
             key,
-            false,
-            value,
-        );
-        match got {
-            Edited::Done(tree) => Ok(tree),
-            Edited::Refused(x) => Err(x),
-        }
+            Some(value),
+        )
     }
 
     // An id's mapping at a transaction put: the address is the transaction.
@@ -162,18 +151,15 @@ impl Desk {
 
     // An id's mapping at 1 taken out.
     pub fn take(&mut self, tree: Tree, id: u64) -> Result<Tree, Refusal> {
-        let got = tree.remove(
+        let (tree, _) = tree.remove(
             &self.image,
             &mut self.heads,
             &mut self.bytes,
             &mut self.scratch,
             LENT,
             &pair(id, 1),
-        );
-        match got {
-            Removed::Yes(tree) | Removed::No(tree) => Ok(tree),
-            Removed::Refused(x) => Err(x),
-        }
+        )?;
+        Ok(tree)
     }
 
     // The root's block after a flush with the bitmap bytes 0xFF 0xFE of a chunk of 16 blocks.
@@ -181,7 +167,7 @@ impl Desk {
         let mut bitmap = [0; SIZE];
         bitmap[0] = 0xFF;
         bitmap[1] = 0xFE;
-        let got = flush::flush::flush(
+        let flushed = flush::flush::flush(
             tree,
             &mut self.image,
             &mut bitmap,
@@ -196,24 +182,17 @@ impl Desk {
             LENT,
             xid,
             0,
-        );
-        match got {
-            Answer::Done(flushed) => Ok(flushed.root),
-            Answer::Refused(x) => Err(x),
-        }
+        )?;
+        Ok(flushed.root)
     }
 
     // Where an id is in a map, seen from a transaction.
     pub fn address_of(&self, root: u64, xid: u64, id: u64) -> Result<u64, Refusal> {
         let lent = Lent {
-            mapped: true,
-            map: root,
+            map: Some(root),
             ..LENT
         };
-        match map::address_of(&self.image, lent, xid, id) {
-            Address::At(a) => Ok(a),
-            Address::Refused(x) => Err(x),
-        }
+        map::address_of(&self.image, lent, xid, id)
     }
 
     // The level of a tree's root.

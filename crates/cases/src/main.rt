@@ -4,9 +4,10 @@
 mod desk;
 mod rows;
 
-use desk::{Desk, Refusal};
+use desk::Desk;
 use script::out::Out;
 use std::io;
+use tree::refusal::Refusal;
 
 // A row's line, and whether its numbers are as demanded.
 fn row<const N: usize>(

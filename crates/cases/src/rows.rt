@@ -2,10 +2,11 @@
 ghost use Rattle.std.specs.Prelude.{◌≤◌};
 
 use crate::desk;
-use crate::desk::{Desk, Refusal};
+use crate::desk::Desk;
 use node::fit;
 use seal::checksum;
 use tree::editor::Tree;
+use tree::refusal::Refusal;
 
 // P1, P2: the sum that a seal stores over 24 bytes, zeros but for the first of them.
 pub fn sum(first: u8) -> u64 {
@@ -55,10 +56,7 @@ pub fn contents() -> [u64; 4] {
 
 // The refusal's number, 0 where there is none.
 fn number(edited: Result<Tree, Refusal>) -> u64 {
-    match edited {
-        Ok(_) => 0,
-        Err(refusal) => refusal,
-    }
+    edited.err().map_or(0, u64::from)
 }
 
 // P5: a value of 280 and one of 281, with a key of 8 that is the tree's only one.

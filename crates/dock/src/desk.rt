@@ -1,16 +1,15 @@
 // The image with its block accounts, what is lent to the calls, and the open tree.
 use crate::line::Line;
-use flush::flush::{Answer, Flushed};
+use flush::flush::Flushed;
 use node::build::NodeBuild;
 use node::info::BTreeInfo;
 use node::order::Order;
 use node::pack;
+use node::slot::Records;
 use script::out::Out;
-use tree::edited::Edited;
 use tree::editor::Tree;
 use tree::lent::Lent;
 use tree::lookup;
-use tree::lookup::Opened;
 
 const BLOCKS: u32 = 32;
 
@@ -36,8 +35,7 @@ const OMAP: u64 = 11;
 const LENT: Lent = Lent {
     size: SIZE,
     slots: SLOTS,
-    mapped: false,
-    map: 0,
+    map: None,
 };
 
 // An empty root leaf.
@@ -120,14 +118,18 @@ impl Desk {
         self.bitmap = [0; SIZE];
         self.bitmap[0] = 1;
         self.free = [BLOCKS - 1];
-        pack::pack(&mut self.image, &[0; 8], 0, &[0; 9], false, EMPTY);
+        let none = Records {
+            slot: &[0; 8],
+            count: 0,
+        };
+        pack::pack(&mut self.image, none, &[0; 9], false, EMPTY);
         out.two(b"image", BLOCKS as u64, SIZE as u64);
         self.open(0, 0);
     }
 
     // The tree opened from its root's address; without it there is none.
     fn open(&mut self, root: u64, xid: u64) {
-        let got = lookup::open(
+        let opened = lookup::open(
             &self.image,
             &mut self.heads,
             &mut self.bytes,
@@ -136,10 +138,7 @@ impl Desk {
             Order::PAIR,
             xid,
         );
-        self.tree = match got {
-            Opened::Open(tree) => Some(tree),
-            Opened::Refused(_) => None,
-        };
+        self.tree = opened.ok();
     }
 
     fn put(&mut self, tree: Tree, id: u64, xid: u64, address: u64, out: &mut Out) {
@@ -155,8 +154,8 @@ impl Desk {
             SIZE as u64,
         );
         let (refusal, tree) = match got {
-            Edited::Done(edited) => (0, edited),
-            Edited::Refused(x) => (x, tree),
+            Ok(edited) => (0, edited),
+            Err(x) => (u64::from(x), tree),
         };
         self.tree = Some(tree);
         out.two(b"put", refusal, tree.info.key_count);
@@ -181,11 +180,11 @@ impl Desk {
             0,
         );
         match got {
-            Answer::Refused(x) => out.one(b"flush", x),
-            Answer::Done(flushed) => {
+            Ok(flushed) => {
                 report(flushed, out);
                 self.open(flushed.root, xid);
             }
+            Err(x) => out.one(b"flush", u64::from(x)),
         }
     }
 }

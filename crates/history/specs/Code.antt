@@ -13,17 +13,11 @@ use Rattle.tree.specs.Answers.{got_means, got_in, got_leaves, floor_means, floor
 use Rattle.tree.specs.Answers.{put_value, edited_of, edited_leaves, removed_of, removed_leaves}
 use Rattle.tree.specs.declared.lent.Lent.{Lent}
 use Rattle.tree.specs.declared.editor.Tree.{Tree}
-use Rattle.tree.specs.declared.lookup.Opened.TheVariants as opening
-use Rattle.tree.specs.declared.get.Got.{Got}
-use Rattle.tree.specs.declared.get.Got.TheVariants as getting
-use Rattle.tree.specs.declared.floor.Floor.{Floor}
-use Rattle.tree.specs.declared.floor.Floor.TheVariants as flooring
+use Rattle.std.specs.Prelude as std
+use Rattle.std.specs.Prelude.{Option, Ok, Err}
+use Rattle.tree.specs.Refusals.{Refusal}
+use Rattle.tree.specs.declared.get.Copied.{Copied}
 use Rattle.tree.specs.declared.range.Ranged.{Ranged}
-use Rattle.tree.specs.declared.range.Ranged.TheVariants as ranging
-use Rattle.tree.specs.declared.edited.Edited.{Edited}
-use Rattle.tree.specs.declared.edited.Edited.TheVariants as editing
-use Rattle.tree.specs.declared.edited.Removed.{Removed}
-use Rattle.tree.specs.declared.edited.Removed.TheVariants as taking
 use Rattle.flush.specs.Space.{Space}
 use Rattle.flush.specs.Flush.{Flushed, Lists}
 use Rattle.flush.specs.Answers.{flushed_in}
@@ -60,35 +54,31 @@ holds_in l m = workspace_holds l.size l.slots m.tree.used m.heads m.bytes
 
 -- ---- the tree after a call: the one that its answer names; refused, the one before
 
-unfoldable pub tree_got : Tree → Got → Tree
-tree_got t (getting.Refused x) = t
-tree_got t (getting.None u) = u
-tree_got t (getting.Ghost u) = u
-tree_got t (getting.Value u n) = u
+unfoldable pub tree_got : Tree → std.Result (Tree × Option Copied) Refusal → Tree
+tree_got t (Err x) = t
+tree_got t (Ok (u, c)) = u
 
-unfoldable pub tree_floored : Tree → Floor → Tree
-tree_floored t (flooring.Refused x) = t
-tree_floored t (flooring.None u) = u
-tree_floored t (flooring.Record u n) = u
+unfoldable pub tree_floored : Tree → std.Result (Tree × Option ℕ) Refusal → Tree
+tree_floored t (Err x) = t
+tree_floored t (Ok (u, c)) = u
 
-unfoldable pub tree_ranged : Tree → Ranged → Tree
-tree_ranged t (ranging.Refused x) = t
-tree_ranged t (ranging.Done u k n) = u
+unfoldable pub tree_ranged : Tree → std.Result Ranged Refusal → Tree
+tree_ranged t (Err x) = t
+tree_ranged t (Ok r) = r.tree
 
-unfoldable pub tree_edited : Tree → Edited → Tree
-tree_edited t (editing.Refused x) = t
-tree_edited t (editing.Done u) = u
+unfoldable pub tree_edited : Tree → std.Result Tree Refusal → Tree
+tree_edited t (Err x) = t
+tree_edited t (Ok u) = u
 
-unfoldable pub tree_removed : Tree → Removed → Tree
-tree_removed t (taking.Refused x) = t
-tree_removed t (taking.Yes u) = u
-tree_removed t (taking.No u) = u
+unfoldable pub tree_removed : Tree → std.Result (Tree × Bool) Refusal → Tree
+tree_removed t (Err x) = t
+tree_removed t (Ok (u, there)) = u
 
 -- ---- one call, as its contract gives it. said: what it answers; out: the output after it; read: that answer as a step's
 
 pub record RanGet (image : List ℕ) (l : Lent) (m : Memory) (room : ℕ) (k : List ℕ) (x : Result Stepped) (m' : Memory) : Type 0 where
   pub out : List ℕ
-  pub said : Got
+  pub said : std.Result (Tree × Option Copied) Refusal
   pub answer : got_means l.size m'.heads m'.bytes out said ≡ got_in (lent_of image l) m.tree m.heads m.bytes room k
   pub left : got_leaves l.size l.slots m.tree m.heads m.bytes m'.heads m'.bytes said
   pub read : x ≡ (got_means l.size m'.heads m'.bytes out said >>= λ g. ok (record { state = g.state; answer = values g.answer }))
@@ -96,7 +86,7 @@ pub record RanGet (image : List ℕ) (l : Lent) (m : Memory) (room : ℕ) (k : L
 
 pub record RanFloor (image : List ℕ) (l : Lent) (m : Memory) (room : ℕ) (k : List ℕ) (x : Result Stepped) (m' : Memory) : Type 0 where
   pub out : List ℕ
-  pub said : Floor
+  pub said : std.Result (Tree × Option ℕ) Refusal
   pub answer : floor_means l.size m'.heads m'.bytes out said ≡ floored_in (lent_of image l) m.tree m.heads m.bytes room k
   pub left : floored_leaves l.size l.slots m.tree m.heads m.bytes m'.heads m'.bytes said
   pub read : x ≡ (floor_means l.size m'.heads m'.bytes out said >>= λ g. ok (record { state = g.state; answer = entries g.answer }))
@@ -104,7 +94,7 @@ pub record RanFloor (image : List ℕ) (l : Lent) (m : Memory) (room : ℕ) (k :
 
 pub record RanRange (image : List ℕ) (l : Lent) (m : Memory) (room : ℕ) (lo hi : List ℕ) (x : Result Stepped) (m' : Memory) : Type 0 where
   pub out : List ℕ
-  pub said : Ranged
+  pub said : std.Result Ranged Refusal
   pub answer : range_means l.size m'.heads m'.bytes out said ≡ ranged_in (lent_of image l) m.tree m.heads m.bytes room lo hi
   pub left : ranged_leaves l.size l.slots m.tree m.heads m.bytes m'.heads m'.bytes said
   pub read : x ≡ (range_means l.size m'.heads m'.bytes out said >>= λ g. ok (record { state = g.state; answer = entries g.answer }))
@@ -114,7 +104,7 @@ pub record RanRange (image : List ℕ) (l : Lent) (m : Memory) (room : ℕ) (lo 
 pub record RanEdit (l : Lent) (m : Memory) (f : State → Result State) (x : Result Stepped) (m' : Memory) : Type 0 where
   pub scratch : List ℕ
   pub wide : scratch_holds l.size l.slots scratch ≡ true
-  pub said : Edited
+  pub said : std.Result Tree Refusal
   pub answer : edited_of l.size m'.heads m'.bytes said ≡ edits l.size l.slots m.tree m.heads m.bytes scratch f
   pub left : edited_leaves l.size l.slots m.tree m.heads m.bytes m'.heads m'.bytes said
   pub read : x ≡ (edited_of l.size m'.heads m'.bytes said >>= λ t. ok (record { state = t; answer = done }))
@@ -130,7 +120,7 @@ pub record RanUpsert (image : List ℕ) (l : Lent) (m : Memory) (k : List ℕ) (
 pub record RanRemove (image : List ℕ) (l : Lent) (m : Memory) (k : List ℕ) (x : Result Stepped) (m' : Memory) : Type 0 where
   pub scratch : List ℕ
   pub wide : scratch_holds l.size l.slots scratch ≡ true
-  pub said : Removed
+  pub said : std.Result (Tree × Bool) Refusal
   pub answer : removed_of l.size m'.heads m'.bytes said
       ≡ edits l.size l.slots m.tree m.heads m.bytes scratch (λ s. remove (lent_of image l) s k)
   pub left : removed_leaves l.size l.slots m.tree m.heads m.bytes m'.heads m'.bytes said
@@ -181,9 +171,9 @@ pub record Opens (g : Start) (l : Lent) (m : Memory) : Type 0 where
   pub lends : g.disk.lent ≡ lent_of image l
   pub words : List ℕ
   pub bytes : List ℕ
-  pub answer : opened_of l.size m.heads m.bytes (opening.Open m.tree)
+  pub answer : opened_of l.size m.heads m.bytes (Ok m.tree)
       ≡ opened_in (lent_of image l) words bytes g.root g.disk.order g.disk.xid
-  pub left : opened_leaves l.size l.slots m.heads m.bytes (opening.Open m.tree)
+  pub left : opened_leaves l.size l.slots m.heads m.bytes (Ok m.tree)
   pub state : g.state ≡ state_in l.size m
 
 -- what holds after the calls: the theorem's conclusion of the definitions, that the slots are the state that it speaks of, and of a flush that

@@ -1,6 +1,6 @@
 -- Wrong answers, one table: for each public contract an input, what its definition gives there, and two wrong answers that it rules out.
 -- laws/WrongAnswersRuledOut has the result. A contract is an equality to the definition, so what the definition does not give no program may answer.
-use Rattle.std.specs.Prelude.{List, [], ◌∷◌, ◌++◌, Bool, true, false, ◌&&◌, not, ℕ, ◌+◌, replicate, length, get_or, take, drop, leb}
+use Rattle.std.specs.Prelude.{List, [], ◌∷◌, ◌++◌, Bool, true, false, ◌&&◌, not, ℕ, ◌+◌, Some, None, replicate, length, get_or, take, drop, leb}
 use Prim.Native.String.{String}
 use Rattle.seal.specs.Bytes.{window, splice, moved, bytes_of, u16_at, u32_at, u64_at}
 use Rattle.seal.specs.Checksum.{fletcher, verified, sealed}
@@ -100,10 +100,10 @@ unfoldable pub image : List ℕ
 image = replicate 3584 0 ++ block
 
 unfoldable pub lent : Lent
-lent = record { size = 512; slots = 1; mapped = false; map = 0 }
+lent = record { size = 512; slots = 1; map = None }
 
 unfoldable pub mapped : Lent
-mapped = record { size = 512; slots = 1; mapped = true; map = 0 }
+mapped = record { size = 512; slots = 1; map = Some 0 }
 
 -- the leaf opened: its tree in an order, its words with a shadow's and a mark, its bytes with a shadow's
 unfoldable pub tree : ℕ → Tree

@@ -1,5 +1,6 @@
 // What calls answer: records, and parts of a text as byte strings.
 use node::record;
+use node::record::Record;
 use script::out::Out;
 
 // The bytes of a part; nothing where it does not lie there.
@@ -12,10 +13,10 @@ pub fn part(o: &mut Out, s: &[u8], from: usize, to: usize) {
 // A record's key and value, or that it has none, and where the next one starts; nothing where no whole record starts
 // there.
 pub fn record(o: &mut Out, found: &[u8], from: usize) -> Option<usize> {
-    if found.len() < from || !record::lies(found, from) {
+    if found.len() < from {
         return None;
     }
-    let r = record::record_at(found, from);
+    let r = Record::at(found, from)?.parts();
     part(o, found, r.key, r.value);
     if r.mark == record::GHOST {
         o.text(b" -");

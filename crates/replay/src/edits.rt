@@ -4,25 +4,6 @@ use crate::memory::Workspace;
 use crate::state::{Opened, State};
 use crate::{keys, limits};
 use script::words::ByteString;
-use tree::edited::{Edited, Removed};
-use tree::editor::Tree;
-
-// The tree that an edit leaves.
-fn edited(got: Edited) -> Result<Tree, Fault> {
-    match got {
-        Edited::Refused(x) => Err(Fault::Refused(x)),
-        Edited::Done(tree) => Ok(tree),
-    }
-}
-
-// The tree that a remove leaves, and whether the key was there.
-fn removed(got: Removed) -> Result<(Tree, bool), Fault> {
-    match got {
-        Removed::Refused(x) => Err(Fault::Refused(x)),
-        Removed::Yes(tree) => Ok((tree, true)),
-        Removed::No(tree) => Ok((tree, false)),
-    }
-}
 
 impl State<'_> {
     // (upsert KEY VALUE), or (upsert KEY -) for a ghost
@@ -42,18 +23,7 @@ impl State<'_> {
             scratch,
             lent,
         } = self.memory.workspace(place.map)?;
-        let ghost_value = value.is_none();
-        let got = tree.upsert(
-            image,
-            heads,
-            bytes,
-            scratch,
-            lent,
-            key,
-            ghost_value,
-            value.unwrap_or(key),
-        );
-        let tree = edited(got)?;
+        let tree = tree.upsert(image, heads, bytes, scratch, lent, key, value)?;
         self.accept(Opened { tree, place }, b"upsert 0");
         Ok(())
     }
@@ -70,7 +40,7 @@ impl State<'_> {
             scratch,
             lent,
         } = self.memory.workspace(place.map)?;
-        let (tree, found) = removed(tree.remove(image, heads, bytes, scratch, lent, key))?;
+        let (tree, found) = tree.remove(image, heads, bytes, scratch, lent, key)?;
         let opened = Opened { tree, place };
         if found {
             self.accept(opened, b"remove 0 yes");
@@ -91,7 +61,7 @@ impl State<'_> {
             scratch,
             lent,
         } = self.memory.workspace(place.map)?;
-        let tree = edited(tree.omap_put(image, heads, bytes, scratch, lent, id, xid, a, size))?;
+        let tree = tree.omap_put(image, heads, bytes, scratch, lent, id, xid, a, size)?;
         self.accept(Opened { tree, place }, b"put 0");
         Ok(())
     }
@@ -106,7 +76,7 @@ impl State<'_> {
             scratch,
             lent,
         } = self.memory.workspace(place.map)?;
-        let tree = edited(tree.omap_drop(image, heads, bytes, scratch, lent, id))?;
+        let tree = tree.omap_drop(image, heads, bytes, scratch, lent, id)?;
         self.accept(Opened { tree, place }, b"drop 0");
         Ok(())
     }

@@ -6,7 +6,8 @@ use crate::fault::Fault;
 use crate::state::State;
 use node::build::NodeBuild;
 use node::info::BTreeInfo;
-use node::{fit, pack};
+use node::pack;
+use node::slot::Records;
 
 const BTREE: u64 = 2;
 
@@ -62,7 +63,11 @@ impl Root {
         }
         let info = self.info(size);
         let none = [0; 8];
-        if !fit::fits(&none, 0, 0, info, true, 0) {
+        let records = Records {
+            slot: &none,
+            count: 0,
+        };
+        if !records.fits(0, info, true, 0) {
             return Err(Fault::NotTaken);
         }
         // A physical root's id is its address.
@@ -80,7 +85,7 @@ impl Root {
             info,
         };
         let heads = [0; 9];
-        pack::pack(block, &none, 0, &heads, false, build);
+        pack::pack(block, records, &heads, false, build);
         Ok(())
     }
 }

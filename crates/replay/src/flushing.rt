@@ -3,7 +3,7 @@ use crate::fault::Fault;
 use crate::memory::{Memory, first_mut};
 use crate::report;
 use crate::state::{Opened, Place, State};
-use flush::flush::{Answer, Flushed};
+use flush::flush::Flushed;
 use tree::editor::Tree;
 
 impl Memory<'_> {
@@ -16,7 +16,7 @@ impl Memory<'_> {
         next: u64,
     ) -> Result<Flushed, Fault> {
         let s = self.sizes;
-        let got = flush::flush::flush(
+        let flushed = flush::flush::flush(
             tree,
             first_mut(self.image, s.image_bytes())?,
             first_mut(self.bitmap, s.bitmap_bytes())?,
@@ -31,11 +31,8 @@ impl Memory<'_> {
             s.lent(map),
             xid,
             next,
-        );
-        match got {
-            Answer::Refused(x) => Err(Fault::Refused(x)),
-            Answer::Done(f) => Ok(f),
-        }
+        )?;
+        Ok(flushed)
     }
 }
 

@@ -5,45 +5,9 @@ use crate::state::{Opened, Place, State};
 use crate::{answers, keys, limits};
 use node::order::Order;
 use script::words::ByteString;
-use tree::editor::Tree;
-use tree::floor::Floor;
-use tree::get::Got;
+use tree::get::Copied;
 use tree::lookup;
 use tree::range::Ranged;
-
-// What `get` found.
-enum Copied {
-    Ghost,
-    // A value, copied, of so many bytes.
-    Value(usize),
-}
-
-// The tree that `get` leaves, and what it found.
-fn got(got: Got) -> Result<(Tree, Option<Copied>), Fault> {
-    match got {
-        Got::Refused(x) => Err(Fault::Refused(x)),
-        Got::None(tree) => Ok((tree, None)),
-        Got::Ghost(tree) => Ok((tree, Some(Copied::Ghost))),
-        Got::Value(tree, n) => Ok((tree, Some(Copied::Value(n)))),
-    }
-}
-
-// The tree that `floor` leaves, and how long the record is that it found.
-fn floored(got: Floor) -> Result<(Tree, Option<usize>), Fault> {
-    match got {
-        Floor::Refused(x) => Err(Fault::Refused(x)),
-        Floor::None(tree) => Ok((tree, None)),
-        Floor::Record(tree, n) => Ok((tree, Some(n))),
-    }
-}
-
-// The tree that `range` leaves, and how many records it found.
-fn ranged(got: Ranged) -> Result<(Tree, u64), Fault> {
-    match got {
-        Ranged::Refused(x) => Err(Fault::Refused(x)),
-        Ranged::Done(tree, count, _) => Ok((tree, count)),
-    }
-}
 
 impl State<'_> {
     // (open ROOT ORDER XID): a refused open keeps the old tree.
@@ -62,15 +26,10 @@ impl State<'_> {
             scratch: _,
             lent,
         } = self.memory.workspace(place.map)?;
-        let got = lookup::open(image, heads, bytes, lent, root, order.code, xid);
-        match got {
-            lookup::Opened::Refused(x) => Err(Fault::Refused(x)),
-            lookup::Opened::Open(tree) => {
-                self.walked = Some(place);
-                self.accept(Opened { tree, place }, b"open 0");
-                Ok(())
-            }
-        }
+        let tree = lookup::open(image, heads, bytes, lent, root, order.code, xid)?;
+        self.walked = Some(place);
+        self.accept(Opened { tree, place }, b"open 0");
+        Ok(())
     }
 
     // (get KEY)
@@ -85,7 +44,7 @@ impl State<'_> {
             scratch,
             lent,
         } = self.memory.workspace(place.map)?;
-        let (tree, found) = got(tree.get(image, heads, bytes, lent, key, scratch))?;
+        let (tree, found) = tree.get(image, heads, bytes, lent, key, scratch)?;
         self.opened = Some(Opened { tree, place });
         match found {
             None => self.out.text(b"(get 0 none)\n"),
@@ -111,7 +70,7 @@ impl State<'_> {
             scratch,
             lent,
         } = self.memory.workspace(place.map)?;
-        let (tree, found) = floored(tree.floor(image, heads, bytes, lent, key, scratch))?;
+        let (tree, found) = tree.floor(image, heads, bytes, lent, key, scratch)?;
         self.opened = Some(Opened { tree, place });
         match found {
             None => self.out.text(b"(floor 0 none)\n"),
@@ -138,8 +97,7 @@ impl State<'_> {
             scratch,
             lent,
         } = self.memory.workspace(place.map)?;
-        let got = tree.range(image, heads, bytes, lent, low, high, scratch);
-        let (tree, count) = ranged(got)?;
+        let Ranged { tree, count, .. } = tree.range(image, heads, bytes, lent, low, high, scratch)?;
         self.opened = Some(Opened { tree, place });
         self.out.open(b"range 0");
         self.out.number(count);

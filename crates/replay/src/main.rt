@@ -65,7 +65,7 @@ impl State<'_> {
             Call::Walk => self.walk(),
         };
         if let Err(Fault::Refused(x)) = answered {
-            self.out.one(call.name(), x);
+            self.out.one(call.name(), u64::from(x));
             return Ok(());
         }
         answered

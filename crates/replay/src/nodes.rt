@@ -63,6 +63,6 @@ impl<'a> Met<'a> {
         if value.len() < 8 {
             return None;
         }
-        Some(bytes::u64_at(value, 0))
+        Some(bytes::field_at::<8>(value, 0))
     }
 }

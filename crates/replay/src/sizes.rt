@@ -29,8 +29,7 @@ impl Sizes {
         Lent {
             size: self.size,
             slots: self.slots,
-            mapped: map.is_some(),
-            map: map.unwrap_or(0),
+            map,
         }
     }
 

@@ -5,11 +5,10 @@ use crate::fault::Fault;
 use crate::memory::{Memory, first_mut};
 use crate::nodes::Met;
 use crate::state::{Place, State};
-use node::read::Read;
-use node::{read, refusal};
+use node::read;
 use tree::lent::Lent;
 use tree::map;
-use tree::map::Address;
+use tree::refusal::Refusal;
 
 // What is done at each leaf that is met.
 pub trait Visitor {
@@ -49,10 +48,7 @@ impl<'a> Walk<'a> {
                 return Ok(*a);
             }
         }
-        match map::address_of(self.image, self.lent, self.place.xid, r) {
-            Address::Refused(x) => Err(Fault::Refused(x)),
-            Address::At(a) => Ok(a),
-        }
+        Ok(map::address_of(self.image, self.lent, self.place.xid, r)?)
     }
 
     // The node at an address, in its place.
@@ -61,17 +57,13 @@ impl<'a> Walk<'a> {
     {
         let size = self.lent.size;
         if (self.image.len() / size) as u64 <= a {
-            return Err(Fault::Refused(refusal::ADDRESS));
+            return Err(Fault::Refused(Refusal::Address));
         }
         let upper = b.upper.unwrap_or(b.lower);
         let order = self.place.order;
-        match map::load_block(self.image, self.lent, order, place, b.lower, upper, a) {
-            Read::Refused(x) => Err(Fault::Refused(x)),
-            Read::Loaded(node) => {
-                let block = map::block_of(self.image, size, a);
-                Met::new(block, node).ok_or(Fault::Refused(refusal::LAYOUT))
-            }
-        }
+        let node = map::load_block(self.image, self.lent, order, place, b.lower, upper, a)?;
+        let block = map::block_of(self.image, size, a);
+        Met::new(block, node).ok_or(Fault::Refused(Refusal::Layout))
     }
 
     // The bounds of child i: its index key, and the next one, or where there is none its parent's.
@@ -110,7 +102,7 @@ impl<'a> Walk<'a> {
         let met = self.load(place, NO_BOUNDS, a)?;
         let by_id = self.place.map.is_some();
         if !map::root_holds(self.image, self.lent, a, by_id, met.node) {
-            return Err(Fault::Refused(refusal::ROOT));
+            return Err(Fault::Refused(Refusal::Root));
         }
         Ok(met)
     }
@@ -148,7 +140,7 @@ impl Memory<'_> {
         let s = self.sizes;
         let lent = s.lent(place.map);
         if lent.size < 512 || 65536 < lent.size {
-            return Err(Fault::Refused(refusal::LENT));
+            return Err(Fault::Refused(Refusal::Lent));
         }
         let Memory {
             image,

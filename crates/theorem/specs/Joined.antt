@@ -19,16 +19,11 @@ use Rattle.tree.specs.Answers.{opened_of, opened_in, got_means, got_in, got_leav
 use Rattle.tree.specs.Answers.{range_means, ranged_in, ranged_leaves, edited_of, edited_leaves, removed_of, removed_leaves}
 use Rattle.tree.specs.declared.lent.Lent.{Lent}
 use Rattle.tree.specs.declared.editor.Tree.{Tree}
-use Rattle.tree.specs.declared.get.Got.{Got}
-use Rattle.tree.specs.declared.get.Got.TheVariants as getting
-use Rattle.tree.specs.declared.floor.Floor.{Floor}
-use Rattle.tree.specs.declared.floor.Floor.TheVariants as flooring
+use Rattle.std.specs.Prelude as std
+use Rattle.std.specs.Prelude.{Bool, Option, Ok, Err}
+use Rattle.tree.specs.Refusals.{Refusal, number_of}
+use Rattle.tree.specs.declared.get.Copied.{Copied}
 use Rattle.tree.specs.declared.range.Ranged.{Ranged}
-use Rattle.tree.specs.declared.range.Ranged.TheVariants as ranging
-use Rattle.tree.specs.declared.edited.Edited.{Edited}
-use Rattle.tree.specs.declared.edited.Edited.TheVariants as editing
-use Rattle.tree.specs.declared.edited.Removed.{Removed}
-use Rattle.tree.specs.declared.edited.Removed.TheVariants as taking
 use Rattle.flush.specs.Space.{Space}
 use Rattle.flush.specs.Flush.{Flushed, Lists, flush}
 use Rattle.flush.specs.Answers.{flushed_in}
@@ -106,14 +101,12 @@ module _ (image : List ℕ) (l : Lent) (m : Memory) (held : holds_in l m ≡ tru
 
     -- ---- get
 
-    gets : (out : List ℕ) (r : Got) → got_leaves l.size l.slots m.tree m.heads m.bytes m'.heads m'.bytes r
+    gets : (out : List ℕ) (r : std.Result (Tree × Option Copied) Refusal) → got_leaves l.size l.slots m.tree m.heads m.bytes m'.heads m'.bytes r
         → x ≡ (got_means l.size m'.heads m'.bytes out r >>= λ g. ok (record { state = g.state; answer = values g.answer }))
         → m'.tree ≡ tree_got m.tree r → (state_in l.size m' ≡ after_step s x) × (holds_in l m' ≡ true)
     unfolding got_means tree_got
-    gets out (getting.Refused n) k e t = (no_state n t e k.0, no_holds t k.1)
-    gets out (getting.None u) k e t = (yes_state u _ t e refl, yes_holds u t k)
-    gets out (getting.Ghost u) k e t = (yes_state u _ t e refl, yes_holds u t k)
-    gets out (getting.Value u n) k e t = (yes_state u _ t e refl, yes_holds u t k)
+    gets out (Err n) k e t = (no_state (number_of n) t e k.0, no_holds t k.1)
+    gets out (Ok (u, c)) k e t = (yes_state u _ t e refl, yes_holds u t k)
 
     ran_get : (room : ℕ) (k : List ℕ) → RanGet image l m room k x m' → Kept image l m (get_call room k) x m'
     unfolding got_in lent_of step
@@ -128,13 +121,12 @@ module _ (image : List ℕ) (l : Lent) (m : Memory) (held : holds_in l m ≡ tru
 
     -- ---- floor, range
 
-    floors : (out : List ℕ) (r : Floor) → floored_leaves l.size l.slots m.tree m.heads m.bytes m'.heads m'.bytes r
+    floors : (out : List ℕ) (r : std.Result (Tree × Option ℕ) Refusal) → floored_leaves l.size l.slots m.tree m.heads m.bytes m'.heads m'.bytes r
         → x ≡ (floor_means l.size m'.heads m'.bytes out r >>= λ g. ok (record { state = g.state; answer = entries g.answer }))
         → m'.tree ≡ tree_floored m.tree r → (state_in l.size m' ≡ after_step s x) × (holds_in l m' ≡ true)
     unfolding floor_means tree_floored
-    floors out (flooring.Refused n) k e t = (no_state n t e k.0, no_holds t k.1)
-    floors out (flooring.None u) k e t = (yes_state u _ t e refl, yes_holds u t k)
-    floors out (flooring.Record u n) k e t = (yes_state u _ t e refl, yes_holds u t k)
+    floors out (Err n) k e t = (no_state (number_of n) t e k.0, no_holds t k.1)
+    floors out (Ok (u, c)) k e t = (yes_state u _ t e refl, yes_holds u t k)
 
     ran_floor : (room : ℕ) (k : List ℕ) → RanFloor image l m room k x m' → Kept image l m (floor_call room k) x m'
     unfolding floored_in lent_of step
@@ -147,12 +139,12 @@ module _ (image : List ℕ) (l : Lent) (m : Memory) (held : holds_in l m ≡ tru
           holds = b;
         }
 
-    ranges : (out : List ℕ) (r : Ranged) → ranged_leaves l.size l.slots m.tree m.heads m.bytes m'.heads m'.bytes r
+    ranges : (out : List ℕ) (r : std.Result Ranged Refusal) → ranged_leaves l.size l.slots m.tree m.heads m.bytes m'.heads m'.bytes r
         → x ≡ (range_means l.size m'.heads m'.bytes out r >>= λ g. ok (record { state = g.state; answer = entries g.answer }))
         → m'.tree ≡ tree_ranged m.tree r → (state_in l.size m' ≡ after_step s x) × (holds_in l m' ≡ true)
     unfolding range_means tree_ranged
-    ranges out (ranging.Refused n) k e t = (no_state n t e k.0, no_holds t k.1)
-    ranges out (ranging.Done u i n) k e t = (yes_state u _ t e refl, yes_holds u t k)
+    ranges out (Err n) k e t = (no_state (number_of n) t e k.0, no_holds t k.1)
+    ranges out (Ok r) k e t = (yes_state r.tree _ t e refl, yes_holds r.tree t k)
 
     ran_range : (room : ℕ) (lo hi : List ℕ) → RanRange image l m room lo hi x m' → Kept image l m (range_call room lo hi) x m'
     unfolding ranged_in lent_of step
@@ -167,12 +159,12 @@ module _ (image : List ℕ) (l : Lent) (m : Memory) (held : holds_in l m ≡ tru
 
     -- ---- edits
 
-    edit_left : (r : Edited) → edited_leaves l.size l.slots m.tree m.heads m.bytes m'.heads m'.bytes r
+    edit_left : (r : std.Result Tree Refusal) → edited_leaves l.size l.slots m.tree m.heads m.bytes m'.heads m'.bytes r
         → x ≡ (edited_of l.size m'.heads m'.bytes r >>= λ t. ok (record { state = t; answer = done }))
         → m'.tree ≡ tree_edited m.tree r → (state_in l.size m' ≡ after_step s x) × (holds_in l m' ≡ true)
     unfolding edited_of tree_edited
-    edit_left (editing.Refused n) k e t = (no_state n t e k.0, no_holds t k.1)
-    edit_left (editing.Done u) k e t = (yes_state u _ t e refl, yes_holds u t k)
+    edit_left (Err n) k e t = (no_state (number_of n) t e k.0, no_holds t k.1)
+    edit_left (Ok u) k e t = (yes_state u _ t e refl, yes_holds u t k)
 
     ran_edit : (f : State → Result State) (r : RanEdit l m f x m')
         → x ≡ (f s >>= λ t. ok (record { state = t; answer = done }))
@@ -198,13 +190,12 @@ module _ (image : List ℕ) (l : Lent) (m : Memory) (held : holds_in l m ≡ tru
         let (a, b) = edit_left e.said e.left e.read e.tree in
         record { steps = ran_edit (λ z. omap_drop (lent_of image l) z id) e; state = a; holds = b }
 
-    remove_left : (r : Removed) → removed_leaves l.size l.slots m.tree m.heads m.bytes m'.heads m'.bytes r
+    remove_left : (r : std.Result (Tree × Bool) Refusal) → removed_leaves l.size l.slots m.tree m.heads m.bytes m'.heads m'.bytes r
         → x ≡ (removed_of l.size m'.heads m'.bytes r >>= λ d. ok (record { state = d.state; answer = present d.present }))
         → m'.tree ≡ tree_removed m.tree r → (state_in l.size m' ≡ after_step s x) × (holds_in l m' ≡ true)
     unfolding removed_of tree_removed
-    remove_left (taking.Refused n) k e t = (no_state n t e k.0, no_holds t k.1)
-    remove_left (taking.Yes u) k e t = (yes_state u _ t e refl, yes_holds u t k)
-    remove_left (taking.No u) k e t = (yes_state u _ t e refl, yes_holds u t k)
+    remove_left (Err n) k e t = (no_state (number_of n) t e k.0, no_holds t k.1)
+    remove_left (Ok (u, there)) k e t = (yes_state u _ t e refl, yes_holds u t k)
 
     ran_remove : (k : List ℕ) → RanRemove image l m k x m' → Kept image l m (remove_call k) x m'
     unfolding step
