@@ -8,6 +8,7 @@ from text import CRATES, PROJECT
 PARTS = ('src', 'specs', 'proofs')
 KEPT = re.compile(r'(?:pub(?:\(\w+\))? )?(struct|enum|const|mod|use) ')
 NAMES = re.compile(r'[A-Za-z_]\w*')
+OF_LAWS = re.compile(r'ghost use \S+\.specs\.laws\b')
 
 
 def items(source):
@@ -34,13 +35,18 @@ def imports(item):
     return path, [n.strip() for n in last.rstrip(' }').split(',') if n.strip()]
 
 
-def types_alone(source):
-    """A source file's types and constants, with what they import: for definitions and laws, which cite no function."""
-    kept, uses = ['#![tactic(auto)]'] if '#![tactic(auto)]' in source else [], []
+def types_alone(source, laws):
+    """A source file's types and constants, with what they import: for definitions and laws, which cite no function. Without `laws`, no type
+    whose ghost fields name one: no definition speaks of such a type."""
+    kept, uses, lawful = ['#![tactic(auto)]'] if '#![tactic(auto)]' in source else [], [], set()
     for head, item in items(source):
         m = KEPT.match(item)
         if m and m.group(1) == 'use':
             uses.append(item)
+        elif not laws and OF_LAWS.match(item):
+            lawful.update(imports(item)[1])
+        elif m and any(lawful & set(NAMES.findall(field)) for field in re.findall(r'^    (?:pub )?ghost .*', item, re.M)):
+            continue
         elif m:
             kept.append(f'{head}\n{item}' if head else item)
         elif item.startswith('ghost use') and re.search(r'^    (?:pub )?ghost ', source, re.M):
@@ -64,7 +70,7 @@ def copied(place, code=True, laws=True):
             shutil.copy(PROJECT / file, place)
     if not code:
         for file in (place / 'crates').glob('*/src/**/*.rt'):
-            file.write_text(types_alone(file.read_text()))
+            file.write_text(types_alone(file.read_text(), laws))
     if not laws:
         for listing in (place / 'crates').glob('*/specs/Lib.antt'):
             shutil.rmtree(listing.parent / 'laws', ignore_errors=True)
