@@ -30,6 +30,8 @@ pub const OBJECT_TYPE_BTREE: u64 = 0x02;
 
 pub const OBJECT_TYPE_BTREE_NODE: u64 = 0x03;
 
+pub const OBJECT_TYPE_OMAP: u64 = 0x0b;
+
 // Every field is a u64, as `bytes` reads and writes them; on disk the type and the subtype have 4 bytes.
 #[derive(Clone, Copy)]
 pub struct ObjHeader {
