@@ -53,10 +53,7 @@ impl<R> Lines<R> {
         R: Drop,
         ensures { MatchOption self.failed (IsOk result) (λ e. result ≡ Err e) }
     {
-        match self.failed {
-            None => Ok(()),
-            Some(e) => Err(e),
-        }
+        self.failed.map_or(Ok(()), Err)
     }
 }
 

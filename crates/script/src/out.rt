@@ -41,10 +41,7 @@ impl<W> Out<W> {
         W: Drop,
         ensures { MatchOption self.failed (IsOk result) (λ e. result ≡ Err e) }
     {
-        match self.failed {
-            None => Ok(()),
-            Some(e) => Err(e),
-        }
+        self.failed.map_or(Ok(()), Err)
     }
 }
 

@@ -65,8 +65,8 @@ pub fn numbers<const N: usize>(s: &[u8], from: usize) -> Option<[u64; N]>
     ensures { MatchOption result (LacksNumber s.now from N) (AreNumbers s.now from) }
 {
     let mut found = [0; N];
-    for i in 0..N {
-        found[i] = number(word(s, from + i))?;
+    for (i, x) in found.iter_mut().enumerate() {
+        *x = number(word(s, from + i))?;
     }
     Some(found)
 }
@@ -83,12 +83,8 @@ pub fn bytes(w: &[u8]) -> Option<ByteString<'_>>
     ensures { MatchOption result (is_bytes w.now ≡ false)
         (λ b. (is_bytes w.now ≡ true) × (bytes_of b ≡ decoded w.now)) }
 {
-    match w {
-        [b'x', digits @ ..] if digits.len() % 2 == 0 && are_nibbles(digits) => {
-            Some(ByteString { digits })
-        }
-        _ => None,
-    }
+    let digits = w.strip_prefix(b"x")?;
+    (digits.len() % 2 == 0 && are_nibbles(digits)).then_some(ByteString { digits })
 }
 
 // Whether every byte is a lower-case hexadecimal digit.
@@ -108,16 +104,15 @@ impl ByteString<'_> {
     }
 
     // Its bytes, as many as there is room for. The answer is how many.
-    #[tactic(auto, using(crate::specs::laws::ByteLaws::length_pairs, crate::specs::laws::ByteLaws::pairs_at))]
+    #[tactic(auto, using(crate::specs::laws::ByteLaws::length_pairs))]
     pub fn decode(self, out: &mut [u8]) -> usize
         ensures count { result ≡ min (length (bytes_of self.entry)) (length out.old) }
         ensures bytes { out.new ≡ take result (bytes_of self.entry) ++ drop result out.old }
     {
         let n = self.len().min(out.len());
-        for i in 0..n {
-            let high = nibble(self.digits[2 * i]).unwrap_or(0);
-            let low = nibble(self.digits[2 * i + 1]).unwrap_or(0);
-            out[i] = high * 16 + low;
+        let (pairs, _) = self.digits.as_chunks::<2>();
+        for (i, [high, low]) in pairs[..n].iter().enumerate() {
+            out[i] = nibble(*high).unwrap_or(0) * 16 + nibble(*low).unwrap_or(0);
         }
         n
     }

@@ -1,6 +1,7 @@
 -- Laws of byte strings in words. Assumes nothing.
-use Rattle.std.specs.Prelude.{◌≡◌, refl, List, [], ◌∷◌, ℕ, zero, suc, ◌+◌, ◌*◌, ◌/◌, ◌<◌, length, get_or}
+use Rattle.std.specs.Prelude.{◌≡◌, refl, List, [], ◌∷◌, ℕ, zero, suc, ◌*◌, ◌/◌, ◌≤◌, ◌<◌, length, take, get_or}
 use Rattle.std.proofs.Common.{arith}
+use Rattle.std.specs.Simd.{first_chunks}
 use Rattle.script.specs.Words.{byte_of, pairs}
 
 -- a byte for two digits
@@ -12,13 +13,13 @@ length_pairs (a ∷ b ∷ w) =
     let e : length (pairs w) ≡ length w / 2 = length_pairs w in
     omega arith
 
-pub pairs_at : (w : List ℕ) (i : ℕ) → 2 * i + 1 < length w → get_or (pairs w) i 0 ≡ byte_of (get_or w (2 * i) 0) (get_or w (2 * i + 1) 0)
+-- each byte is that of its pair, among the first m of k pairs
+pub chunk_byte : (w : List ℕ) (k m i : ℕ) (d : List ℕ) → i < k → i < m → 2 * k ≤ length w
+    → get_or (pairs w) i 0 ≡ byte_of (get_or (get_or (take m (first_chunks 2 k w)) i d) 0 0) (get_or (get_or (take m (first_chunks 2 k w)) i d) 1 0)
 unfolding pairs
-pairs_at [] i h = absurd (omega arith)
-pairs_at (a ∷ []) i h = absurd (omega arith)
-pairs_at (a ∷ b ∷ w) zero h = refl
-pairs_at (a ∷ b ∷ w) (suc i) h =
-    let e : 2 * suc i ≡ suc (suc (2 * i)) = omega arith in
-    let f : 2 * suc i + 1 ≡ suc (suc (2 * i + 1)) = omega arith in
-    let g : 2 * i + 1 < length w = omega arith in
-    rw (f, e) (pairs_at w i g)
+chunk_byte w zero m i d h f g = absurd (omega arith)
+chunk_byte w (suc k) zero i d h f g = absurd (omega arith)
+chunk_byte [] (suc k) (suc m) i d h f g = absurd (omega arith)
+chunk_byte (a ∷ []) (suc k) (suc m) i d h f g = absurd (omega arith)
+chunk_byte (a ∷ b ∷ w) (suc k) (suc m) zero d h f g = refl
+chunk_byte (a ∷ b ∷ w) (suc k) (suc m) (suc i) d h f g = chunk_byte w k m i d (omega arith) (omega arith) (omega arith)
