@@ -7,6 +7,7 @@ pub mod Order
 pub mod Entry
 pub mod Records
 pub mod Fit
+pub mod Place
 pub mod Cut
 pub mod Read
 pub mod Slot

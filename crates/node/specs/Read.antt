@@ -13,7 +13,7 @@ use Rattle.node.specs.Fit.{flag, data_space}
 use Rattle.node.specs.declared.info.BTreeInfo.{BTreeInfo}
 use Rattle.node.specs.declared.read.Node.{Node}
 use Rattle.node.specs.declared.read.Span.{Span}
-use Rattle.node.specs.declared.read.Place.{Place}
+use Rattle.node.specs.Place.{Place}
 use Rattle.node.specs.declared.refusal.Refusal.{Refusal}
 
 -- btree_info_t, the last 40 bytes of a root
@@ -162,6 +162,11 @@ read_node o p lower upper b = do
   check refusal.entry (entries_hold p v b)
   check refusal.keys (keys_hold o p lower upper (entries_from v b 0 v.nkeys))
   ok (on_disk v b)
+
+-- what is taken of an answer that is no refusal
+abbrev pub map_ok : {A B E : Type 0} → (A → B) → std.Result A E → std.Result B E
+map_ok f (Err x) = Err x
+map_ok f (Ok a) = Ok (f a)
 
 -- what an answer of `read` means, of the block it read
 unfoldable pub read_of : List ℕ → std.Result Node Refusal → Result OnDisk

@@ -1,6 +1,5 @@
 -- A node in a slot: its words, and its entries as records.
 use Rattle.std.specs.Prelude.{List, [], ◌∷◌, ◌++◌, Bool, true, false, cond, not, ◌&&◌, ◌||◌, ℕ, ◌+◌, ◌*◌, length, get_or, take, drop, leb, eqb}
-use Rattle.seal.specs.Bytes.{window}
 use Rattle.node.specs.Order.{keyed_length}
 use Rattle.node.specs.Entry.{Entry, Val, ghost, leaf, disk, mem, every}
 use Rattle.node.specs.Records.{entries_of, records_length}
@@ -132,12 +131,12 @@ value_holds t (mem s) = true
 unfoldable pub entry_holds : ℕ → BTreeInfo → Bool → Entry → Bool
 entry_holds o t isLeaf e = key_length_holds o t (length e.key) && value_holds t e.value && suit isLeaf e
 
--- what an answer of `value_of` means, of the slot's bytes
+-- what a value means that is read, or put
 unfoldable pub child_means : Child.Child → Val
 child_means (child.Disk r) = disk r
 child_means (child.Mem s) = mem s
 
-unfoldable pub value_means : List ℕ → Held.Val → Val
-value_means l held.Ghost = ghost
-value_means l (held.Leaf at n) = leaf (window at n l)
-value_means l (held.Child c) = child_means c
+unfoldable pub value_means : Held.Val → Val
+value_means held.Ghost = ghost
+value_means (held.Leaf v) = leaf v.now
+value_means (held.Child c) = child_means c

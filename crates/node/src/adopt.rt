@@ -1,23 +1,11 @@
 // A node that was read, its entries copied into a slot as records (specs/Records.antt).
-ghost use Rattle.std.specs.Prelude.{◌≡◌, cond, ◌+◌, ◌*◌, ◌≤◌, ◌<◌, length};
+ghost use Rattle.std.specs.Prelude.{◌≡◌, ◌+◌, ◌*◌, ◌≤◌, ◌<◌, length};
 ghost use Rattle.seal.specs.Bytes.{splice};
 ghost use Rattle.node.specs.Records.{record_of, records_of, records_length, entries_of};
-ghost use Rattle.node.specs.Read.{span_at, is_ghost, span_length, entry_at, entries_from};
+ghost use Rattle.node.specs.Read.{span_at, span_length, entry_at, entries_from};
 
-use crate::read::{ReadNode, Span};
+use crate::read::ReadNode;
 use crate::{read, record};
-
-// The mark of a leaf's value.
-#[tactic(auto, unfolding(crate::specs::Read::is_ghost))]
-fn leaf_mark(s: Span) -> u64
-    ensures { result ≡ cond (is_ghost s) 0xFFFF s.vlen }
-{
-    if read::is_ghost(s) {
-        record::GHOST
-    } else {
-        s.vlen as u64
-    }
-}
 
 impl ReadNode<'_> {
     // Entry i as the record that starts at `at`; where the next starts.
@@ -29,16 +17,9 @@ impl ReadNode<'_> {
     {
         let s = self.span_at(i);
         let key = read::key_in(self.block, s);
-        if self.node.level == 0 {
-            let value = read::leaf_in(self.block, self.node, s);
-            record::put(slot, at, key, leaf_mark(s), value);
-            at + 4 + key.len() + value.len()
-        } else {
-            // A child's number has one length, so that its copy is one store.
-            let value = read::child_in(self.block, self.node, s);
-            record::put(slot, at, key, record::DISK, value);
-            at + 4 + key.len() + value.len()
-        }
+        let value = self.value_at(i);
+        record::put(slot, at, key, value);
+        at + 4 + key.len() + value.len()
     }
 
     // All entries, from the slot's start on; how many bytes their records take. The slot's entries are the node's then.

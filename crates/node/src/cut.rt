@@ -1,16 +1,16 @@
 // The cut of a node that does not fit (`split_up` of write/tree.rs).
-ghost use Rattle.std.specs.Prelude.{◌≡◌, ◌+◌, ◌≤◌, ◌<◌, ◌^◌, length, IfOk};
+ghost use Rattle.std.specs.Prelude.{◌≡◌, false, ◌+◌, ◌-◌, ◌≤◌, ◌<◌, ◌^◌, length, IfOk};
 ghost use Rattle.node.specs.Records.{records_length, entries_of};
-ghost use Rattle.node.specs.Fit.{Sized};
+ghost use Rattle.node.specs.Fit.{Sized, fits_sums};
 ghost use Rattle.node.specs.Cut.{cut, cut_means};
 ghost use Rattle.node.specs.internal.CutSteps.{left_of, further_sums, parts_fit};
 ghost use Rattle.node.specs.internal.SlotSteps.{lengths_of};
 
-use crate::fit;
 use crate::fit::Lengths;
 use crate::info::BTreeInfo;
 use crate::record::Record;
 use crate::refusal::{Refusal, check};
+use crate::room::Shape;
 use crate::slot::Records;
 
 // Where a node is cut: after its first `place` entries. The right part starts at byte `at` of the slot.
@@ -27,61 +27,51 @@ pub struct Left {
     pub lengths: Lengths,
 }
 
-// Whether the left part takes one entry more: it fits with it, and either it is at most half then, or the right part
-// does not fit yet.
-// An entry's size is unpadded and counts 8 more than key and value: 4 more than its record.
-#[tactic(auto, unfolding(crate::specs::internal::CutSteps::further_sums))]
-fn further(info: BTreeInfo, level: u64, n: usize, all: Lengths, left: Left, next: Lengths) -> bool
-    requires tree { Sized info }
-    requires counts { (left.place < n) × (n < 2 ^ 20) }
-    requires all { (all.at ≤ 2 ^ 20) × (all.keys + all.values < 2 ^ 24) }
-    requires next { (next.at ≤ 2 ^ 20) × (next.keys + next.values < 2 ^ 24) }
-    requires less { left.lengths.keys + left.lengths.values ≤ all.keys + all.values }
-    ensures { result ≡ further_sums info level n all left next }
-{
-    let more = (left.place + 1) as u64;
-    let half = (all.at as u64 + 4 * n as u64) / 2;
-    let rest = all.keys + all.values - (left.lengths.keys + left.lengths.values);
-    fit::fits_sums(info, false, level, more, next.keys + next.values)
-        && (next.at as u64 + 4 * more <= half
-            || !fit::fits_sums(info, false, level, (n - left.place) as u64, rest))
+// A node that is cut: its records, what they take, its level, and its tree's numbers.
+#[derive(Clone, Copy)]
+struct Whole<'s> {
+    records: Records<'s>,
+    info: BTreeInfo,
+    level: u64,
+    lengths: Lengths,
+    ghost sized: { Sized info },
+    ghost small: { length records.slot.now ≤ 2 ^ 20 },
+    ghost counted: { lengths ≡ lengths_of info records.count records.slot.now },
 }
 
-// Whether both parts fit.
-#[tactic(auto, unfolding(crate::specs::internal::CutSteps::parts_fit))]
-fn parts_fit(info: BTreeInfo, level: u64, n: usize, all: Lengths, left: Left) -> bool
-    requires tree { Sized info }
-    requires counts { (left.place < n) × (n < 2 ^ 20) }
-    requires sums { (all.keys + all.values < 2 ^ 24)
-        × (left.lengths.keys + left.lengths.values ≤ all.keys + all.values) }
-    ensures { result ≡ parts_fit info level n all left }
-{
-    let room = left.lengths.keys + left.lengths.values;
-    let rest = all.keys + all.values - room;
-    fit::fits_sums(info, false, level, left.place as u64, room)
-        && fit::fits_sums(info, false, level, (n - left.place) as u64, rest)
-}
-
-impl Records<'_> {
-    // The place of the cut, with what the left part takes.
-    #[tactic(auto, using(crate::specs::laws::fit::Cut::walk))]
-    fn cut_place(self, info: BTreeInfo, level: u64, all: Lengths) -> Left
-        requires tree { Sized info }
-        requires small { length self.slot.now ≤ 2 ^ 20 }
-        requires whole { (1 < self.count) × (all ≡ lengths_of info self.count self.slot.now) }
-        ensures left { result ≡ left_of info level self.entry.count self.entry.slot.now }
-        ensures less { (result.place < self.entry.count) × (result.lengths.keys + result.lengths.values ≤ all.keys + all.values) }
+impl Whole<'_> {
+    // Whether n of the entries fit whose keys and values take `room` as packed. Neither part is a root.
+    fn part_fits(self, n: u64, room: u64) -> bool
+        requires { (n < 2 ^ 32) × (room < 2 ^ 32) }
+        ensures { result ≡ fits_sums self.entry.info false self.entry.level n room }
     {
-        let n = self.count as usize;
-        let mut lengths = Lengths::NONE.longer(self.record(0), info);
+        let part = Shape {
+            info: self.info,
+            root: false,
+            level: self.level,
+        };
+        part.fits_sums(n, room)
+    }
+
+    // The left part: up to the place of the cut.
+    #[tactic(auto, using(crate::specs::laws::fit::Cut::walk))]
+    fn left(self) -> Left
+        requires { 1 < self.records.count }
+        ensures left { result ≡ left_of self.entry.info self.entry.level self.entry.records.count self.entry.records.slot.now }
+        ensures less { (result.place < self.entry.records.count)
+            × (result.lengths.keys + result.lengths.values ≤ self.entry.lengths.keys + self.entry.lengths.values) }
+    {
+        let n = self.records.count as usize;
+        let mut lengths = Lengths::NONE.longer(self.records.record(0), self.info);
         for place in 1..n - 1 {
             let r = Record {
-                slot: self.slot,
+                slot: self.records.slot,
                 at: lengths.at,
             };
-            let next = lengths.longer(r, info);
+            let next = lengths.longer(r, self.info);
             let left = Left { place, lengths };
-            if !further(info, level, n, all, left, next) {
+            let parts = Parts { whole: self, left };
+            if !parts.further(next) {
                 return left;
             }
             lengths = next;
@@ -91,22 +81,76 @@ impl Records<'_> {
             lengths,
         }
     }
+}
 
+// A node that is cut, with a left part that leaves something.
+#[derive(Clone, Copy)]
+struct Parts<'s> {
+    whole: Whole<'s>,
+    left: Left,
+    ghost fewer: { left.place < whole.records.count },
+    ghost less: { left.lengths.keys + left.lengths.values ≤ whole.lengths.keys + whole.lengths.values },
+}
+
+impl Parts<'_> {
+    // Whether the right part fits.
+    #[tactic(auto, using(crate::specs::laws::fit::Cut::whole))]
+    fn right_fits(self) -> bool
+        ensures { result ≡ fits_sums self.entry.whole.info false self.entry.whole.level
+            (self.entry.whole.records.count - self.entry.left.place)
+            (self.entry.whole.lengths.keys + self.entry.whole.lengths.values
+            - (self.entry.left.lengths.keys + self.entry.left.lengths.values)) }
+    {
+        let all = self.whole.lengths.keys + self.whole.lengths.values;
+        let taken = self.left.lengths.keys + self.left.lengths.values;
+        let count = self.whole.records.count - self.left.place as u64;
+        self.whole.part_fits(count, all - taken)
+    }
+
+    // Whether the left part takes one entry more: it fits with it, and either it is at most half then, or the right part
+    // does not fit yet.
+    // An entry's size is unpadded and counts 8 more than key and value: 4 more than its record.
+    #[tactic(auto, using(crate::specs::laws::fit::Cut::whole), unfolding(crate::specs::internal::CutSteps::further_sums))]
+    fn further(self, next: Lengths) -> bool
+        requires { (next.at ≤ 2 ^ 20) × (next.keys + next.values < 2 ^ 24) }
+        ensures { result ≡ further_sums self.entry.whole.info self.entry.whole.level self.entry.whole.records.count
+            self.entry.whole.lengths self.entry.left next }
+    {
+        let more = (self.left.place + 1) as u64;
+        let half = (self.whole.lengths.at as u64 + 4 * self.whole.records.count) / 2;
+        self.whole.part_fits(more, next.keys + next.values)
+            && (next.at as u64 + 4 * more <= half || !self.right_fits())
+    }
+
+    // Whether both parts fit.
+    #[tactic(auto, using(crate::specs::laws::fit::Cut::whole), unfolding(crate::specs::internal::CutSteps::parts_fit))]
+    fn fit(self) -> bool
+        ensures { result ≡ parts_fit self.entry.whole.info self.entry.whole.level self.entry.whole.records.count
+            self.entry.whole.lengths self.entry.left }
+    {
+        let taken = self.left.lengths.keys + self.left.lengths.values;
+        self.whole.part_fits(self.left.place as u64, taken) && self.right_fits()
+    }
+}
+
+impl Records<'_> {
     // The cut: 13 where a single entry is too large, 14 where no cut leaves two parts that fit.
     #[tactic(auto, using(crate::specs::laws::fit::Cut::cuts))]
-    pub fn cut(self, info: BTreeInfo, level: u64) -> Result<CutAt, Refusal>
-        requires tree { Sized info }
-        requires small { length self.slot.now ≤ 2 ^ 20 }
-        ensures place { cut_means result ≡ cut info level (entries_of self.entry.count self.entry.slot.now) }
+    pub fn cut(self, shape: Shape) -> Result<CutAt, Refusal>
+        requires { length self.slot.now ≤ 2 ^ 20 }
+        ensures place { cut_means result ≡ cut shape.info shape.level (entries_of self.entry.count self.entry.slot.now) }
         ensures start { IfOk result (λ c. c.at ≡ records_length c.place self.entry.slot.now) }
     {
         check(Refusal::Single, 1 < self.count)?;
-        let all = self.lengths(info);
-        let left = self.cut_place(info, level, all);
-        check(
-            Refusal::NoCut,
-            parts_fit(info, level, self.count as usize, all, left),
-        )?;
+        let whole = Whole {
+            records: self,
+            info: shape.info,
+            level: shape.level,
+            lengths: self.lengths(shape.info),
+        };
+        let left = whole.left();
+        let parts = Parts { whole, left };
+        check(Refusal::NoCut, parts.fit())?;
         Ok(CutAt {
             place: left.place,
             at: left.lengths.at,

@@ -1,12 +1,13 @@
 // Fitting: what a node's entries take as packed, and whether that is within its block (`layout` of btree_write.rs).
 ghost use Rattle.std.specs.Prelude.{◌≡◌, true, ◌+◌, ◌≤◌, ◌<◌, ◌^◌, length};
 ghost use Rattle.node.specs.Records.{records_length, entries_of};
-ghost use Rattle.node.specs.Fit.{Sized, padded, data_space, packed_length, fits_sums, fits};
+ghost use Rattle.node.specs.Fit.{padded, packed_length, fits_sums, fits};
 ghost use Rattle.node.specs.internal.SlotSteps.{lengths_of, longer_of};
 
 use crate::info::BTreeInfo;
 use crate::record::Record;
 use crate::room;
+use crate::room::Shape;
 use crate::slot::Records;
 
 // What the first records of a slot take.
@@ -64,57 +65,50 @@ impl Records<'_> {
     // Whether the entries fit, which take `used` bytes in the slot. Padding adds at most 7 bytes to a key and 7 to a
     // value, and a record's head has 4: where there is room for so much, their lengths need not be looked at.
     #[tactic(auto, using(crate::specs::laws::fit::Fit::fitting))]
-    pub fn fits(self, used: u64, info: BTreeInfo, root: bool, level: u64) -> bool
-        requires sized { Sized info × (length self.slot.now ≤ 2 ^ 20) }
+    pub fn fits(self, used: u64, shape: Shape) -> bool
+        requires small { length self.slot.now ≤ 2 ^ 20 }
         requires used { used ≡ records_length self.count self.slot.now }
-        ensures { result ≡ fits info root level (entries_of self.entry.count self.entry.slot.now) }
+        ensures { result ≡ fits shape.info shape.root shape.level (entries_of self.entry.count self.entry.slot.now) }
     {
-        let most = used + 10 * self.count;
-        if fits_sums(info, root, level, self.count, most) {
+        if shape.fits_sums(self.count, used + 10 * self.count) {
             return true;
         }
-        let s = self.lengths(info);
-        fits_sums(info, root, level, self.count, s.keys + s.values)
+        let s = self.lengths(shape.info);
+        shape.fits_sums(self.count, s.keys + s.values)
     }
 
     // What the entries take as packed: contents, keys and values.
     #[tactic(auto, using(crate::specs::laws::fit::Fit::packing))]
-    pub fn packed_length(self, info: BTreeInfo, root: bool, level: u64) -> u64
-        requires { Sized info × (length self.slot.now ≤ 2 ^ 20) }
-        ensures { (result ≡ packed_length info root level (entries_of self.entry.count self.entry.slot.now)) × (result < 2 ^ 40) }
+    pub fn packed_length(self, shape: Shape) -> u64
+        requires { length self.slot.now ≤ 2 ^ 20 }
+        ensures { (result ≡ packed_length shape.info shape.root shape.level (entries_of self.entry.count self.entry.slot.now))
+            × (result < 2 ^ 40) }
     {
-        let s = self.lengths(info);
-        let toc = room::toc_length(info, root, level, self.count);
+        let s = self.lengths(shape.info);
+        let toc = shape.toc_length(self.count);
         toc + (s.keys + s.values)
     }
 }
 
-// Whether n entries fit whose keys and values take `room` as packed.
-#[tactic(auto, unfolding(crate::specs::Fit::fits_sums))]
-pub fn fits_sums(info: BTreeInfo, root: bool, level: u64, n: u64, room: u64) -> bool
-    requires { Sized info × (n < 2 ^ 32) × (room < 2 ^ 32) }
-    ensures { result ≡ fits_sums info root level n room }
-{
-    n <= room::toc_slots(info, root, level, n)
-        && room::toc_length(info, root, level, n) + room <= room::data_space(info.node_size, root)
-}
+impl Shape {
+    // Whether n entries fit whose keys and values take `room` as packed.
+    #[tactic(auto, unfolding(crate::specs::Fit::fits_sums))]
+    pub fn fits_sums(self, n: u64, room: u64) -> bool
+        requires { (n < 2 ^ 32) × (room < 2 ^ 32) }
+        ensures { result ≡ fits_sums self.info self.root self.level n room }
+    {
+        n <= self.toc_slots(n) && self.toc_length(n) + room <= self.data_space()
+    }
 
-// Whether a root over two children fits whose keys have a and b bytes.
-pub fn fits_two(info: BTreeInfo, level: u64, a: u64, b: u64) -> bool
-    requires { Sized info × (a < 2 ^ 20) × (b < 2 ^ 20) }
-    ensures { result ≡ fits_sums info true level 2 (padded info a + padded info b + (padded info 8 + padded info 8)) }
-{
-    let left = room::padded(info, a);
-    let right = room::padded(info, b);
-    let child = room::padded(info, 8);
-    fits_sums(info, true, level, 2, left + right + (child + child))
-}
-
-// The data space of a root.
-#[tactic(auto, unfolding(crate::specs::Fit::data_space))]
-pub fn root_space(info: BTreeInfo) -> u64
-    requires { Sized info }
-    ensures { (result ≡ data_space info.node_size true) × (0 < result) }
-{
-    room::data_space(info.node_size, true)
+    // Whether two children fit whose keys have a and b bytes.
+    pub fn fits_two(self, a: u64, b: u64) -> bool
+        requires { (a < 2 ^ 20) × (b < 2 ^ 20) }
+        ensures { result ≡ fits_sums self.info self.root self.level 2
+            (padded self.info a + padded self.info b + (padded self.info 8 + padded self.info 8)) }
+    {
+        let left = room::padded(self.info, a);
+        let right = room::padded(self.info, b);
+        let child = room::padded(self.info, 8);
+        self.fits_sums(2, left + right + (child + child))
+    }
 }

@@ -1,7 +1,7 @@
 // The words of a slot: what is known of its node beside its entries (`MemNode` of write/tree.rs).
-ghost use Rattle.std.specs.Prelude.{◌≡◌, ◌+◌, ◌*◌, ◌≤◌, length};
+ghost use Rattle.std.specs.Prelude.{◌≡◌, ◌+◌, ◌*◌, ◌≤◌, length, option_to_list};
 ghost use Rattle.seal.specs.Bytes.{splice};
-ghost use Rattle.node.specs.Slot.{head_at, head_words};
+ghost use Rattle.node.specs.Slot.{head_at, head_words, marked};
 ghost use Rattle.node.specs.internal.SlotSteps.{read_head};
 
 use crate::read::Node;
@@ -79,5 +79,21 @@ impl Head {
         heads[a + 6] = self.id;
         heads[a + 7] = self.dirty;
         heads[a + 8] = self.dead;
+    }
+
+    // The node's block, if it has one.
+    #[tactic(auto, using(crate::specs::laws::slot::Head::marked_is))]
+    pub fn block(self) -> Option<u64>
+        ensures { option_to_list result ≡ marked self.placed self.block }
+    {
+        (self.placed == 1).then_some(self.block)
+    }
+
+    // Its id, if it has one.
+    #[tactic(auto, using(crate::specs::laws::slot::Head::marked_is))]
+    pub fn id(self) -> Option<u64>
+        ensures { option_to_list result ≡ marked self.named self.id }
+    {
+        (self.named == 1).then_some(self.id)
     }
 }

@@ -13,6 +13,7 @@ use crate::build::NodeBuild;
 use crate::head::HEAD_WORDS;
 use crate::info::BTreeInfo;
 use crate::record::Record;
+use crate::room::Shape;
 use crate::slot::Records;
 use crate::{layout, record, room};
 use seal::obj::ObjHeader;
@@ -281,8 +282,13 @@ fn fill(block: &mut [u8], from: Packed, b: NodeBuild)
     let t = b.info;
     let n = from.records.count;
     let size = t.node_size as usize;
-    let space = room::data_space(t.node_size, b.root) as usize;
-    let toc = room::toc_length(t, b.root, b.level, n) as usize;
+    let shape = Shape {
+        info: t,
+        root: b.root,
+        level: b.level,
+    };
+    let space = shape.data_space() as usize;
+    let toc = shape.toc_length(n) as usize;
     bytes::clear(block, 0, size);
     let areas = Areas {
         info: t,

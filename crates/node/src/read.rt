@@ -1,11 +1,12 @@
 // A node's block, read (`Node` of btree.rs). The bytes stay in the block.
-ghost use Rattle.std.specs.Prelude.{◌≡◌, true, not, ◌&&◌, ◌||◌, ◌+◌, ◌-◌, ◌≤◌, ◌<◌, ◌^◌, length};
+ghost use Rattle.std.specs.Prelude.{◌≡◌, true, not, ◌&&◌, ◌||◌, ◌+◌, ◌-◌, ◌≤◌, ◌<◌, ◌^◌, length, is_some, IfOk};
 ghost use Rattle.seal.specs.Bytes.{window};
 ghost use Rattle.node.specs.Obj.{is_node};
-ghost use Rattle.node.specs.Order.{less, keyed};
-ghost use Rattle.node.specs.Entry.{disk, value_bytes};
+ghost use Rattle.node.specs.Order.{keyed};
+ghost use Rattle.node.specs.Entry.{disk};
 ghost use Rattle.node.specs.Slot.{value_means};
-ghost use Rattle.node.specs.Read.{parsed, is_fixed, flags_hold, layout_holds, span_at, is_ghost, span_holds, span_length, entries_hold, value_at, entry_at, entries_from, in_bounds, keys_rise, keys_within, read_node, read_of};
+ghost use Rattle.node.specs.Place.{place_of, lent_key};
+ghost use Rattle.node.specs.Read.{parsed, is_fixed, flags_hold, layout_holds, span_at, is_ghost, span_holds, span_length, entries_hold, entry_at, entries_from, in_bounds, keys_rise, keys_within, read_node, read_of, map_ok};
 ghost use Rattle.node.specs.internal.ReadSteps.{Laid, Sound};
 ghost use Rattle.node.specs.laws.base.Bytes.{Bytes};
 
@@ -50,9 +51,8 @@ pub struct Span {
 }
 
 // Where a node is to stand in its tree.
-// The bounds stand beside it and not in it as Options: definitions make a place of numbers, and compare and keep it.
 #[derive(Clone, Copy)]
-pub struct Place {
+pub struct Place<'b> {
     pub root: bool,
     // The id wanted: of a physical node its address.
     pub oid: u64,
@@ -61,16 +61,52 @@ pub struct Place {
     // The tree's fixed lengths. A root has its own.
     pub ksize: u64,
     pub vsize: u64,
-    // Whether there is an upper bound: a last child of last children has none.
-    pub bounded: bool,
+    // The bounds of its keys: the lower one, which a root has not, and the upper one, which a last child of last children
+    // has not.
+    pub lower: Option<&'b [u8]>,
+    pub upper: Option<&'b [u8]>,
+}
+
+// The key of a bound; nothing where there is none.
+fn bound_key(bound: Option<&[u8]>) -> &[u8]
+    ensures { result.now ≡ lent_key bound.entry }
+{
+    match bound {
+        Some(key) => key,
+        None => &[],
+    }
+}
+
+impl Place<'_> {
+    // Not below the lower bound, which a root has not, and below the upper, if there is one.
+    #[tactic(auto, unfolding(crate::specs::Read::in_bounds))]
+    fn bounds(self, order: Order, key: &[u8]) -> bool
+        ensures { result ≡ in_bounds order.code (place_of self.entry) (lent_key self.entry.lower) (lent_key self.entry.upper) key.now }
+    {
+        (self.root || !order.less(key, bound_key(self.lower)))
+            && (self.upper.is_none() || order.less(key, bound_key(self.upper)))
+    }
+
+    // Whether each bound that is looked at is one of the order's keys.
+    #[tactic(auto, unfolding(crate::specs::Order::keyed))]
+    fn bounds_are_keys(self, order: Order) -> bool
+        ensures keys { result ≡ ((self.entry.root || keyed order.code (lent_key self.entry.lower))
+            && (not (is_some self.entry.upper) || keyed order.code (lent_key self.entry.upper))) }
+        ensures bytes { Bytes (lent_key self.entry.lower) × Bytes (lent_key self.entry.upper) }
+    {
+        let lower = bound_key(self.lower);
+        let upper = bound_key(self.upper);
+        (self.root || order.keyed(lower.len()))
+            && (self.upper.is_none() || order.keyed(upper.len()))
+    }
 }
 
 impl Node {
     // The header's fields and the places that follow from them; nothing is checked.
     #[tactic(auto, unfolding(crate::specs::Read::parsed))]
-    pub fn parse(block: &[u8], place: Place) -> Node
+    pub fn parse(block: &[u8], place: Place<'_>) -> Node
         requires { 512 ≤ length block.now }
-        ensures { (result ≡ parsed place block.now)
+        ensures { (result ≡ parsed (place_of place.entry) block.now)
             × (result.flags < 2 ^ 16) × (result.level < 2 ^ 16) × (result.nkeys < 2 ^ 32)
             × (result.toc ≤ result.keys) × (result.vals ≤ length block.now) }
     {
@@ -109,8 +145,8 @@ impl Node {
 
 // Root, leaf and fixed flags against the node's place.
 #[tactic(auto, unfolding(crate::specs::Read::flags_hold))]
-fn flags_hold(place: Place, node: Node) -> bool
-    ensures { result ≡ flags_hold place node }
+fn flags_hold(place: Place<'_>, node: Node) -> bool
+    ensures { result ≡ flags_hold (place_of place.entry) node }
 {
     layout::flag(node.flags, layout::BTNODE_LEAF) == (node.level == 0)
         && layout::flag(node.flags, layout::BTNODE_ROOT) == place.root
@@ -119,9 +155,9 @@ fn flags_hold(place: Place, node: Node) -> bool
 
 // 6 of the load line.
 #[tactic(auto, unfolding(crate::specs::Read::layout_holds))]
-fn layout_holds(place: Place, node: Node) -> bool
+fn layout_holds(place: Place<'_>, node: Node) -> bool
     requires { (node.nkeys < 2 ^ 32) × (node.toc ≤ node.keys) }
-    ensures { result ≡ layout_holds place node }
+    ensures { result ≡ layout_holds (place_of place.entry) node }
 {
     let width = if node.is_fixed() { 4 } else { 8 };
     node.keys <= node.vals
@@ -198,10 +234,10 @@ fn span_length(node: Node, size: usize, s: Span) -> usize
 
 // 8 of the load line, in one pass: it ends at the first entry that is wrong or makes the sum too long.
 #[tactic(auto, using(crate::specs::laws::read::Read::entries))]
-fn entries_hold(block: &[u8], node: Node, place: Place) -> bool
+fn entries_hold(block: &[u8], node: Node, place: Place<'_>) -> bool
     requires laid { Laid node (length block.now) }
     requires in_bounds { 512 ≤ length block.now }
-    ensures { result ≡ entries_hold place node block.now }
+    ensures { result ≡ entries_hold (place_of place.entry) node block.now }
 {
     let n = node.nkeys as usize;
     if n == 0 {
@@ -231,71 +267,6 @@ pub fn key_in(block: &[u8], s: Span) -> &[u8]
     &block[s.key..s.key + s.klen]
 }
 
-// The bytes of a leaf's value, of an entry that lies in the block; a ghost has none.
-#[tactic(auto, using(crate::specs::laws::read::Adopt::leaf_bytes))]
-pub fn leaf_in(block: &[u8], node: Node, s: Span) -> &[u8]
-    requires { (span_holds node (length block.now) s ≡ true) × (node.level ≡ 0) }
-    ensures { result.now ≡ value_bytes (value_at node block.now s) }
-{
-    if is_ghost(s) {
-        &block[..0]
-    } else {
-        let start = node.vals - s.voff;
-        &block[start..start + s.vlen]
-    }
-}
-
-// The eight bytes of a child's number, of an entry that lies in the block.
-#[tactic(auto, using(crate::specs::laws::read::Adopt::child_bytes))]
-pub fn child_in(block: &[u8], node: Node, s: Span) -> &[u8]
-    requires { (span_holds node (length block.now) s ≡ true) × (1 ≤ node.level) }
-    ensures { result.now ≡ value_bytes (value_at node block.now s) }
-{
-    let start = node.vals - s.voff;
-    &block[start..start + 8]
-}
-
-// Whether one entry's key is below another's.
-fn key_less(block: &[u8], order: Order, a: Span, b: Span) -> bool
-    requires { (a.key + a.klen ≤ length block.now) × (b.key + b.klen ≤ length block.now) }
-    ensures { result ≡ less order.code (window a.key a.klen block.now)
-        (window b.key b.klen block.now) }
-{
-    order.less(key_in(block, a), key_in(block, b))
-}
-
-// What a node's keys are held against: its place, and the bounds that go with it.
-#[derive(Clone, Copy)]
-struct Bounds<'a> {
-    order: Order,
-    place: Place,
-    lower: &'a [u8],
-    upper: &'a [u8],
-    ghost bytes: { Bytes lower.now × Bytes upper.now },
-}
-
-impl Bounds<'_> {
-    // Not below the lower bound, which a root has not, and below the upper, if there is one.
-    #[tactic(auto, unfolding(crate::specs::Read::in_bounds))]
-    fn hold(self, key: &[u8]) -> bool
-        ensures { result ≡ in_bounds self.entry.order.code self.entry.place
-            self.entry.lower.now self.entry.upper.now key.now }
-    {
-        (self.place.root || !self.order.less(key, self.lower))
-            && (!self.place.bounded || self.order.less(key, self.upper))
-    }
-
-    // Whether each bound that is looked at is one of the order's keys.
-    #[tactic(auto, unfolding(crate::specs::Order::keyed))]
-    fn are_keys(self) -> bool
-        ensures { result ≡ ((self.entry.place.root || keyed self.entry.order.code self.entry.lower.now)
-            && (not self.entry.place.bounded || keyed self.entry.order.code self.entry.upper.now)) }
-    {
-        (self.place.root || self.order.keyed(self.lower.len()))
-            && (!self.place.bounded || self.order.keyed(self.upper.len()))
-    }
-}
-
 // A node that was read, in its block, in which its entries lie.
 #[derive(Clone, Copy)]
 pub struct ReadNode<'b> {
@@ -305,13 +276,22 @@ pub struct ReadNode<'b> {
     ghost sound: { Sound node block.now },
 }
 
-impl ReadNode<'_> {
+impl<'b> ReadNode<'b> {
     // Entry i of the contents.
     pub fn span_at(self, i: usize) -> Span
         requires { i < self.node.nkeys }
         ensures { result ≡ span_at self.entry.node self.entry.block.now i }
     {
         span_at(self.block, self.node, i)
+    }
+
+    // The key of entry i.
+    #[tactic(auto, using(crate::specs::laws::read::Keys::sound_key, crate::specs::laws::read::Keys::key_of))]
+    pub fn key_at(self, i: usize) -> &'b [u8]
+        requires { i < self.node.nkeys }
+        ensures { result.now ≡ (entry_at self.entry.node self.entry.block.now i).key }
+    {
+        key_in(self.block, self.span_at(i))
     }
 
     // Of 9 of the load line: keys that the order can hold, and that rise.
@@ -323,30 +303,29 @@ impl ReadNode<'_> {
         if n == 0 {
             return true;
         }
-        let mut last = self.span_at(0);
-        if !order.keyed(last.klen) {
+        let mut last = self.key_at(0);
+        if !order.keyed(last.len()) {
             return false;
         }
         for i in 1..n {
-            let s = self.span_at(i);
-            if !order.keyed(s.klen) || !key_less(self.block, order, last, s) {
+            let key = self.key_at(i);
+            if !order.keyed(key.len()) || !order.less(last, key) {
                 return false;
             }
-            last = s;
+            last = key;
         }
         true
     }
 
     // Whether the keys of the entries from one to another, the last left out, are within the bounds.
     #[tactic(auto, using(crate::specs::laws::read::Keys::bound))]
-    fn within(self, bounds: Bounds, from: usize, to: usize) -> bool
+    fn within(self, order: Order, place: Place<'_>, from: usize, to: usize) -> bool
         requires { (from ≤ to) × (to ≤ self.node.nkeys) }
-        ensures { result ≡ keys_within bounds.entry.order.code bounds.entry.place
-            bounds.entry.lower.now bounds.entry.upper.now (entries_from self.entry.node self.entry.block.now from (to - from)) }
+        ensures { result ≡ keys_within order.code (place_of place.entry) (lent_key place.entry.lower) (lent_key place.entry.upper)
+            (entries_from self.entry.node self.entry.block.now from (to - from)) }
     {
         for i in from..to {
-            let s = self.span_at(i);
-            if !bounds.hold(key_in(self.block, s)) {
+            if !place.bounds(order, self.key_at(i)) {
                 return false;
             }
         }
@@ -356,27 +335,27 @@ impl ReadNode<'_> {
     // Of 9 of the load line: keys within the bounds. Of keys that rise the first and the last speak for all, if the bounds
     // are keys too.
     #[tactic(auto, using(crate::specs::laws::read::Keys::bounds))]
-    fn bounds_hold(self, bounds: Bounds) -> bool
-        requires { keys_rise bounds.order.code (entries_from self.node self.block.now 0 self.node.nkeys) ≡ true }
-        ensures { result ≡ keys_within bounds.entry.order.code bounds.entry.place
-            bounds.entry.lower.now bounds.entry.upper.now (entries_from self.entry.node self.entry.block.now 0 self.entry.node.nkeys) }
+    fn bounds_hold(self, order: Order, place: Place<'_>) -> bool
+        requires { keys_rise order.code (entries_from self.node self.block.now 0 self.node.nkeys) ≡ true }
+        ensures { result ≡ keys_within order.code (place_of place.entry) (lent_key place.entry.lower) (lent_key place.entry.upper)
+            (entries_from self.entry.node self.entry.block.now 0 self.entry.node.nkeys) }
     {
         let n = self.node.nkeys as usize;
         if n == 0 {
             return true;
         }
-        if bounds.are_keys() {
-            self.within(bounds, 0, 1) && self.within(bounds, n - 1, n)
+        if place.bounds_are_keys(order) {
+            self.within(order, place, 0, 1) && self.within(order, place, n - 1, n)
         } else {
-            self.within(bounds, 0, n)
+            self.within(order, place, 0, n)
         }
     }
 
-    // The value of entry i, in place: where a leaf's bytes lie in the block, or the child's number.
+    // The value of entry i, in place: a leaf's bytes in the block, or the child's number.
     #[tactic(auto, using(crate::specs::laws::read::Keys::value))]
-    pub fn value_at(self, i: usize) -> Val
+    pub fn value_at(self, i: usize) -> Val<'b>
         requires { i < self.node.nkeys }
-        ensures { value_means self.entry.block.now result ≡ (entry_at self.entry.node self.entry.block.now i).value }
+        ensures { value_means result ≡ (entry_at self.entry.node self.entry.block.now i).value }
     {
         let s = self.span_at(i);
         if is_ghost(s) {
@@ -384,7 +363,7 @@ impl ReadNode<'_> {
         }
         let start = self.node.vals - s.voff;
         if self.node.level == 0 {
-            Val::Leaf(start, s.vlen)
+            Val::Leaf(&self.block[start..start + s.vlen])
         } else {
             Val::Child(Child::Disk(bytes::field_at::<8>(self.block, start)))
         }
@@ -415,16 +394,15 @@ fn is_node(otype: u64) -> bool
 
 // The load line from 3 to 9.
 #[tactic(auto, unfolding(crate::specs::Read::read_node, crate::specs::Read::read_of, crate::specs::Read::keys_hold))]
-pub fn read_node(
-    block: &[u8],
+pub fn read_node<'b>(
+    block: &'b [u8],
     order: Order,
-    place: Place,
-    lower: &[u8],
-    upper: &[u8],
-) -> Result<Node, Refusal>
+    place: Place<'_>,
+) -> Result<ReadNode<'b>, Refusal>
     requires { (512 ≤ length block.now) × (length block.now ≤ 65536) }
-    ensures { read_of block.now result
-        ≡ read_node order.code place lower.now upper.now block.now }
+    ensures answer { read_of block.now (map_ok (λ r. r.node) result)
+        ≡ read_node order.code (place_of place.entry) (lent_key place.entry.lower) (lent_key place.entry.upper) block.now }
+    ensures block { IfOk result (λ r. r.block.now ≡ block.now) }
 {
     check(Refusal::Fletcher, checksum::verify(block))?;
     let node = Node::parse(block, place);
@@ -438,12 +416,6 @@ pub fn read_node(
     check(Refusal::Entry, entries_hold(block, node, place))?;
     let read = ReadNode { block, node };
     check(Refusal::Keys, read.keys_rise(order))?;
-    let bounds = Bounds {
-        order,
-        place,
-        lower,
-        upper,
-    };
-    check(Refusal::Keys, read.bounds_hold(bounds))?;
-    Ok(node)
+    check(Refusal::Keys, read.bounds_hold(order, place))?;
+    Ok(read)
 }

@@ -29,32 +29,10 @@ pub fn padded(info: BTreeInfo, n: u64) -> u64
 #[tactic(auto, unfolding(crate::specs::Fit::data_space))]
 pub fn data_space(node_size: u64, root: bool) -> u64
     requires { 512 ≤ node_size }
-    ensures { (result ≡ data_space node_size root) × (result ≤ node_size) }
+    ensures { (result ≡ data_space node_size root) × (0 < result) × (result ≤ node_size) }
 {
     let tail = if root { layout::BTREE_INFO_SIZE } else { 0 };
     node_size - (layout::BTN_DATA + tail) as u64
-}
-
-// The fixed length of a value at a level.
-#[tactic(auto, unfolding(crate::specs::Fit::fixed_value))]
-fn fixed_value(info: BTreeInfo, level: u64) -> u64
-    requires { Sized info }
-    ensures { (result ≡ fixed_value info level) × (result < 2 ^ 32) }
-{
-    if level == 0 { info.val_size } else { 8 }
-}
-
-#[tactic(auto, unfolding(crate::specs::Fit::toc_slots, crate::specs::Fit::greater))]
-pub fn toc_slots(info: BTreeInfo, root: bool, level: u64, n: u64) -> u64
-    requires { Sized info × (n < 2 ^ 32) }
-    ensures { (result ≡ toc_slots info root level n) × (result < 2 ^ 33) }
-{
-    if info.is_fixed() {
-        let space = data_space(info.node_size, root);
-        align8(space / (4 + info.key_size + fixed_value(info, level)))
-    } else {
-        align8(n).max(16)
-    }
 }
 
 // A contents slot: offsets alone where lengths are fixed (`kvoff_t`), else offsets and lengths (`kvloc_t`).
@@ -65,10 +43,53 @@ pub fn slot_width(info: BTreeInfo) -> u64
     if info.is_fixed() { 4 } else { 8 }
 }
 
-#[tactic(auto, unfolding(crate::specs::Fit::toc_length))]
-pub fn toc_length(info: BTreeInfo, root: bool, level: u64, n: u64) -> u64
-    requires { Sized info × (n < 2 ^ 32) }
-    ensures { (result ≡ toc_length info root level n) × (result < 2 ^ 36) }
-{
-    toc_slots(info, root, level, n) * slot_width(info)
+// What says how much a node holds: its tree's numbers, which the code can compute with, whether it is the root, and its
+// level.
+#[derive(Clone, Copy)]
+pub struct Shape {
+    pub info: BTreeInfo,
+    pub root: bool,
+    pub level: u64,
+    ghost sized: { Sized info },
+}
+
+impl Shape {
+    // The fixed length of a value.
+    #[tactic(auto, unfolding(crate::specs::Fit::fixed_value))]
+    fn fixed_value(self) -> u64
+        ensures { (result ≡ fixed_value self.info self.level) × (result < 2 ^ 32) }
+    {
+        if self.level == 0 {
+            self.info.val_size
+        } else {
+            8
+        }
+    }
+
+    pub fn data_space(self) -> u64
+        ensures { (result ≡ data_space self.info.node_size self.root) × (result ≤ self.info.node_size) }
+    {
+        data_space(self.info.node_size, self.root)
+    }
+
+    // Slots of the contents of n entries.
+    #[tactic(auto, unfolding(crate::specs::Fit::toc_slots, crate::specs::Fit::greater))]
+    pub fn toc_slots(self, n: u64) -> u64
+        requires { n < 2 ^ 32 }
+        ensures { (result ≡ toc_slots self.info self.root self.level n) × (result < 2 ^ 33) }
+    {
+        if self.info.is_fixed() {
+            align8(self.data_space() / (4 + self.info.key_size + self.fixed_value()))
+        } else {
+            align8(n).max(16)
+        }
+    }
+
+    #[tactic(auto, unfolding(crate::specs::Fit::toc_length))]
+    pub fn toc_length(self, n: u64) -> u64
+        requires { n < 2 ^ 32 }
+        ensures { (result ≡ toc_length self.info self.root self.level n) × (result < 2 ^ 36) }
+    {
+        self.toc_slots(n) * slot_width(self.info)
+    }
 }

@@ -4,11 +4,11 @@ ghost use Rattle.node.specs.Read.{entries_from};
 ghost use Rattle.node.specs.Find.{not_above};
 
 use crate::order::Order;
-use crate::read;
 use crate::read::ReadNode;
 
 impl ReadNode<'_> {
     // How many leading entries have a key that is not above a key.
+    #[tactic(auto, using(crate::specs::laws::read::Search::search))]
     pub fn not_above(self, order: Order, key: &[u8]) -> u64
         ensures { (result ≡ not_above order.code key.now
             (entries_from self.entry.node self.entry.block.now 0 self.entry.node.nkeys))
@@ -16,8 +16,7 @@ impl ReadNode<'_> {
     {
         let n = self.node.nkeys;
         for i in 0..n {
-            let s = self.span_at(i as usize);
-            if order.less(key, read::key_in(self.block, s)) {
+            if order.less(key, self.key_at(i as usize)) {
                 return i;
             }
         }

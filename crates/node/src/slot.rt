@@ -2,15 +2,17 @@
 // (`MemNode`'s keys and vals of write/tree.rs). Each function is lent one slot's bytes, so no other slot is touched.
 ghost use Rattle.std.specs.Prelude.{◌≡◌, true, ℕ, ◌+◌, ◌-◌, ◌≤◌, ◌<◌, ◌^◌, length, drop};
 ghost use Rattle.node.specs.Entry.{value_length};
-ghost use Rattle.node.specs.Records.{mark_length, value_of, record_length, entry_of, records_length, entries_of};
-ghost use Rattle.node.specs.Slot.{insert_at, remove_at, with_key, with_value, records_hold, is_child};
-ghost use Rattle.node.specs.internal.SlotSteps.{child_of, found_in, last_in};
+ghost use Rattle.node.specs.Records.{record_length, entry_of, records_length, entries_of};
+ghost use Rattle.node.specs.Slot.{insert_at, remove_at, with_key, with_value, records_hold, is_child, child_means, value_means};
+ghost use Rattle.node.specs.internal.SlotSteps.{found_in, last_in};
+ghost use Rattle.node.specs.internal.Storable.{Held};
 ghost use Rattle.node.specs.internal.Sought.{Passed};
 
 use crate::order::Order;
 use crate::record;
 use crate::record::Record;
 use crate::sought::{ByteKey, PairKey, Sought};
+use crate::val::{Child, Val};
 use seal::bytes;
 
 // Where a key's place is among n records: the entries before it, its offset, and whether the entry there has the key.
@@ -36,23 +38,6 @@ pub struct Run {
     pub last: usize,
 }
 
-// A record's key length and mark, the length of a value that has the mark, and how long a record is that has both.
-#[derive(Clone, Copy)]
-pub struct Like {
-    pub klen: u64,
-    pub mark: u64,
-    pub vlen: usize,
-    pub len: usize,
-}
-
-// What a walk over records begins with: a record of no key and no value.
-const BARE: Like = Like {
-    klen: 0,
-    mark: 0,
-    vlen: 0,
-    len: 4,
-};
-
 // n records at the start of a slot, which lie within it.
 #[derive(Clone, Copy)]
 pub struct Records<'s> {
@@ -67,17 +52,11 @@ impl<'s> Records<'s> {
         requires { i ≤ self.count }
         ensures { result ≡ records_length i self.entry.slot.now }
     {
-        let mut at = 0;
-        let mut like = BARE;
-        for _k in 0..i {
-            let r = Record {
-                slot: self.slot,
-                at,
-            };
-            like = like_at(r, like);
-            at += like.len;
+        let mut walk = self.walk();
+        for _ in 0..i {
+            walk.next();
         }
-        at
+        walk.at
     }
 
     // Record i.
@@ -97,22 +76,16 @@ impl<'s> Records<'s> {
         ensures { result ≡ found_in S.order (S.wanted s.now) self.entry.count self.entry.slot.now }
     {
         let mut at = run.at;
-        let mut like = BARE;
-        for i in run.count..self.count {
-            let r = Record {
-                slot: self.slot,
-                at,
-            };
+        for (i, r) in self.walk_from(run.count, run.at) {
             let c = s.compare(r);
             if !c.is_lt() {
                 return Found {
                     index: i,
-                    at,
+                    at: r.at,
                     found: c.is_eq(),
                 };
             }
-            like = like_at(r, like);
-            at += like.len;
+            at = r.next();
         }
         Found {
             index: self.count,
@@ -126,20 +99,12 @@ impl<'s> Records<'s> {
         requires { Passed S.order (S.wanted s.now) self.count self.slot.now run }
         ensures { result ≡ last_in S.order (S.wanted s.now) self.entry.count self.entry.slot.now }
     {
-        let mut at = run.at;
         let mut last = run.last;
-        let mut like = BARE;
-        for i in run.count..self.count {
-            let r = Record {
-                slot: self.slot,
-                at,
-            };
+        for (i, r) in self.walk_from(run.count, run.at) {
             if s.compare(r).is_gt() {
                 return Last { count: i, at: last };
             }
-            last = at;
-            like = like_at(r, like);
-            at += like.len;
+            last = r.at;
         }
         Last {
             count: self.count,
@@ -186,36 +151,6 @@ pub fn records_hold(slot: &[u8], n: u64, used: u64) -> bool
     at as u64 == used
 }
 
-// The length of a record. Where records follow each other that have one mark, none waits for the choice by
-// the mark; where they have one head, none waits for the length of the one before.
-#[tactic(auto, using(crate::specs::laws::slot::SameHead::like))]
-fn like_at(r: Record<'_>, last: Like) -> Like
-    requires { (last.vlen ≡ mark_length last.mark) × (last.len ≡ 4 + last.klen + last.vlen) }
-    ensures long { (result.len ≡ record_length (drop r.entry.at r.entry.slot.now))
-        × (r.entry.at + result.len ≤ length r.entry.slot.now) }
-    ensures like { (result.vlen ≡ mark_length result.mark) × (result.len ≡ 4 + result.klen + result.vlen) }
-{
-    let klen = r.klen();
-    let mark = r.mark();
-    if mark != last.mark {
-        let vlen = record::mark_length(mark);
-        return Like {
-            klen,
-            mark,
-            vlen,
-            len: 4 + klen as usize + vlen,
-        };
-    }
-    if klen != last.klen {
-        return Like {
-            klen,
-            len: 4 + klen as usize + last.vlen,
-            ..last
-        };
-    }
-    last
-}
-
 // A record put before record i. The answer of this and the next three is the bytes in use after it.
 pub fn insert(
     slot: &mut [u8],
@@ -224,22 +159,19 @@ pub fn insert(
     used: usize,
     at: usize,
     key: &[u8],
-    mark: u64,
-    value: &[u8],
+    value: Val<'_>,
 ) -> usize
     requires place { (used ≡ records_length n slot.old) × (at ≡ records_length i slot.old) × (i ≤ n) }
-    requires room { used + 4 + length key.now + length value.now ≤ length slot.old }
-    requires stored { (length key.now < 2 ^ 16) × (mark < 2 ^ 16) × (mark_length mark ≡ length value.now) }
-    ensures used { (result ≡ used + 4 + length key.now + length value.now)
-        × (records_length (n + 1) slot.new
-        ≡ used + 4 + length key.now + length value.now) }
+    requires room { used + 4 + length key.now + value_length (value_means value) ≤ length slot.old }
+    requires stored { (length key.now < 2 ^ 16) × Held (value_means value) }
+    ensures used { (result ≡ used + 4 + length key.now + value_length (value_means value.entry))
+        × (records_length (n + 1) slot.new ≡ result) }
     ensures entries { entries_of (n + 1) slot.new
-        ≡ insert_at i (record { key = key.now; value = value_of mark value.now })
-        (entries_of n slot.old) }
+        ≡ insert_at i (record { key = key.now; value = value_means value.entry }) (entries_of n slot.old) }
 {
     let next = at + 4 + key.len() + value.len();
     bytes::shift(slot, at, next, used - at);
-    record::put(slot, at, key, mark, value);
+    record::put(slot, at, key, value);
     next + (used - at)
 }
 
@@ -276,47 +208,37 @@ pub fn set_key(slot: &mut [u8], n: u64, i: u64, used: usize, at: usize, key: &[u
 }
 
 // Record i with another value.
-pub fn set_value(
-    slot: &mut [u8],
-    n: u64,
-    i: u64,
-    used: usize,
-    at: usize,
-    mark: u64,
-    value: &[u8],
-) -> usize
+pub fn set_value(slot: &mut [u8], n: u64, i: u64, used: usize, at: usize, value: Val<'_>) -> usize
     requires place { (used ≡ records_length n slot.old) × (at ≡ records_length i slot.old) × (i < n) }
-    requires room { used + length value.now ≤ length slot.old }
-    requires stored { (mark < 2 ^ 16) × (mark_length mark ≡ length value.now) }
+    requires room { used + value_length (value_means value) ≤ length slot.old }
+    requires stored { Held (value_means value) }
     ensures used { (result + value_length (entry_of (drop at slot.old)).value
-        ≡ used + length value.now)
+        ≡ used + value_length (value_means value.entry))
         × (records_length n slot.new ≡ result) }
-    ensures entries { entries_of n slot.new
-        ≡ with_value i (value_of mark value.now) (entries_of n slot.old) }
+    ensures entries { entries_of n slot.new ≡ with_value i (value_means value.entry) (entries_of n slot.old) }
 {
     let r = Record { slot, at }.parts();
     let v = r.value;
     let from = r.next;
     let to = v + value.len();
     bytes::shift(slot, from, to, used - from);
-    bytes::copy_to(value, slot, v);
-    bytes::put_field::<2>(slot, at + 2, mark);
+    value.store(slot, v);
+    bytes::put_field::<2>(slot, at + 2, value.mark());
     to + (used - from)
 }
 
 // The child of record i is another, on disk or in a slot: its mark and its number change in place, and no record moves.
-pub fn relink(slot: &mut [u8], n: u64, i: u64, at: usize, mark: u64, x: u64)
+pub fn relink(slot: &mut [u8], n: u64, i: u64, at: usize, c: Child)
     requires place { (at ≡ records_length i slot.old) × (i < n)
         × (records_length n slot.old ≤ length slot.old) }
     requires old { is_child (entry_of (drop at slot.old)).value ≡ true }
-    requires new { (0xFFFC < mark) × (mark < 0xFFFF) }
-    ensures entries { entries_of n slot.new
-        ≡ with_value i (child_of mark x) (entries_of n slot.old) }
+    requires new { Held (child_means c) }
+    ensures entries { entries_of n slot.new ≡ with_value i (child_means c) (entries_of n slot.old) }
     ensures starts { (j : ℕ) → j ≤ n
         → records_length j slot.new ≡ records_length j slot.old }
 {
-    let r = Record { slot, at }.parts();
-    let v = r.value;
-    bytes::put_field::<8>(slot, v, x);
-    bytes::put_field::<2>(slot, at + 2, mark);
+    let v = Record { slot, at }.parts().value;
+    let value = Val::Child(c);
+    value.store(slot, v);
+    bytes::put_field::<2>(slot, at + 2, value.mark());
 }

@@ -97,14 +97,7 @@ impl<'a> Sought for PairKey<'a> {
         if self.passes(r, r.klen()) {
             return Ordering::Less;
         }
-        let k = r.key();
-        if Order::PAIR_ORDER.less(k, self.key) {
-            return Ordering::Less;
-        }
-        if Order::PAIR_ORDER.less(self.key, k) {
-            return Ordering::Greater;
-        }
-        Ordering::Equal
+        Order::PAIR_ORDER.compare(r.key(), self.key)
     }
 }
 

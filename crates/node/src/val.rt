@@ -1,4 +1,4 @@
-// What an entry holds (`Val` and `Child` of write/tree.rs): numbers only, a value's bytes stay in the slot.
+// What an entry holds (`Val` and `Child` of write/tree.rs): a value's bytes are lent, from where they lie or to be put.
 #[derive(Clone, Copy)]
 pub enum Child {
     // On disk: a block address (physical trees) or an object id (virtual).
@@ -8,9 +8,8 @@ pub enum Child {
 }
 
 #[derive(Clone, Copy)]
-pub enum Val {
+pub enum Val<'v> {
     Ghost,
-    // A leaf's value: where its bytes start in the slot, and how many they are.
-    Leaf(usize, usize),
+    Leaf(&'v [u8]),
     Child(Child),
 }

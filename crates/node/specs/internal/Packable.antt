@@ -8,7 +8,7 @@ use Rattle.node.specs.Read.{keys_hold}
 use Rattle.node.specs.declared.info.BTreeInfo.{BTreeInfo}
 use Rattle.node.specs.declared.build.NodeBuild.{NodeBuild}
 use Rattle.node.specs.declared.read.Node.{Node}
-use Rattle.node.specs.declared.read.Place.{Place}
+use Rattle.node.specs.Place.{Place}
 
 -- what a node is packed from, as its reader tells it: the numbers of its header, and where contents, keys and values lie
 unfoldable pub packed_node : NodeBuild → List Entry → Node

@@ -1,8 +1,8 @@
--- What the functions over one slot compute: where a record lies, what records take, where a key is, a child in place, the words of a node just read,
+-- What the functions over one slot compute: where a record lies, what records take, where a key is, the words of a node just read,
 -- one pass over the records.
 use Rattle.std.specs.Prelude.{◌≡◌, List, Bool, true, cond, ◌&&◌, ℕ, ◌+◌, ◌-◌, ◌≤◌, length, drop, leb, eqb, Option, Some, None}
 use Rattle.seal.specs.Bytes.{u16_at, u64_at}
-use Rattle.node.specs.Entry.{Val, disk, mem, rising, every}
+use Rattle.node.specs.Entry.{rising, every}
 use Rattle.node.specs.Records.{mark_length, record_length, entries_of, records_length}
 use Rattle.node.specs.Fit.{padded, keys_length, values_length}
 use Rattle.node.specs.Find.{place_of, is_there, not_above}
@@ -50,10 +50,6 @@ unfoldable pub last_in : ℕ → List ℕ → ℕ → List ℕ → Last
 last_in o k n l =
     let i : ℕ = not_above o k (entries_of n l) in
     record { count = i; at = records_length (i - 1) l }
-
--- the child of a mark and a number: 0xFFFE on disk, 0xFFFD in a slot
-unfoldable pub child_of : ℕ → ℕ → Val
-child_of m x = cond (eqb m 0xFFFE) (disk x) (mem x)
 
 -- the words of a node just read from a block: without a mark its id is 0
 unfoldable pub read_head : Node → ℕ → ℕ → Bool → Head

@@ -8,3 +8,5 @@ pub mod Id
 pub mod Passed
 pub mod PassByLead
 pub mod Relink
+pub mod Stored
+pub mod Walk

@@ -1,4 +1,6 @@
 use native.Mathlib.Omega.{arith}
+use Rattle.std.proofs.Common.{◌+◌, ◌-◌, ◌∙◌, ap, length}
+use Rattle.seal.specs.Bytes.{moved}
 use Rattle.node.specs.laws.slot.Slot.{at_used, insert_length, insert_entries}
 use Rattle.node.proofs.slot.insert.Goals as goal
 
@@ -45,12 +47,11 @@ overflow_add-result c =
 pub returns : goal.returns
 returns c =
     let p = c.requires in
-    let u = c.shift.ensures in
-    let v = c.put.ensures in
+    let a = c.args in
+    let u = c.shift.ensures ∙ ap (λ x. moved a.slot.now a.at (a.at + 4 + length a.key.now + x) (a.used - a.at)) c.len.ensures in
+    let l = insert_length _ _ _ _ _ _ _ _ _ p.place.0 p.place.1 p.place.2 p.room p.stored.0 p.stored.1 u c.put.ensures in
+    let b = at_used _ _ _ _ _ p.place.0 p.place.1 p.place.2 in
     record {
-      used = (
-        omega (arith, at_used _ _ _ _ _ p.place.0 p.place.1 p.place.2),
-        insert_length _ _ _ _ _ _ _ _ _ _ p.place.0 p.place.1 p.place.2 p.room p.stored.0 p.stored.1 p.stored.2 u v,
-      );
-      entries = insert_entries _ _ _ _ _ _ _ _ _ _ p.place.0 p.place.1 p.place.2 p.room p.stored.0 p.stored.1 p.stored.2 u v;
+      used = (omega (arith, c.len.ensures), omega (arith, l, c.len.ensures));
+      entries = insert_entries _ _ _ _ _ _ _ _ _ p.place.0 p.place.1 p.place.2 p.room p.stored.0 p.stored.1 u c.put.ensures;
     }

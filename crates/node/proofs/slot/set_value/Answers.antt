@@ -1,5 +1,6 @@
 use native.Mathlib.Omega.{arith}
-use mathlib.Core.Path.{refl}
+use Rattle.std.proofs.Common.{◌+◌, ◌-◌, ◌∙◌, ap, refl}
+use Rattle.seal.specs.Bytes.{moved}
 use Rattle.node.specs.laws.slot.Slot.{next_used, value_before, value_past, set_value_used, set_value_length, set_value_entries}
 use Rattle.node.specs.laws.slot.Records.{at_value, at_after}
 use Rattle.node.proofs.slot.set_value.Goals as goal
@@ -27,8 +28,8 @@ shift-requires c =
     let r = c.parts-r.ensures in
     omega (arith, next_used _ _ _ _ _ p.place.0 p.place.1 p.place.2, value_before _ _ _ r, value_past _ _ _ r, at_after _ _ _ r)
 
-pub copy_to-requires : goal.copy_to-requires
-copy_to-requires c =
+pub store-requires : goal.store-requires
+store-requires c =
     let p = c.requires in
     let r = c.parts-r.ensures in
     omega (arith, next_used _ _ _ _ _ p.place.0 p.place.1 p.place.2, value_before _ _ _ r, value_past _ _ _ r, at_after _ _ _ r)
@@ -60,14 +61,14 @@ overflow_add-result c =
 pub returns : goal.returns
 returns c =
     let p = c.requires in
+    let a = c.args in
     let r = c.parts-r.ensures in
-    let u = c.shift.ensures in
-    let v = c.copy_to.ensures in
+    let u = c.shift.ensures ∙ ap (λ x. moved a.slot.now c.parts-r.result.next (c.parts-r.result.value + x) (a.used - c.parts-r.result.next)) c.len.ensures in
+    let v = c.store.ensures in
     let w = c.put_field.ensures in
+    let e = set_value_used _ _ _ _ _ _ _ _ _ _ _ _ _ p.place.0 p.place.1 p.place.2 p.room p.stored refl (at_value _ _ _ r) (at_after _ _ _ r) c.mark.ensures u v w in
+    let l = set_value_length _ _ _ _ _ _ _ _ _ _ _ _ _ p.place.0 p.place.1 p.place.2 p.room p.stored refl (at_value _ _ _ r) (at_after _ _ _ r) c.mark.ensures u v w in
     record {
-      used = (
-        set_value_used _ _ _ _ _ _ _ _ _ _ _ _ _ p.place.0 p.place.1 p.place.2 p.room p.stored.0 p.stored.1 refl (at_value _ _ _ r) (at_after _ _ _ r) u v w,
-        set_value_length _ _ _ _ _ _ _ _ _ _ _ _ _ p.place.0 p.place.1 p.place.2 p.room p.stored.0 p.stored.1 refl (at_value _ _ _ r) (at_after _ _ _ r) u v w,
-      );
-      entries = set_value_entries _ _ _ _ _ _ _ _ _ _ _ _ _ p.place.0 p.place.1 p.place.2 p.room p.stored.0 p.stored.1 refl (at_value _ _ _ r) (at_after _ _ _ r) u v w;
+      used = (omega (arith, e, c.len.ensures), omega (arith, l, c.len.ensures));
+      entries = set_value_entries _ _ _ _ _ _ _ _ _ _ _ _ _ p.place.0 p.place.1 p.place.2 p.room p.stored refl (at_value _ _ _ r) (at_after _ _ _ r) c.mark.ensures u v w;
     }

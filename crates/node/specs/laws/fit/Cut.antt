@@ -489,6 +489,12 @@ module _ (t : BTreeInfo) (n : ℕ) (l : List ℕ) (i : ℕ) (s : Lengths) (e : s
   pub walk_next : (r : Lengths) → r ≡ longer_of t l s → r ≡ lengths_of t (i + 1) l
   walk_next r g = lengths_next t i n l s r e g (omega arith) k
 
+  pub walk_keys : length l ≤ 2 ^ 20 → s.keys < 2 ^ 32
+  walk_keys m = omega (arith, lengths_room t i n l s e (omega arith) k m)
+
+  pub walk_values : length l ≤ 2 ^ 20 → s.values < 2 ^ 32
+  walk_values m = omega (arith, lengths_room t i n l s e (omega arith) k m)
+
   pub walk_at : (r : Lengths) → r ≡ longer_of t l s → length l ≤ 2 ^ 20 → r.at ≤ 2 ^ 20
   unfolding lengths_of
   walk_at r g m = rw (walk_next r g) (omega (arith, records_less (i + 1) n l (omega arith)))
@@ -575,7 +581,9 @@ module _ (t : BTreeInfo) (level n : ℕ) (l : List ℕ) (s : Left) (e : s ≡ le
 
 -- ---- what the walk, and the cut, take of these
 
+pub ruleset whole = (count_most, whole_at, whole_room)
+
 pub ruleset walk =
-    (count_most, first_in, first_lengths, place_first, walk_in, walk_next, walk_more, walk_stop, walk_last, last_below, whole_at, whole_room)
+    (count_most, first_in, first_lengths, place_first, walk_in, walk_keys, walk_values, walk_next, walk_more, walk_stop, walk_last, last_below)
 
 pub ruleset cuts = (count_most, single_means, after_start, nowhere_means, after_means)

@@ -1,13 +1,14 @@
 -- Laws of numbers that bytes spell, the highest first. Assumes nothing.
-use Rattle.std.specs.Prelude.{◌≡◌, refl, List, [], ◌∷◌, ◌++◌, Bool, true, false, ◌&&◌, ◌||◌, ℕ, suc, ◌+◌, ◌-◌, ◌*◌, ◌^◌, ◌≤◌, ◌<◌, min, length, take, drop, get_or, ltb, eqb, ◌==◌}
+use Rattle.std.specs.Prelude.{◌≡◌, refl, List, [], ◌∷◌, ◌++◌, Bool, true, false, ◌&&◌, ◌||◌, ℕ, suc, ◌+◌, ◌-◌, ◌*◌, ◌^◌, ◌≤◌, ◌<◌, min, length, take, drop, get_or, ltb, eqb}
 use Rattle.std.proofs.Common.{sym, ap, ap₂, ◌∙◌, pow-suc, mul-le-mul_right, suc-mul, arith, take-append-drop, length-drop, length-take-le, drop-drop, ltb-true, ltb-false, lt-ltb, le-ltb, eqb-true, eq-eqb, ne_eqb}
 use Rattle.std.proofs.Math.Nat.{suc_inj, one-le-pow}
 use Rattle.std.specs.Int.{w64, swap_bytes, to_le_bytes, from_le_bytes, from_be_bytes}
 use Rattle.std.specs.Ordering.{nat_cmp}
 use Rattle.std.proofs.lemmas.Nat.{le_bytes_8}
 use Rattle.seal.specs.Bytes.{window, le, u64_at, field_at}
-use Rattle.node.specs.Order.{byte, byte_less, less}
+use Rattle.node.specs.Order.{byte, byte_less}
 use Rattle.node.specs.laws.base.Tests.{by_test, test_ext, ltb_same, or-false}
+use Rattle.node.specs.laws.order.Compared.{byte_said}
 use Rattle.node.specs.laws.order.OrderSteps.{byte_differs, byte_next, byte_end}
 use Rattle.node.specs.laws.base.Bytes.{Bytes, bytes_below, bytes_head, bytes_tail, bytes_take, bytes_drop}
 use Rattle.node.specs.internal.Lead.{spell, Leads, Comparing}
@@ -125,16 +126,6 @@ lead_read s i x r h b e f =
 
 -- ---- the code that compares keys: one law for each way out and each turn of a loop
 
--- two numbers that stand as two keys do
-cmp_said : (x y : ℕ) (a b : List ℕ) → ltb x y ≡ byte_less a b → ltb y x ≡ byte_less b a → nat_cmp x y ≡ compared byte a b
-unfolding compared less
-cmp_said x y a b p q =
-    by_test (ltb x y)
-    (λ t. rw (← p, t))
-    (λ t. by_test (ltb y x)
-    (λ u. let n : x == y ≡ false = ne_eqb x y (λ e. let k = ltb-true y x u in omega arith) in rw (← p, ← q, t, u, n))
-    (λ u. let n : x == y ≡ true = eq-eqb x y (let k = ltb-false x y t in let m = ltb-false y x u in omega arith) in rw (← p, ← q, t, u, n)))
-
 module _ (a b : List ℕ) (n i : ℕ) (c : Comparing a b n i) where
   back_least : n ≡ min (length b) (length a)
   back_least = let m = c.least in omega arith
@@ -146,7 +137,7 @@ module _ (a b : List ℕ) (n i : ℕ) (c : Comparing a b n i) where
         let s : byte_less (drop i a) (drop i b) ≡ ltb x y = rw (lead_test (drop i a) (drop i b) x y u v, ne_eqb x y h) (or-false (ltb x y)) in
         let t : byte_less (drop i b) (drop i a) ≡ ltb y x
         = rw (lead_test (drop i b) (drop i a) y x v u, ne_eqb y x (λ e. h (sym e))) (or-false (ltb y x)) in
-        cmp_said x y a b (sym s ∙ c.there) (sym t ∙ c.back)
+        byte_said x y a b (sym s ∙ c.there) (sym t ∙ c.back)
 
     pub lead_turn : (j : ℕ) → j ≡ i + 8 → j ≤ n → x ≡ y → Comparing a b n j
     lead_turn j s h e =
@@ -163,7 +154,7 @@ module _ (a b : List ℕ) (n i : ℕ) (c : Comparing a b n i) where
   module _ (h : i < n) where
     pub byte_cmp : (get_or a i 0 ≡ get_or b i 0 → ⊥) → nat_cmp (get_or a i 0) (get_or b i 0) ≡ compared byte a b
     byte_cmp d =
-        cmp_said (get_or a i 0) (get_or b i 0) a b
+        byte_said (get_or a i 0) (get_or b i 0) a b
         (byte_differs a b i n c.least h c.there d) (byte_differs b a i n back_least h c.back (λ e. d (sym e)))
 
     pub byte_turn : get_or a i 0 ≡ get_or b i 0 → Comparing a b n (i + 1)
@@ -178,4 +169,4 @@ module _ (a b : List ℕ) (n i : ℕ) (c : Comparing a b n i) where
   -- by lengths
   pub length_cmp : n ≤ i → nat_cmp (length a) (length b) ≡ compared byte a b
   length_cmp h =
-      cmp_said (length a) (length b) a b (byte_end a b i n c.least h c.few c.there) (byte_end b a i n back_least h c.few c.back)
+      byte_said (length a) (length b) a b (byte_end a b i n c.least h c.few c.there) (byte_end b a i n back_least h c.few c.back)

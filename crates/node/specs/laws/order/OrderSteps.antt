@@ -1,5 +1,5 @@
 -- Laws of the code that compares keys: one for each way out and each turn of a loop. Assumes nothing.
-use Rattle.std.specs.Prelude.{◌≡◌, refl, List, [], ◌∷◌, Bool, ◌&&◌, ◌||◌, ℕ, suc, ◌+◌, ◌-◌, ◌≤◌, ◌<◌, min, length, drop, get_or, ltb, eqb}
+use Rattle.std.specs.Prelude.{◌≡◌, refl, List, [], ◌∷◌, Bool, not, ◌&&◌, ◌||◌, ℕ, suc, ◌+◌, ◌-◌, ◌≤◌, ◌<◌, min, length, drop, get_or, ltb, eqb}
 use Rattle.std.proofs.Common.{sym, ap, ◌∙◌, add-one, arith, length-drop, drop-cons, lt-ltb, le-ltb, eq-eqb, ne_eqb}
 use Rattle.std.specs.Cmp.Lexicographic.{pointwise}
 use Rattle.std.specs.Prelude.{nat_eq}
@@ -78,9 +78,13 @@ byte_end a b i n m h k e =
 -- ---- the same bytes
 
 -- slices that are equal, as std says it
-pub same_is : (a b : List ℕ) (r : Bool) → r ≡ pointwise nat_eq a b → r ≡ same_key a b
+same_is : (a b : List ℕ) (r : Bool) → r ≡ pointwise nat_eq a b → r ≡ same_key a b
 unfolding same_key
 same_is [] [] r e = e
 same_is [] (y ∷ ys) r e = e
 same_is (x ∷ xs) [] r e = e
 same_is (x ∷ xs) (y ∷ ys) r e = e ∙ ap (λ (z : Bool). nat_eq x y && z) (same_is xs ys (pointwise nat_eq xs ys) refl)
+
+-- slices that are not
+pub unlike : (a b : List ℕ) (r : Bool) → r ≡ not (pointwise nat_eq a b) → r ≡ not (same_key a b)
+unlike a b r e = e ∙ ap not (same_is a b (pointwise nat_eq a b) refl)

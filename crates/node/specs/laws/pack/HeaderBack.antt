@@ -15,7 +15,7 @@ use Rattle.node.specs.laws.pack.Layout.{contents_of, free_of, filled, toc_short,
 use Rattle.node.specs.internal.Packable.{packed_node, InfoFits, HeadFits, Below}
 use Rattle.node.specs.declared.info.BTreeInfo.{BTreeInfo}
 use Rattle.node.specs.declared.build.NodeBuild.{NodeBuild}
-use Rattle.node.specs.declared.read.Place.{Place}
+use Rattle.node.specs.Place.{Place}
 
 -- obj_phys_t after the sum, and btree_node_phys_t: width and value of each field
 abbrev pub head_table : NodeBuild → List Entry → List (ℕ × ℕ)

@@ -15,7 +15,7 @@ use Rattle.node.specs.Read.{in_bounds, keys_rise, keys_within, keys_hold}
 use Rattle.node.specs.Slot.{is_child, suit, suits, key_length_holds, value_holds, entry_holds}
 use Rattle.node.specs.Pack.{numbered_value, numbered}
 use Rattle.node.specs.declared.info.BTreeInfo.{BTreeInfo}
-use Rattle.node.specs.declared.read.Place.{Place}
+use Rattle.node.specs.Place.{Place}
 
 pub length_numbered : (f : ℕ → ℕ) (v : Val) → value_length (numbered_value f v) ≡ value_length v
 unfolding value_length numbered_value

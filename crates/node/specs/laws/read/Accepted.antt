@@ -13,7 +13,8 @@ use Rattle.node.specs.Fit.{data_space}
 use Rattle.node.specs.Entry.{Entry, disk}
 use Rattle.node.specs.Cut.{entry_size, size}
 use Rattle.node.specs.Records.{records_of, records_length, entries_of}
-use Rattle.node.specs.laws.slot.Records.{Held, Storable, Storables, none, more, entries_back, records_back}
+use Rattle.node.specs.internal.Storable.{Held, Storable}
+use Rattle.node.specs.laws.slot.Records.{Storables, none, more, entries_back, records_back}
 use Rattle.node.specs.Slot.{is_child, suit, suits}
 use Rattle.node.specs.Read.{keys_hold, parsed, is_ghost, span_at, span_holds, span_length, layout_holds, spans_hold, spans_length, value_at, entry_at, entries_from, keys_rise, keys_within, OnDisk, on_disk, read_node, read_of}
 use Rattle.node.specs.internal.ReadSteps.{Sound}
@@ -24,7 +25,7 @@ use Rattle.node.specs.laws.read.LoadLine.{layout_laid, layout_level, entries_spa
 use Rattle.node.specs.laws.read.Loaded.{read_passed, entries_length, entries_every}
 use Rattle.node.specs.declared.read.Node.{Node}
 use Rattle.node.specs.declared.read.Span.{Span}
-use Rattle.node.specs.declared.read.Place.{Place}
+use Rattle.node.specs.Place.{Place}
 use Rattle.std.specs.Prelude.{Ok}
 
 -- a node that was read: what the checks 3 to 9 leave

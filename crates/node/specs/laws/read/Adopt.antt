@@ -1,85 +1,39 @@
 -- Laws of copying a node's entries into a slot's records. Assumes nothing.
-use Rattle.std.specs.Prelude.{◌≡◌, List, [], ◌++◌, false, cond, ℕ, zero, suc, ◌+◌, ◌-◌, ◌*◌, ◌≤◌, ◌<◌, take, drop}
+use Rattle.std.specs.Prelude.{◌≡◌, List, ◌++◌, cond, ℕ, zero, suc, ◌+◌, ◌-◌, ◌*◌, ◌≤◌, ◌<◌}
 use Rattle.std.proofs.Math.Path.{refl, sym, ap}
 use Rattle.std.proofs.Common.{ap₂, ◌∙◌, append_assoc, append-nil, add-zero, zero-add, add_assoc, suc-add, add-one, length-append}
 use Rattle.std.proofs.Math.Bool.{true}
 use native.Mathlib.Omega.{arith}
 use Rattle.std.proofs.Math.ListN.{length}
-use borrow.Author.Tests.{eq-eqb, ne_eqb, eqb-false}
 use Rattle.seal.specs.Bytes.{window, splice}
 use Rattle.seal.specs.laws.WindowLaws.{splice_none, splice_run}
 use Rattle.seal.specs.laws.FieldLaws.{length_bytes_of}
-use Rattle.node.specs.Entry.{value_bytes}
-use Rattle.node.specs.Records.{mark_of, record_bytes, record_of, records_of}
-use Rattle.node.specs.laws.base.Tests.{by_test}
-use Rattle.node.specs.laws.base.Bytes.{Bytes, bytes_known}
-use Rattle.node.specs.laws.base.Splice.{field_bytes}
+use Rattle.node.specs.Entry.{Val, value_bytes, value_length}
+use Rattle.node.specs.Records.{record_of, records_of}
 use Rattle.node.specs.laws.slot.Records.{length_value_bytes}
 use Rattle.node.specs.Read.{span_at, is_ghost, span_holds, span_length, spans_length, value_at, entry_at, entries_from}
 use Rattle.node.specs.internal.ReadSteps.{Sound}
-use Rattle.node.specs.laws.read.Read.{held_start, held_end, held_no_ghost, held_eight, key_counts, leaf_counts, value_counts, few, part_window}
+use Rattle.node.specs.laws.read.Read.{key_counts, value_counts, few}
 use Rattle.node.specs.laws.read.Keys.{sound_span, sound_key}
 use Rattle.node.specs.declared.read.Node.{Node}
 use Rattle.node.specs.declared.read.Span.{Span}
 
 -- ---- one record, of an entry that lies in its block
 
-module _ (v : Node) (b : List ℕ) (s : Span) (h : span_holds v (length b) s ≡ true) where
-  pub leaf_mark : v.level ≡ 0 → cond (is_ghost s) 0xFFFF s.vlen ≡ mark_of (value_at v b s)
-  unfolding value_at mark_of
-  leaf_mark z = by_test (is_ghost s) (λ g. rw g) (λ g. rw (g, eq-eqb v.level 0 z) (sym (leaf_counts v b s h g)))
-
-  child_is : (v.level ≡ 0 → ⊥) → is_ghost s ≡ false
-  unfolding is_ghost
-  child_is n = ne_eqb s.voff 65535 (held_no_ghost v (length b) s h n)
-
-  pub child_mark : (v.level ≡ 0 → ⊥) → 0xFFFE ≡ mark_of (value_at v b s)
-  unfolding value_at mark_of
-  child_mark n = rw (child_is n, ne_eqb v.level 0 n)
-
-  -- a child's number lies in the block
-  pub child_held : (v.level ≡ 0 → ⊥) → (s.voff ≤ v.vals) × (v.vals - s.voff + 8 ≤ length b)
-  child_held n =
-      let g : s.voff ≡ 65535 → ⊥ = held_no_ghost v (length b) s h n in
-      (held_start v (length b) s h g, omega (arith, held_end v (length b) s h g, held_eight v (length b) s h n))
-
-  -- parts are as slices have them, by their start and their end
-  pub child_part : Bytes b → (v.level ≡ 0 → ⊥)
-      → take (v.vals - s.voff + 8 - (v.vals - s.voff)) (drop (v.vals - s.voff) b) ≡ value_bytes (value_at v b s)
-  unfolding value_at value_bytes
-  child_part bb n =
-      part_window b (v.vals - s.voff) 8
-      ∙ rw (child_is n, ne_eqb v.level 0 n) (sym (field_bytes 8 (v.vals - s.voff) b (child_held n).1 bb))
-
-  -- the bytes of a value as a record stores it
-  pub value_long : length (value_bytes (value_at v b s)) ≡ cond (is_ghost s) 0 s.vlen
-  value_long = length_value_bytes (value_at v b s) ∙ value_counts v b s h
-
-  pub leaf_held : is_ghost s ≡ false → (s.voff ≤ v.vals) × (v.vals - s.voff + s.vlen ≤ length b)
-  unfolding is_ghost
-  leaf_held g = let n = eqb-false s.voff 65535 g in (held_start v (length b) s h n, held_end v (length b) s h n)
-
-  pub leaf_part : v.level ≡ 0 → is_ghost s ≡ false
-      → take (v.vals - s.voff + s.vlen - (v.vals - s.voff)) (drop (v.vals - s.voff) b) ≡ value_bytes (value_at v b s)
-  unfolding value_at value_bytes
-  leaf_part z g = part_window b (v.vals - s.voff) s.vlen ∙ rw (g, eq-eqb v.level 0 z)
-
-pub ghost_part : (v : Node) (b : List ℕ) (s : Span) → is_ghost s ≡ true → [] ≡ value_bytes (value_at v b s)
-unfolding value_at value_bytes
-ghost_part v b s g = rw g
-
-pub record_is : (v : Node) (b : List ℕ) (i : ℕ) (s : Span) (k w : List ℕ) (m : ℕ) → s ≡ span_at v b i → k ≡ window s.key s.klen b
-    → m ≡ mark_of (value_at v b s) → w ≡ value_bytes (value_at v b s) → record_bytes k m w ≡ record_of (entry_at v b i)
-unfolding record_bytes record_of entry_at
-record_is v b i s k w m e ek em ew = rw (ek, em, ew, e)
+pub record_is : (v : Node) (b : List ℕ) (i : ℕ) (s : Span) (k : List ℕ) (w : Val) → s ≡ span_at v b i → k ≡ window s.key s.klen b
+    → w ≡ (entry_at v b i).value → record_of (record { key = k; value = w }) ≡ record_of (entry_at v b i)
+unfolding entry_at
+record_is v b i s k w e ek ew =
+    ap₂ (λ (x : List ℕ) (y : Val). record_of (record { key = x; value = y })) (ek ∙ ap (λ (q : Span). window q.key q.klen b) e) ew
 
 -- what its key and its value take
-pub parts_long : (v : Node) (b : List ℕ) (i : ℕ) (s : Span) (k w : List ℕ) → Sound v b → i < v.nkeys → s ≡ span_at v b i
-    → k ≡ window s.key s.klen b → w ≡ value_bytes (value_at v b s) → length k + length w ≡ span_length (span_at v b i)
-unfolding span_length
+pub parts_long : (v : Node) (b : List ℕ) (i : ℕ) (s : Span) (k : List ℕ) (w : Val) → Sound v b → i < v.nkeys → s ≡ span_at v b i
+    → k ≡ window s.key s.klen b → w ≡ (entry_at v b i).value → length k + value_length w ≡ span_length (span_at v b i)
+unfolding span_length entry_at
 parts_long v b i s k w h lt e ek ew =
     let held : span_holds v (length b) s ≡ true = sound_span v b i s h lt e in
-    ap₂ (λ (x y : ℕ). x + y) (ap length ek ∙ key_counts v b s held) (ap length ew ∙ value_long v b s held) ∙ ap span_length e
+    ap₂ (λ (x y : ℕ). x + y) (ap length ek ∙ key_counts v b s held)
+    (ap value_length (ew ∙ ap (value_at v b) (sym e)) ∙ value_counts v b s held) ∙ ap span_length e
 
 -- ---- several records
 
@@ -121,7 +75,8 @@ module _ (v : Node) (b : List ℕ) (h : Sound v b) (i : ℕ) (lt : i < v.nkeys) 
       let s : Span = span_at v b i in
       let held : span_holds v (length b) s ≡ true = sound_span v b i s h lt refl in
       let k : length (window s.key s.klen b) ≡ s.klen = key_counts v b s held in
-      simp (length-append, length_bytes_of, k, value_long v b s held) (omega arith)
+      let w : length (value_bytes (value_at v b s)) ≡ cond (is_ghost s) 0 s.vlen = length_value_bytes (value_at v b s) ∙ value_counts v b s held in
+      simp (length-append, length_bytes_of, k, w) (omega arith)
 
   pub adopt_room : (at : ℕ) (l : List ℕ) → at ≡ 4 * i + spans_length v b 0 i → 2 * length b ≤ length l
       → at + (4 + span_length (span_at v b i)) ≤ length l
@@ -173,8 +128,4 @@ adopt_done_long v b i n at h k e = let q : i ≡ n = omega arith in sym e ∙ ap
 
 -- ---- what the code takes of these
 
-pub ruleset leaf_bytes = (leaf_held, leaf_part, ghost_part)
-
-pub ruleset child_bytes = (child_held, child_part, bytes_known)
-
-pub ruleset one_record = (sound_span, sound_key, record_is, leaf_mark, child_mark, parts_long)
+pub ruleset one_record = (sound_key, record_is, parts_long)

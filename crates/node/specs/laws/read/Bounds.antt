@@ -12,7 +12,7 @@ use Rattle.node.specs.laws.base.Tests.{by_test, and_right, and_both}
 use Rattle.node.specs.laws.read.LoadLine.{line_of, node_line}
 use Rattle.node.specs.laws.read.Loaded.{read_passed}
 use Rattle.node.specs.declared.read.Node.{Node}
-use Rattle.node.specs.declared.read.Place.{Place}
+use Rattle.node.specs.Place.{Place}
 
 -- the same place, with no upper bound. An empty lower bound is none: no key is below it
 unfoldable pub unbounded_place : Place → Place

@@ -7,22 +7,23 @@ use Rattle.std.proofs.Math.Bool.{true, false}
 use Prim.Native.Nat.{ℕ, zero, suc, ◌+◌, ◌-◌, ◌≤◌, ◌<◌}
 use Rattle.std.proofs.Math.Numerals.{add-one}
 use native.Mathlib.Omega.{arith}
-use Rattle.std.proofs.Math.ListN.{length}
+use Rattle.std.proofs.Math.ListN.{length, take, drop}
+use Rattle.std.specs.Borrow.{Bor}
 use borrow.Author.Tests.{not-true, not-false, eq-eqb, ne_eqb, eqb-false}
 use Rattle.seal.specs.Bytes.{window, u64_at}
 use Rattle.node.specs.laws.base.Tests.{and_left, and_right, and-true, and-false}
 use Rattle.node.specs.laws.base.Bytes.{Bytes, bytes_window}
 use Rattle.node.specs.Order.{less, keyed, keyed_length}
 use Rattle.node.specs.laws.order.Order.{key_known}
-use Rattle.node.specs.Entry.{Entry, disk, rise_after, rising, every}
+use Rattle.node.specs.Entry.{Entry, leaf, disk, rise_after, rising, every}
 use Rattle.node.specs.laws.order.Rising.{every_and, Keys, KeyBytes, keys_known, last_key, rising_lower, rising_upper}
 use Rattle.node.specs.Slot.{child_means, value_means}
 use Rattle.node.specs.Read.{span_at, is_ghost, span_holds, spans_hold, value_at, entry_at, entries_from, in_bounds, keys_rise, keys_within}
 use Rattle.node.specs.internal.ReadSteps.{Sound}
-use Rattle.node.specs.laws.read.Read.{key_counts, held_key, held_start, held_end, held_no_ghost, held_eight}
+use Rattle.node.specs.laws.read.Read.{held_key, held_start, held_end, held_no_ghost, held_eight, part_window}
 use Rattle.node.specs.declared.read.Node.{Node}
 use Rattle.node.specs.declared.read.Span.{Span}
-use Rattle.node.specs.declared.read.Place.{Place}
+use Rattle.node.specs.Place.{Place}
 use Rattle.node.specs.declared.val.Val.TheVariants.{Ghost, Leaf, Child}
 use Rattle.node.specs.declared.val.Child.TheVariants.{Disk}
 
@@ -66,12 +67,6 @@ module _ (v : Node) (b : List ℕ) (i : ℕ) (s : Span) (h : Sound v b) (lt : i 
   pub sound_key : s.key + s.klen ≤ length b
   sound_key = held_key v (length b) s sound_span
 
-  pub keyed_of : (o : ℕ) → keyed_length o s.klen ≡ keyed o (entry_at v b i).key
-  unfolding keyed entry_at
-  keyed_of o =
-      let l : length (window s.key s.klen b) ≡ s.klen = key_counts v b s sound_span in
-      ap (keyed_length o) (sym l) ∙ ap (λ (q : Span). keyed_length o (length (window q.key q.klen b))) e
-
 pub key_of : (v : Node) (b : List ℕ) (i : ℕ) (s : Span) → s ≡ span_at v b i → window s.key s.klen b ≡ (entry_at v b i).key
 unfolding entry_at
 key_of v b i s e = ap (λ (q : Span). window q.key q.klen b) e
@@ -86,10 +81,11 @@ keys_none o v b e = rw e
 unfoldable pub rest_rise : ℕ → Node → List ℕ → ℕ → ℕ → Bool
 rest_rise o v b i m = every (λ e. keyed o e.key) (entries_from v b i m) && rise_after o (entry_at v b (i - 1)).key (entries_from v b i m)
 
-module _ (o : ℕ) (v : Node) (b : List ℕ) (s : Span) (h : Sound v b) (some : v.nkeys ≡ 0 → ⊥) (e : s ≡ span_at v b 0) (r : Bool)
-    (er : r ≡ keyed_length o s.klen) where
+module _ (o : ℕ) (v : Node) (b : List ℕ) (some : v.nkeys ≡ 0 → ⊥) (k : List ℕ) (e : k ≡ (entry_at v b 0).key) (r : Bool)
+    (er : r ≡ keyed_length o (length k)) where
   first_keyed : r ≡ keyed o (entry_at v b 0).key
-  first_keyed = er ∙ keyed_of v b 0 s h (omega arith) e o
+  unfolding keyed
+  first_keyed = er ∙ ap (λ (x : List ℕ). keyed_length o (length x)) e
 
   pub rise_none : not r ≡ true → false ≡ keys_rise o (entries_from v b 0 v.nkeys)
   unfolding keys_rise entries_from every
@@ -105,18 +101,22 @@ module _ (o : ℕ) (v : Node) (b : List ℕ) (s : Span) (h : Sound v b) (some : 
       let f : keyed o (entry_at v b 0).key ≡ true = sym first_keyed ∙ not-false r n in
       ap (λ (q : ℕ). every (λ (x : Entry). keyed o x.key) (entries_from v b 0 q) && rising o (entries_from v b 0 q)) m ∙ rw f
 
-module _ (w : Bool) (o : ℕ) (v : Node) (b : List ℕ) (n i : ℕ) (s : Span) (e : w ≡ rest_rise o v b i (n - i)) (lt : i < n) (es : s ≡ span_at v b i)
-    (r : Bool) (er : r ≡ keyed_length o s.klen) where
-  pub rise_unkeyed : Sound v b → n ≡ v.nkeys → not r ≡ true → false ≡ w
+module _ (w : Bool) (o : ℕ) (v : Node) (b : List ℕ) (n i : ℕ) (e : w ≡ rest_rise o v b i (n - i)) (lt : i < n)
+    (k : List ℕ) (ek : k ≡ (entry_at v b i).key) (r : Bool) (er : r ≡ keyed_length o (length k)) where
+  next_keyed : r ≡ keyed o (entry_at v b i).key
+  unfolding keyed
+  next_keyed = er ∙ ap (λ (x : List ℕ). keyed_length o (length x)) ek
+
+  pub rise_unkeyed : not r ≡ true → false ≡ w
   unfolding rest_rise entries_from every
-  rise_unkeyed h en nr =
+  rise_unkeyed nr =
       let m : n - i ≡ suc (n - suc i) = omega arith in
-      let f : keyed o (entry_at v b i).key ≡ false = sym (er ∙ keyed_of v b i s h (omega arith) es o) ∙ not-true r nr in
+      let f : keyed o (entry_at v b i).key ≡ false = sym next_keyed ∙ not-true r nr in
       sym (e ∙ rw (m, f))
 
-  module _ (t : Span) (et : t ≡ span_at v b (i - 1)) (q : Bool) (eq : q ≡ less o (window t.key t.klen b) (window s.key s.klen b)) where
+  module _ (last : List ℕ) (el : last ≡ (entry_at v b (i - 1)).key) (q : Bool) (eq : q ≡ less o last k) where
     less_of : q ≡ less o (entry_at v b (i - 1)).key (entry_at v b i).key
-    less_of = eq ∙ ap₂ (less o) (key_of v b (i - 1) t et) (key_of v b i s es)
+    less_of = eq ∙ ap₂ (less o) el ek
 
     pub rise_falls : not q ≡ true → false ≡ w
     unfolding rest_rise entries_from rise_after
@@ -125,17 +125,14 @@ module _ (w : Bool) (o : ℕ) (v : Node) (b : List ℕ) (n i : ℕ) (s : Span) (
         let f : less o (entry_at v b (i - 1)).key (entry_at v b i).key ≡ false = sym less_of ∙ not-true q nq in
         sym (e ∙ rw (m, f, and-false))
 
-    pub rise_turn : Sound v b → n ≡ v.nkeys → not r ≡ false → not q ≡ false → w ≡ rest_rise o v b (i + 1) (n - (i + 1))
+    pub rise_turn : not r ≡ false → not q ≡ false → w ≡ rest_rise o v b (i + 1) (n - (i + 1))
     unfolding rest_rise entries_from every rise_after
-    rise_turn h en nr nq =
+    rise_turn nr nq =
         let m : n - i ≡ suc (n - suc i) = omega arith in
-        let g : keyed o (entry_at v b i).key ≡ true = sym (er ∙ keyed_of v b i s h (omega arith) es o) ∙ not-false r nr in
+        let g : keyed o (entry_at v b i).key ≡ true = sym next_keyed ∙ not-false r nr in
         let f : less o (entry_at v b (i - 1)).key (entry_at v b i).key ≡ true = sym less_of ∙ not-false q nq in
         let back : suc i - 1 ≡ i = omega arith in
         e ∙ rw (m, f, g, add-one i, back)
-
-pub back : (v : Node) (b : List ℕ) (i : ℕ) (s : Span) → s ≡ span_at v b i → s ≡ span_at v b (i + 1 - 1)
-back v b i s e = let z : i ≡ i + 1 - 1 = omega arith in e ∙ ap (span_at v b) z
 
 pub rise_done : (w : Bool) (o : ℕ) (v : Node) (b : List ℕ) (n i : ℕ) → w ≡ rest_rise o v b i (n - i) → n ≤ i → true ≡ w
 unfolding rest_rise entries_from every rise_after
@@ -149,11 +146,10 @@ module _ (o : ℕ) (p : Place) (lower upper : List ℕ) (v : Node) (b : List ℕ
   abbrev all : ℕ → ℕ → Bool
   all i m = keys_within o p lower upper (entries_from v b i m)
 
-  module _ (w : Bool) (to i : ℕ) (s : Span) (k : List ℕ) (r : Bool) (e : w ≡ all i (to - i)) (lt : i < to) (es : s ≡ span_at v b i)
-      (ek : k ≡ window s.key s.klen b)
+  module _ (w : Bool) (to i : ℕ) (k : List ℕ) (r : Bool) (e : w ≡ all i (to - i)) (lt : i < to) (ek : k ≡ (entry_at v b i).key)
       (er : r ≡ in_bounds o p lower upper k) where
     bounds_of : r ≡ in_bounds o p lower upper (entry_at v b i).key
-    bounds_of = er ∙ ap (in_bounds o p lower upper) (ek ∙ key_of v b i s es)
+    bounds_of = er ∙ ap (in_bounds o p lower upper) ek
 
     pub within_fails : not r ≡ true → false ≡ w
     unfolding keys_within entries_from every
@@ -280,20 +276,21 @@ module _ (v : Node) (b : List ℕ) (i : ℕ) (s : Span) (e : s ≡ span_at v b i
   unfolding entry_at
   value_of_lem = ap (value_at v b) e
 
-  pub place_ghost : is_ghost s ≡ true → value_means b Ghost ≡ (entry_at v b i).value
+  pub place_ghost : is_ghost s ≡ true → value_means Ghost ≡ (entry_at v b i).value
   unfolding value_means child_means value_at
   place_ghost g = sym (sym value_of_lem ∙ rw g)
 
-  pub place_leaf : is_ghost s ≡ false → v.level ≡ 0 → value_means b (Leaf (v.vals - s.voff) s.vlen) ≡ (entry_at v b i).value
-  unfolding value_means child_means value_at
-  place_leaf g h = sym (sym value_of_lem ∙ rw (g, eq-eqb v.level 0 h))
+  pub place_leaf : (x : Bor (List ℕ)) → x.now ≡ take (v.vals - s.voff + s.vlen - (v.vals - s.voff)) (drop (v.vals - s.voff) b)
+      → is_ghost s ≡ false → v.level ≡ 0 → value_means (Leaf x) ≡ (entry_at v b i).value
+  unfolding value_means value_at
+  place_leaf x p g h = ap leaf (p ∙ part_window b (v.vals - s.voff) s.vlen) ∙ sym (sym value_of_lem ∙ rw (g, eq-eqb v.level 0 h))
 
   pub disk_of : (r : ℕ) → (s.voff ≡ 65535 → ⊥) → (v.level ≡ 0 → ⊥) → r ≡ u64_at b (v.vals - s.voff) → (entry_at v b i).value ≡ disk r
   unfolding value_at is_ghost
   disk_of r n h er = sym value_of_lem ∙ rw (ne_eqb s.voff 65535 n, ne_eqb v.level 0 h, er)
 
   pub place_child : (r : ℕ) → is_ghost s ≡ false → (v.level ≡ 0 → ⊥) → r ≡ u64_at b (v.vals - s.voff)
-      → value_means b (Child (Disk r)) ≡ (entry_at v b i).value
+      → value_means (Child (Disk r)) ≡ (entry_at v b i).value
   unfolding value_means child_means value_at
   place_child r g h er = sym (sym value_of_lem ∙ rw (g, ne_eqb v.level 0 h, er))
 
@@ -301,6 +298,10 @@ module _ (v : Node) (b : List ℕ) (i : ℕ) (s : Span) (e : s ≡ span_at v b i
     pub value_start : is_ghost s ≡ false → s.voff ≤ v.vals
     unfolding is_ghost
     value_start g = held_start v (length b) s (sound_span v b i s h lt e) (eqb-false s.voff 65535 g)
+
+    pub value_end : is_ghost s ≡ false → v.vals - s.voff + s.vlen ≤ length b
+    unfolding is_ghost
+    value_end g = held_end v (length b) s (sound_span v b i s h lt e) (eqb-false s.voff 65535 g)
 
     pub child_room : (v.level ≡ 0 → ⊥) → v.vals - s.voff + 8 ≤ length b
     child_room n =
@@ -317,12 +318,12 @@ module _ (v : Node) (b : List ℕ) (i : ℕ) (s : Span) (e : s ≡ span_at v b i
 
 -- ---- what the code takes of these
 
-pub ruleset rise = (sound_key, keys_none, rise_none, rise_start, rise_unkeyed, rise_falls, rise_turn, rise_done)
+pub ruleset rise = (keys_none, rise_none, rise_start, rise_unkeyed, rise_falls, rise_turn, rise_done)
 
-pub ruleset bound = (sound_key, within_fails, within_turn, within_done)
+pub ruleset bound = (within_fails, within_turn, within_done)
 
 pub ruleset bounds = (within_none, within_first, within_ends)
 
-pub ruleset value = (place_ghost, place_leaf, place_child, value_start, child_room)
+pub ruleset value = (place_ghost, place_leaf, place_child, value_start, value_end, child_room)
 
 pub ruleset child = (disk_of, child_room, child_start, child_there)

@@ -9,10 +9,13 @@ use Rattle.node.specs.laws.base.Tests.{and_left, and_right}
 use Rattle.node.specs.Result.{Result, ok, ◌>>◌, check}
 use Rattle.node.specs.Fit.{flag, data_space}
 use Rattle.node.specs.Obj.{is_node}
-use Rattle.node.specs.Read.{parsed, is_fixed, flags_hold, layout_holds, spans_hold, spans_length, entries_hold, entries_from, keys_rise, keys_within, keys_hold, OnDisk, on_disk, read_node}
+use Rattle.std.specs.Prelude as std
+use Rattle.std.specs.Prelude.{Ok, Err}
+use Rattle.node.specs.declared.refusal.Refusal.{Refusal}
+use Rattle.node.specs.Read.{map_ok, parsed, is_fixed, flags_hold, layout_holds, spans_hold, spans_length, entries_hold, entries_from, keys_rise, keys_within, keys_hold, OnDisk, on_disk, read_node}
 use Rattle.node.specs.internal.ReadSteps.{Laid, Sound}
 use Rattle.node.specs.declared.read.Node.{Node}
-use Rattle.node.specs.declared.read.Place.{Place}
+use Rattle.node.specs.Place.{Place}
 
 -- ---- what a check leaves
 
@@ -87,3 +90,11 @@ module _ (o : ℕ) (p : Place) (lower upper b : List ℕ) where
   pub node_line : (v : Node) → v ≡ parsed p b → line_of v ≡ read_node o p lower upper b
   unfolding line read_node keys_hold
   node_line v e = ap line_of e
+
+-- ---- of an answer, the node
+
+pub node_read : {R : Type 0} (x : std.Result R Refusal) (r : R) → x ≡ Ok r → (f : R → Node) → map_ok f x ≡ Ok (f r)
+node_read x r e f = ap (map_ok f) e
+
+pub node_refused : {R : Type 0} (x : std.Result R Refusal) (k : Refusal) → x ≡ Err k → (f : R → Node) → map_ok f x ≡ Err k
+node_refused x k e f = ap (map_ok f) e

@@ -10,7 +10,7 @@ use Rattle.node.specs.Fit.{flag}
 use Rattle.node.specs.Read.{OnDisk, on_disk, parsed, is_fixed, layout_holds, span_at, is_ghost, span_holds, spans_hold, entries_hold, value_at, entry_at, entries_from, keys_hold, read_node}
 use Rattle.node.specs.declared.read.Node.{Node}
 use Rattle.node.specs.declared.read.Span.{Span}
-use Rattle.node.specs.declared.read.Place.{Place}
+use Rattle.node.specs.Place.{Place}
 use Rattle.node.specs.laws.base.Tests.{by_test, never, and_split, and_both}
 use Rattle.node.specs.laws.base.Results.{checked_ok}
 use Rattle.node.specs.laws.read.Read.{held_key, held_end, held_no_ghost}

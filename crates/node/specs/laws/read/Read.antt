@@ -18,7 +18,7 @@ use Rattle.node.specs.Read.{is_fixed, span_at, is_ghost, span_holds, span_length
 use Rattle.node.specs.internal.ReadSteps.{Laid}
 use Rattle.node.specs.declared.read.Node.{Node}
 use Rattle.node.specs.declared.read.Span.{Span}
-use Rattle.node.specs.declared.read.Place.{Place}
+use Rattle.node.specs.Place.{Place}
 
 -- ---- entries of fixed lengths
 

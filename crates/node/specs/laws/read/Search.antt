@@ -5,14 +5,12 @@ use Rattle.std.proofs.Common.{◌∙◌, add-zero, add-one}
 use Prim.Native.Nat.{ℕ, zero, suc, ◌+◌, ◌-◌, ◌≤◌, ◌<◌}
 use Rattle.std.proofs.Math.Nat.{sub-zero}
 use native.Mathlib.Omega.{arith}
-use Rattle.seal.specs.Bytes.{window}
 use Rattle.node.specs.Order.{less}
 use Rattle.node.specs.Entry.{Entry}
 use Rattle.node.specs.Find.{not_above, way_index, last_not_above, last_of}
-use Rattle.node.specs.Read.{span_at, entry_at, entries_from}
+use Rattle.node.specs.Read.{entry_at, entries_from}
 use Rattle.node.specs.laws.read.Loaded.{entries_length}
 use Rattle.node.specs.declared.read.Node.{Node}
-use Rattle.node.specs.declared.read.Span.{Span}
 
 module _ (v : Node) (b : List ℕ) (o : ℕ) (k : List ℕ) where
   abbrev all : ℕ
@@ -21,11 +19,10 @@ module _ (v : Node) (b : List ℕ) (o : ℕ) (k : List ℕ) where
   abbrev rest : ℕ → ℕ
   rest i = not_above o k (entries_from v b i (v.nkeys - i))
 
-  module _ (i : ℕ) (s : Span) (key : List ℕ) (t : Bool) (h : i < v.nkeys) (inv : i + rest i ≡ all)
-      (es : s ≡ span_at v b i) (ek : key ≡ window s.key s.klen b) (et : t ≡ less o k key) where
+  module _ (i : ℕ) (key : List ℕ) (t : Bool) (h : i < v.nkeys) (inv : i + rest i ≡ all)
+      (ek : key ≡ (entry_at v b i).key) (et : t ≡ less o k key) where
     test_is : t ≡ less o k (entry_at v b i).key
-    unfolding entry_at
-    test_is = et ∙ ap (less o k) ek ∙ ap (λ (x : Span). less o k (window x.key x.klen b)) es
+    test_is = et ∙ ap (less o k) ek
 
     more : v.nkeys - i ≡ suc (v.nkeys - (i + 1))
     more = omega arith
@@ -50,6 +47,8 @@ module _ (v : Node) (b : List ℕ) (o : ℕ) (k : List ℕ) where
       let m : v.nkeys - i ≡ 0 = omega arith in
       let z : rest i ≡ 0 = rw m in
       omega (arith, inv, z)
+
+pub ruleset search = (search_here, search_next, search_none)
 
 -- ---- the entry that is found
 

@@ -1,5 +1,6 @@
 -- Laws of a slot's words: stored and loaded. Assumes nothing.
-use Rattle.std.specs.Prelude.{◌≡◌, refl, List, [], ◌∷◌, Bool, true, false, cond, ℕ, ◌+◌, ◌*◌, ◌≤◌, ◌<◌, length, get_or, set, ltb}
+use Rattle.std.specs.Prelude.{◌≡◌, refl, List, [], ◌∷◌, Bool, true, false, cond, ℕ, ◌+◌, ◌*◌, ◌≤◌, ◌<◌, length, get_or, set, ltb, eqb, Option, option_to_list}
+use Rattle.std.specs.Bool.{then_some}
 use Rattle.std.proofs.Common.{sym, ap, ◌∙◌, add-zero, add-one, arith, ltb-true, ltb-false}
 use Rattle.std.proofs.Math.Numerals.{add-two, add-three, add-four, add_five, add_six, add_seven, add_eight}
 use Rattle.std.proofs.lemmas.List.Edits.{sets-eq}
@@ -22,6 +23,11 @@ pub head_stored : (ws : List ℕ) (a : ℕ) (h : Head) → a + 9 ≤ length ws
 unfolding splice head_words
 head_stored ws a h r = rw (add-one a, add-two a, add-three a, add-four a, add_five a, add_six a, add_seven a, add_eight a)
     (sets-eq (head_words h) ws a r)
+
+-- a number under its mark, as an `Option`
+pub marked_is : (m x : ℕ) (o : Option ℕ) → o ≡ then_some (eqb m 1) x → option_to_list o ≡ marked m x
+unfolding marked
+marked_is m x o e = by_test (eqb m 1) (λ t. rw (e, t)) (λ t. rw (e, t))
 
 -- nine words as a head
 words_head : List ℕ → Head

@@ -10,7 +10,6 @@ use Rattle.seal.specs.Bytes.{u16_at, window}
 use Rattle.seal.specs.laws.WindowLaws.{drop_take}
 use Rattle.node.specs.Order.{byte, byte_less, less}
 use Rattle.node.specs.Records.{record_length, entry_of}
-use Rattle.node.specs.Find.{not_above}
 use Rattle.node.specs.laws.base.Tests.{by_test}
 use Rattle.node.specs.laws.slot.Records.{record_klen}
 use Rattle.node.specs.internal.Lead.{Leads, LeadOf}

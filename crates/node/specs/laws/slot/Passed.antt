@@ -13,6 +13,7 @@ use Rattle.node.specs.declared.slot.Found.{Found}
 use Rattle.node.specs.declared.slot.Last.{Last}
 use Rattle.node.specs.internal.SlotSteps.{found_in, last_in}
 use Rattle.node.specs.internal.Sought.{compared, Below, Passed}
+use Rattle.node.specs.laws.order.Compared.{compared_lt}
 use Rattle.node.specs.laws.base.Tests.{by_test, or_right, and_left, and_right}
 use Rattle.node.specs.laws.slot.Records.{length_entries, entries_head}
 use Rattle.node.specs.laws.slot.Slot.{at_lies, at_next}
@@ -59,10 +60,6 @@ any_asym o a b e =
 -- ---- how two keys stand
 
 module _ (o : ℕ) (a b : List ℕ) where
-  compared_lt : is_lt (compared o a b) ≡ less o a b
-  unfolding compared
-  compared_lt = by_test (less o a b) (λ t. rw t) (λ t. by_test (less o b a) (λ u. rw (t, u)) (λ u. rw (t, u)))
-
   compared_eq : less o a b ≡ false → is_eq (compared o a b) ≡ not (less o b a)
   unfolding compared
   compared_eq t = by_test (less o b a) (λ u. rw (t, u)) (λ u. rw (t, u))

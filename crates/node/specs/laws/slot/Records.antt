@@ -18,6 +18,7 @@ use Rattle.node.specs.Cut.{entry_size, size}
 use Rattle.node.specs.Entry.{Entry, Val, ghost, leaf, disk, mem, value_bytes, value_length}
 use Rattle.node.specs.Records.{mark_of, mark_length, value_of, record_length, entry_of, records_length, entries_of, record_bytes, record_of, records_of}
 use Rattle.node.specs.internal.SlotSteps.{parts_at}
+use Rattle.node.specs.internal.Storable.{Held, Storable}
 use Rattle.node.specs.declared.record.RecordParts.{RecordParts}
 
 -- ---- the length of a value, by its bytes and by its mark
@@ -142,14 +143,16 @@ head_joined l l₁ l₂ l₃ k at m h p q r =
     (omega arith) (omega arith) p q in
     splice_run l l₂ l₃ at (bytes_of 2 (length k) ++ bytes_of 2 m) (at + 4) k (omega arith) (omega arith) pq r
 
-pub put_record : (l l₁ l₂ l₃ l₄ k v : List ℕ) (at m : ℕ) → at + 4 + length k + length v ≤ length l → l₁ ≡ splice l at (bytes_of 2 (length k))
-    → l₂ ≡ splice l₁ (at + 2) (bytes_of 2 m)
-    → l₃ ≡ splice l₂ (at + 4) k → l₄ ≡ splice l₃ (at + 4 + length k) v → l₄ ≡ splice l at (record_bytes k m v)
-unfolding record_bytes
-put_record l l₁ l₂ l₃ l₄ k v at m h e₁ e₂ e₃ e₄ =
+pub put_record : (l l₁ l₂ l₃ l₄ k : List ℕ) (v : Val) (at m : ℕ) → at + 4 + length k + value_length v ≤ length l
+    → l₁ ≡ splice l at (bytes_of 2 (length k)) → m ≡ mark_of v → l₂ ≡ splice l₁ (at + 2) (bytes_of 2 m)
+    → l₃ ≡ splice l₂ (at + 4) k → l₄ ≡ splice l₃ (at + 4 + length k) (value_bytes v) → l₄ ≡ splice l at (record_of (record { key = k; value = v }))
+unfolding record_of
+put_record l l₁ l₂ l₃ l₄ k v at m h e₁ em e₂ e₃ e₄ =
     let n : length (bytes_of 2 (length k) ++ bytes_of 2 m ++ k) ≡ 4 + length k = length_head_key k m in
-    splice_run l l₃ l₄ at (bytes_of 2 (length k) ++ bytes_of 2 m ++ k) (at + 4 + length k) v (omega arith) h
+    splice_run l l₃ l₄ at (bytes_of 2 (length k) ++ bytes_of 2 m ++ k) (at + 4 + length k) (value_bytes v) (omega arith)
+    (omega (arith, length_value_bytes v))
     (head_joined l l₁ l₂ l₃ k at m (omega arith) e₁ e₂ e₃) e₄
+    ∙ ap (λ (x : ℕ). splice l at (bytes_of 2 (length k) ++ bytes_of 2 x ++ k ++ value_bytes v)) em
 
 -- ---- records that lists with the same first m bytes share
 
@@ -306,37 +309,25 @@ module _ (a b k v t : List ℕ) (la : length a ≡ 2) (lb : length b ≡ 2) (lk 
 
 -- ---- encoding and decoding: what a record can hold
 
--- a value that a record can hold
-abbrev pub Held : Val → Type 0
-Held ghost = Unit {0}
-Held (leaf v) = length v ≤ 0xFFFC
-Held (disk r) = r < 2 ^ 64
-Held (mem s) = s < 2 ^ 64
-
--- an entry that a record can hold
-pub record Storable (e : Entry) : Type 0 where
-  pub short : length e.key < 2 ^ 16
-  pub held : Held e.value
-
 pub data Storables : List Entry → Type 0 where
   none : Storables []
   more : {e : Entry} {es : List Entry} → Storable e → Storables es → Storables (e ∷ es)
 
-value_back : (v : Val) → Held v → value_of (mark_of v) (value_bytes v) ≡ v
+pub value_back : (v : Val) → Held v → value_of (mark_of v) (value_bytes v) ≡ v
 unfolding value_of mark_of value_bytes
 value_back ghost h = refl
 value_back (leaf v) h = rw (le-leb (length v) 0xFFFC h)
 value_back (disk r) h = ap disk (le_bytes_of 8 r h)
 value_back (mem s) h = ap mem (le_bytes_of 8 s h)
 
-mark_fits : (v : Val) → Held v → mark_length (mark_of v) ≡ length (value_bytes v)
+pub mark_fits : (v : Val) → Held v → mark_length (mark_of v) ≡ length (value_bytes v)
 unfolding mark_length mark_of value_bytes
 mark_fits ghost h = refl
 mark_fits (leaf v) h = rw (le-leb (length v) 0xFFFC h)
 mark_fits (disk r) h = sym (length_bytes_of 8 r)
 mark_fits (mem s) h = sym (length_bytes_of 8 s)
 
-mark_small : (v : Val) → Held v → mark_of v < 256 ^ 2
+pub mark_small : (v : Val) → Held v → mark_of v < 256 ^ 2
 unfolding mark_of
 mark_small ghost h = omega arith
 mark_small (leaf v) h = omega arith
@@ -545,3 +536,6 @@ records_size (suc n) l h =
 
 -- what `Record::at` takes of these
 pub ruleset lies = (lies_no, lies_long, lies_there)
+
+-- what `mark_length` takes of these
+pub ruleset marks = (mark_leaf, mark_ghost, mark_child)

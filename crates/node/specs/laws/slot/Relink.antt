@@ -1,18 +1,17 @@
 -- Laws of a child whose mark and number change in place. Assumes nothing.
 use Rattle.std.specs.Prelude.{◌≡◌, refl, List, [], true, ℕ, ◌+◌, ◌-◌, ◌≤◌, ◌<◌, ◌^◌, length, take, drop, ltb}
-use Rattle.std.proofs.Common.{sym, ap, ◌∙◌, append-nil, arith, length-drop, take-take, ne_eqb, ltb-true, ltb-false}
-use Rattle.std.proofs.lemmas.Bool.{lt-leb}
+use Rattle.std.proofs.Common.{sym, ap, ◌∙◌, append-nil, arith, length-drop, take-take, ltb-true, ltb-false}
 use Rattle.seal.specs.Bytes.{window, splice, moved, bytes_of, u16_at}
 use Rattle.seal.specs.laws.WindowLaws.{length_splice, splice_none}
-use Rattle.seal.specs.laws.FieldLaws.{length_bytes_of, le_bytes_of}
 use Rattle.node.specs.laws.base.Tests.{by_test, never}
-use Rattle.node.specs.Entry.{Val, ghost, leaf, disk, mem, value_length}
-use Rattle.node.specs.Records.{mark_length, value_of, record_length, entry_of, records_length, entries_of}
+use Rattle.node.specs.Entry.{Val, ghost, leaf, disk, mem, value_bytes, value_length}
+use Rattle.node.specs.Records.{mark_of, mark_length, value_of, record_length, entry_of, records_length, entries_of}
 use Rattle.node.specs.Slot.{with_value, is_child}
 use Rattle.node.specs.laws.base.Splice.{splice_widen, take_splice}
-use Rattle.node.specs.laws.slot.Records.{at_value, mark_child, records_local, records_less, entry_value_length}
+use Rattle.node.specs.laws.slot.Records.{length_value_bytes, value_back, mark_fits, mark_small, at_value, records_local, records_less, entry_value_length}
 use Rattle.node.specs.laws.slot.Slot.{at_lies, part_length, next_used, value_past, revalued_length, revalued_entries}
-use Rattle.node.specs.internal.SlotSteps.{child_of, parts_at}
+use Rattle.node.specs.internal.SlotSteps.{parts_at}
+use Rattle.node.specs.internal.Storable.{Held}
 use Rattle.node.specs.declared.record.RecordParts.{RecordParts}
 
 -- a child takes 8 bytes
@@ -23,21 +22,6 @@ child_long (leaf v) h = never h refl
 child_long (disk r) h = refl
 child_long (mem c) h = refl
 
-pub child_of_mem : (c : ℕ) → child_of 0xFFFD c ≡ mem c
-unfolding child_of
-child_of_mem c = refl
-
-pub child_of_disk : (r : ℕ) → child_of 0xFFFE r ≡ disk r
-unfolding child_of
-child_of_disk r = refl
-
-child_value : (m x : ℕ) → 0xFFFC < m → m < 0xFFFF → x < 2 ^ 64 → value_of m (bytes_of 8 x) ≡ child_of m x
-unfolding value_of child_of
-child_value m x a b f =
-    let n : m ≡ 0xFFFF → ⊥ = λ e. omega arith in
-    let f' : x < 256 ^ 8 = f in
-    rw (lt-leb m 0xFFFC a, ne_eqb m 0xFFFF n, le_bytes_of 8 x f')
-
 -- bytes put where they lie
 same_bytes : (l : List ℕ) (i n : ℕ) → i + n ≤ length l → l ≡ moved l i i n
 unfolding moved
@@ -47,9 +31,16 @@ same_bytes l i n h = sym (splice_none l (i + n)) ∙ splice_widen l i n [] h ∙
 take_before : (l : List ℕ) (m p : ℕ) (vs : List ℕ) → m ≤ p → p ≤ length l → take m (splice l p vs) ≡ take m l
 take_before l m p vs h k = sym (take-take m p (splice l p vs) h) ∙ ap (take m) (take_splice l p vs k) ∙ take-take m p l h
 
-module _ (l l₁ l₂ : List ℕ) (n i at mark x : ℕ) (r : RecordParts) (pa : at ≡ records_length i l) (h : i < n) (within : records_length n l ≤ length l)
-    (is_child_lem : is_child (entry_of (drop at l)).value ≡ true) (low : 0xFFFC < mark) (high : mark < 0xFFFF) (number : x < 2 ^ 64)
-    (e : r ≡ parts_at l at) where
+module _ (l : List ℕ) (n i at : ℕ) (w : Val) (r : RecordParts) (pa : at ≡ records_length i l) (h : i < n)
+    (within : records_length n l ≤ length l) (is_child_lem : is_child (entry_of (drop at l)).value ≡ true) (new : is_child w ≡ true)
+    (held_lem : Held w) (e : r ≡ parts_at l at) where
+  -- the new child takes 8 bytes too
+  eight : value_length w ≡ 8
+  eight = child_long w new
+
+  bytes_eight : length (value_bytes w) ≡ 8
+  bytes_eight = length_value_bytes w ∙ eight
+
   lies : at + record_length (drop at l) ≤ length l
   lies = at_lies l n i at within h pa
 
@@ -61,18 +52,19 @@ module _ (l l₁ l₂ : List ℕ) (n i at mark x : ℕ) (r : RecordParts) (pa : 
       let c = part_length at (u16_at (drop at l) 0) (u16_at (drop at l) 2) l refl refl in
       omega (arith, a, b, c, at_value l at r e)
 
-  pub link_room : r.value + 8 ≤ length l
-  link_room = omega (arith, value_end, lies)
+  pub link_room : r.value + value_length w ≤ length l
+  link_room = omega (arith, value_end, lies, eight)
 
   link_mark : at + 2 + 2 ≤ length l
   link_mark = omega (arith, lies, part_length at (u16_at (drop at l) 0) (u16_at (drop at l) 2) l refl refl)
 
-  module _ (e₁ : l₁ ≡ splice l r.value (bytes_of 8 x)) (e₂ : l₂ ≡ splice l₁ (at + 2) (bytes_of 2 mark)) where
+  module _ (l₁ l₂ : List ℕ) (mark : ℕ) (e₁ : l₁ ≡ splice l r.value (value_bytes w)) (em : mark ≡ mark_of w)
+      (e₂ : l₂ ≡ splice l₁ (at + 2) (bytes_of 2 mark)) where
     small : mark < 2 ^ 16
-    small = omega arith
+    small = omega (arith, mark_small w held_lem)
 
-    eight : mark_length mark ≡ length (bytes_of 8 x)
-    eight = sym (mark_child mark low (λ z. omega arith)) ∙ sym (length_bytes_of 8 x)
+    long : mark_length mark ≡ length (value_bytes w)
+    long = ap mark_length em ∙ mark_fits w held_lem
 
     -- no record moves: among the first k records, of which record i is one, the tail stays where it is
     module _ (k : ℕ) (hi : i < k) (hk : k ≤ n) where
@@ -82,36 +74,36 @@ module _ (l l₁ l₂ : List ℕ) (n i at mark x : ℕ) (r : RecordParts) (pa : 
       next : at + record_length (drop at l) ≤ records_length k l
       next = next_used l k i (records_length k l) at refl pa hi
 
-      stays : l ≡ moved l (at + record_length (drop at l)) (r.value + length (bytes_of 8 x)) (records_length k l - (at + record_length (drop at l)))
+      stays : l ≡ moved l (at + record_length (drop at l)) (r.value + length (value_bytes w)) (records_length k l - (at + record_length (drop at l)))
       stays =
-          let p : r.value + length (bytes_of 8 x) ≡ at + record_length (drop at l) = omega (arith, length_bytes_of 8 x, value_end) in
+          let p : r.value + length (value_bytes w) ≡ at + record_length (drop at l) = omega (arith, bytes_eight, value_end) in
           same_bytes l (at + record_length (drop at l)) (records_length k l - (at + record_length (drop at l))) (omega (arith, next, some))
           ∙ ap (λ (q : ℕ). moved l (at + record_length (drop at l)) q (records_length k l - (at + record_length (drop at l)))) (sym p)
 
-      fits : r.value + length (bytes_of 8 x) + (records_length k l - (at + record_length (drop at l))) ≤ length l
-      fits = omega (arith, length_bytes_of 8 x, value_end, next, some)
+      fits : r.value + length (value_bytes w) + (records_length k l - (at + record_length (drop at l))) ≤ length l
+      fits = omega (arith, bytes_eight, value_end, next, some)
 
       tail_start : records_length k l₂ ≡ records_length k l
       tail_start =
-          revalued_length l l l₁ l₂ (bytes_of 8 x) k i (records_length k l) at r.value (at + record_length (drop at l))
-          (u16_at (drop at l) 0) mark refl pa hi some fits small eight refl (at_value l at r e) refl stays e₁ e₂
-          ∙ omega (arith, length_bytes_of 8 x, value_end, next)
+          revalued_length l l l₁ l₂ (value_bytes w) k i (records_length k l) at r.value (at + record_length (drop at l))
+          (u16_at (drop at l) 0) mark refl pa hi some fits small long refl (at_value l at r e) refl stays e₁ e₂
+          ∙ omega (arith, bytes_eight, value_end, next)
 
-      changed : entries_of k l₂ ≡ with_value i (child_of mark x) (entries_of k l)
+      changed : entries_of k l₂ ≡ with_value i w (entries_of k l)
       changed =
-          revalued_entries l l l₁ l₂ (bytes_of 8 x) k i (records_length k l) at r.value (at + record_length (drop at l))
-          (u16_at (drop at l) 0) mark refl pa hi some fits small eight refl (at_value l at r e) refl stays e₁ e₂
-          ∙ ap (λ (v : Val). with_value i v (entries_of k l)) (child_value mark x low high number)
+          revalued_entries l l l₁ l₂ (value_bytes w) k i (records_length k l) at r.value (at + record_length (drop at l))
+          (u16_at (drop at l) 0) mark refl pa hi some fits small long refl (at_value l at r e) refl stays e₁ e₂
+          ∙ ap (λ (v : Val). with_value i v (entries_of k l)) (ap (λ (m : ℕ). value_of m (value_bytes w)) em ∙ value_back w held_lem)
 
-    pub relink_entries : entries_of n l₂ ≡ with_value i (child_of mark x) (entries_of n l)
+    pub relink_entries : entries_of n l₂ ≡ with_value i w (entries_of n l)
     relink_entries = changed n h (omega arith)
 
     before : take at l₂ ≡ take at l
     before =
         let p : r.value ≤ length l = omega (arith, link_room) in
-        let q : length l₁ ≡ length l = ap length e₁ ∙ length_splice l r.value (bytes_of 8 x) (omega (arith, length_bytes_of 8 x, link_room)) in
+        let q : length l₁ ≡ length l = ap length e₁ ∙ length_splice l r.value (value_bytes w) (omega (arith, bytes_eight, eight, link_room)) in
         ap (take at) e₂ ∙ take_before l₁ at (at + 2) (bytes_of 2 mark) (omega arith) (omega (arith, link_mark, q)) ∙ ap (take at) e₁
-        ∙ take_before l at r.value (bytes_of 8 x) (omega (arith, value_past l at r e)) p
+        ∙ take_before l at r.value (value_bytes w) (omega (arith, value_past l at r e)) p
 
     pub relink_starts : (j : ℕ) → j ≤ n → records_length j l₂ ≡ records_length j l
     relink_starts j hj =

@@ -13,10 +13,12 @@ use Rattle.seal.specs.Bytes.{u16_at, u64_at, field_at, le, window, splice, moved
 use Rattle.seal.specs.laws.WindowLaws.{length_window, window_add, splice_under}
 use Rattle.seal.specs.laws.FieldLaws.{field_drop, le_bytes_of, length_bytes_of}
 use Rattle.node.specs.laws.base.Splice.{window_drop, take_splice, drop_splice, splice_widen}
-use Rattle.node.specs.Entry.{Entry, Val, leaf, disk, mem, value_length}
-use Rattle.node.specs.Records.{mark_length, value_of, record_bytes, record_length, entry_of, records_length, entries_of}
+use Rattle.std.specs.Borrow.{Bor}
+use Rattle.node.specs.Entry.{Entry, Val, leaf, disk, mem, value_length, value_bytes}
+use Rattle.node.specs.Records.{mark_of, mark_length, value_of, record_bytes, record_of, record_length, entry_of, records_length, entries_of}
 use Rattle.node.specs.internal.SlotSteps.{parts_at}
-use Rattle.node.specs.laws.slot.Records.{mark_child, length_bytes, records_local, entries_local, records_add, entries_add, records_next, records_rest, records_less, entries_front, entries_rest, entries_head, decoded, decoded_length, entry_key_length, entry_value_length, at_key, at_mark, at_value, at_length}
+use Rattle.node.specs.internal.Storable.{Held}
+use Rattle.node.specs.laws.slot.Records.{mark_child, length_bytes, records_local, entries_local, records_add, entries_add, records_next, records_rest, records_less, entries_front, entries_rest, entries_head, decoded, decoded_length, entry_key_length, entry_value_length, at_key, at_mark, at_value, at_vlen, at_length, at_after, length_value_bytes, value_back, mark_fits, mark_small}
 use Rattle.node.specs.Slot.{insert_at, remove_at, rekeyed, with_key, revalued, with_value, child_means, value_means}
 use Rattle.node.specs.declared.record.RecordParts.{RecordParts}
 use Rattle.node.specs.declared.val.Child.TheVariants as child
@@ -37,10 +39,6 @@ at_lies l n i at h q p =
 
 pub at_next : (l : List ℕ) (i at r : ℕ) → at ≡ records_length i l → r ≡ at + record_length (drop at l) → r ≡ records_length (i + 1) l
 at_next l i at r p q = q ∙ ap (λ (x : ℕ). x + record_length (drop x l)) p ∙ sym (records_next i l)
-
-pub at_lies_below : (l : List ℕ) (n i k at : ℕ) → records_length n l ≤ length l → i ≤ n → k < i → at ≡ records_length k l
-    → at + record_length (drop at l) ≤ length l
-at_lies_below l n i k at h q r p = at_lies l n k at h (omega arith) p
 
 pub at_used : (l : List ℕ) (n i used at : ℕ) → used ≡ records_length n l → at ≡ records_length i l → i ≤ n → at ≤ used
 at_used l n i used at p q h = let b = records_less i n l h in omega arith
@@ -202,23 +200,49 @@ module _ (l l₁ l₂ key value : List ℕ) (n i used at mark : ℕ) (pu : used 
   count : i + (1 + (n - i)) ≡ n + 1
   count = omega arith
 
-  pub insert_entries : entries_of (n + 1) l₂ ≡ insert_at i (record { key = key; value = value_of mark value }) (entries_of n l)
+  inserted_entries : entries_of (n + 1) l₂ ≡ insert_at i (record { key = key; value = value_of mark value }) (entries_of n l)
   unfolding insert_at
-  insert_entries =
+  inserted_entries =
       let ii : i ≤ i = omega arith in
       ap (λ (x : ℕ). entries_of x l₂) (sym count)
       ∙ put_entries_lem l l₂ (bytes_of 2 (length key)) (bytes_of 2 mark) key value n i i used at at (length_bytes_of 2 (length key))
       (length_bytes_of 2 mark) lk (ap mark_length lm ∙ mv) ii h within pu pa pa insert_changed
       ∙ ap (λ (x : ℕ). take i (entries_of n l) ++ (record { key = key; value = value_of x value } ∷ drop i (entries_of n l))) lm
 
-  pub insert_length : records_length (n + 1) l₂ ≡ used + 4 + length key + length value
-  insert_length =
+  inserted_length : records_length (n + 1) l₂ ≡ used + 4 + length key + length value
+  inserted_length =
       let ii : i ≤ i = omega arith in
       let au = records_less i n l h in
       ap (λ (x : ℕ). records_length x l₂) (sym count)
       ∙ put_length l l₂ (bytes_of 2 (length key)) (bytes_of 2 mark) key value n i i used at at (length_bytes_of 2 (length key))
       (length_bytes_of 2 mark) lk (ap mark_length lm ∙ mv) ii h within pu pa pa insert_changed
       ∙ omega arith
+
+module _ (l l₁ l₂ key : List ℕ) (v : Val) (n i used at : ℕ) (pu : used ≡ records_length n l) (pa : at ≡ records_length i l) (h : i ≤ n)
+    (room : used + 4 + length key + value_length v ≤ length l) (kf : length key < 2 ^ 16) (held_lem : Held v)
+    (e₁ : l₁ ≡ moved l at (at + 4 + length key + value_length v) (used - at))
+    (e₂ : l₂ ≡ splice l₁ at (record_of (record { key = key; value = v }))) where
+  value_room_lem : used + 4 + length key + length (value_bytes v) ≤ length l
+  value_room_lem = omega (arith, length_value_bytes v)
+
+  shifted : l₁ ≡ moved l at (at + 4 + length key + length (value_bytes v)) (used - at)
+  shifted = e₁ ∙ ap (λ (x : ℕ). moved l at (at + 4 + length key + x) (used - at)) (sym (length_value_bytes v))
+
+  stored : l₂ ≡ splice l₁ at (record_bytes key (mark_of v) (value_bytes v))
+  unfolding record_of record_bytes
+  stored = e₂
+
+  pub insert_entries : entries_of (n + 1) l₂ ≡ insert_at i (record { key = key; value = v }) (entries_of n l)
+  insert_entries =
+      inserted_entries l l₁ l₂ key (value_bytes v) n i used at (mark_of v) pu pa h value_room_lem kf (mark_small v held_lem) (mark_fits v held_lem)
+      shifted stored
+      ∙ ap (λ (x : Val). insert_at i (record { key = key; value = x }) (entries_of n l)) (value_back v held_lem)
+
+  pub insert_length : records_length (n + 1) l₂ ≡ used + 4 + length key + value_length v
+  insert_length =
+      inserted_length l l₁ l₂ key (value_bytes v) n i used at (mark_of v) pu pa h value_room_lem kf (mark_small v held_lem) (mark_fits v held_lem)
+      shifted stored
+      ∙ ap (λ (x : ℕ). used + 4 + length key + x) (length_value_bytes v)
 
 -- ---- a record removed
 
@@ -452,24 +476,44 @@ module _ (l l₁ l₂ l₃ value : List ℕ) (n i used at v next klen mark : ℕ
       (sym (part_key at klen l pk)) mark_set
       ∙ ap (λ (x : List Entry). take i (entries_of n l) ++ revalued (value_of mark value) x) (sym (entries_head i n at l h pa))
 
-module _ (l l₁ l₂ l₃ value : List ℕ) (n i used at v next klen mark : ℕ) (pu : used ≡ records_length n l) (pa : at ≡ records_length i l) (h : i < n)
-    (room : used + length value ≤ length l) (mf : mark < 2 ^ 16) (mv : mark_length mark ≡ length value) (pk : klen ≡ u16_at (drop at l) 0)
-    (pv : v ≡ at + 4 + klen) (pn : next ≡ at + record_length (drop at l))
-    (e₁ : l₁ ≡ moved l next (v + length value) (used - next)) (e₂ : l₂ ≡ splice l₁ v value) (e₃ : l₃ ≡ splice l₂ (at + 2) (bytes_of 2 mark)) where
+module _ (l l₁ l₂ l₃ : List ℕ) (w : Val) (n i used at v next klen mark : ℕ) (pu : used ≡ records_length n l) (pa : at ≡ records_length i l)
+    (h : i < n) (room : used + value_length w ≤ length l) (held_lem : Held w) (pk : klen ≡ u16_at (drop at l) 0)
+    (pv : v ≡ at + 4 + klen) (pn : next ≡ at + record_length (drop at l)) (pm : mark ≡ mark_of w)
+    (e₁ : l₁ ≡ moved l next (v + value_length w) (used - next)) (e₂ : l₂ ≡ splice l₁ v (value_bytes w))
+    (e₃ : l₃ ≡ splice l₂ (at + 2) (bytes_of 2 mark)) where
   set_within : records_length n l ≤ length l
   set_within = omega arith
 
-  set_room : v + length value + (used - next) ≤ length l
-  set_room = let a = part_length at klen (u16_at (drop at l) 2) l pk refl in let b = next_used l n i used at pu pa h in omega arith
+  set_room : v + length (value_bytes w) + (used - next) ≤ length l
+  set_room =
+      let a = part_length at klen (u16_at (drop at l) 2) l pk refl in
+      let b = next_used l n i used at pu pa h in
+      omega (arith, length_value_bytes w)
 
-  pub set_value_length : records_length n l₃ ≡ v + length value + (used - next)
-  set_value_length = revalued_length l l₁ l₂ l₃ value n i used at v next klen mark pu pa h set_within set_room mf mv pk pv pn e₁ e₂ e₃
+  set_moved : l₁ ≡ moved l next (v + length (value_bytes w)) (used - next)
+  set_moved = e₁ ∙ ap (λ (x : ℕ). moved l next (v + x) (used - next)) (sym (length_value_bytes w))
 
-  pub set_value_used : v + length value + (used - next) + value_length (entry_of (drop at l)).value ≡ used + length value
-  set_value_used = revalued_used l l₁ l₂ l₃ value n i used at v next klen mark pu pa h set_within set_room mf mv pk pv pn e₁ e₂ e₃
+  set_mark : mark < 2 ^ 16
+  set_mark = omega (arith, mark_small w held_lem)
 
-  pub set_value_entries : entries_of n l₃ ≡ with_value i (value_of mark value) (entries_of n l)
-  set_value_entries = revalued_entries l l₁ l₂ l₃ value n i used at v next klen mark pu pa h set_within set_room mf mv pk pv pn e₁ e₂ e₃
+  set_long : mark_length mark ≡ length (value_bytes w)
+  set_long = ap mark_length pm ∙ mark_fits w held_lem
+
+  pub set_value_length : records_length n l₃ ≡ v + value_length w + (used - next)
+  set_value_length =
+      revalued_length l l₁ l₂ l₃ (value_bytes w) n i used at v next klen mark pu pa h set_within set_room set_mark set_long pk pv pn set_moved e₂ e₃
+      ∙ ap (λ (x : ℕ). v + x + (used - next)) (length_value_bytes w)
+
+  pub set_value_used : v + value_length w + (used - next) + value_length (entry_of (drop at l)).value ≡ used + value_length w
+  set_value_used =
+      let u = revalued_used l l₁ l₂ l₃ (value_bytes w) n i used at v next klen mark pu pa h set_within set_room set_mark set_long pk pv pn
+      set_moved e₂ e₃ in
+      omega (arith, length_value_bytes w)
+
+  pub set_value_entries : entries_of n l₃ ≡ with_value i w (entries_of n l)
+  set_value_entries =
+      revalued_entries l l₁ l₂ l₃ (value_bytes w) n i used at v next klen mark pu pa h set_within set_room set_mark set_long pk pv pn set_moved e₂ e₃
+      ∙ ap (λ (x : Val). with_value i x (entries_of n l)) (ap (λ (m : ℕ). value_of m (value_bytes w)) pm ∙ value_back w held_lem)
 
 -- ---- the last records, at the start of another slot
 
@@ -522,11 +566,30 @@ module _ (l : List ℕ) (at : ℕ) (r : RecordParts) (e : r ≡ parts_at l at) w
   value_there : (entry_of (drop at l)).value ≡ value_of r.mark (window r.value (mark_length r.mark) l)
   value_there = part_value at r.value (u16_at (drop at l) 0) r.mark l refl (at_mark l at r e) (at_value l at r e)
 
-  pub value_leaf : r.mark ≤ 0xFFFC → value_means l (held.Leaf r.value r.vlen) ≡ (entry_of (drop at l)).value
-  unfolding value_means value_of
-  value_leaf h = ap (λ (x : ℕ). leaf (window r.value x l)) (at_length l at r e) ∙ sym (value_there ∙ rw (le-leb r.mark 0xFFFC h))
+  value_long : r.next ≡ r.value + r.vlen
+  value_long =
+      let a = at_value l at r e in
+      let b = part_length at (u16_at (drop at l) 0) (u16_at (drop at l) 2) l refl refl in
+      omega (arith, at_after l at r e, at_vlen l at r e)
 
-  pub value_ghost : 0xFFFC < r.mark → r.mark ≡ 0xFFFF → value_means l held.Ghost ≡ (entry_of (drop at l)).value
+  pub value_start : r.value ≤ r.next
+  value_start = omega (arith, value_long)
+
+  pub value_end : at + record_length (drop at l) ≤ length l → r.next ≤ length l
+  value_end h = omega (arith, at_after l at r e)
+
+  pub value_window : r.mark ≤ 0xFFFC → leaf (window r.value r.vlen l) ≡ (entry_of (drop at l)).value
+  unfolding value_of
+  value_window h = ap (λ (x : ℕ). leaf (window r.value x l)) (at_length l at r e) ∙ sym (value_there ∙ rw (le-leb r.mark 0xFFFC h))
+
+  pub value_leaf : (v : Bor (List ℕ)) → v.now ≡ take (r.next - r.value) (drop r.value l) → r.mark ≤ 0xFFFC
+      → value_means (held.Leaf v) ≡ (entry_of (drop at l)).value
+  unfolding value_means window
+  value_leaf v s h =
+      let n : r.next - r.value ≡ r.vlen = omega (arith, value_long) in
+      ap leaf s ∙ ap (λ (x : ℕ). leaf (take x (drop r.value l))) n ∙ value_window h
+
+  pub value_ghost : 0xFFFC < r.mark → r.mark ≡ 0xFFFF → value_means held.Ghost ≡ (entry_of (drop at l)).value
   unfolding value_means value_of
   value_ghost h q = sym (value_there ∙ rw (lt-leb r.mark 0xFFFC h, eq-eqb r.mark 0xFFFF q))
 
@@ -538,14 +601,14 @@ module _ (l : List ℕ) (at : ℕ) (r : RecordParts) (e : r ≡ parts_at l at) w
       omega arith
 
   pub value_disk : (x : ℕ) → 0xFFFC < r.mark → (r.mark ≡ 0xFFFF → ⊥) → r.mark ≡ 0xFFFE → x ≡ u64_at l r.value
-      → value_means l (held.Child (child.Disk x)) ≡ (entry_of (drop at l)).value
+      → value_means (held.Child (child.Disk x)) ≡ (entry_of (drop at l)).value
   unfolding value_means child_means value_of field_at
   value_disk x h q d p =
       let m = mark_child r.mark h q in
       ap disk p ∙ sym (value_there ∙ rw (lt-leb r.mark 0xFFFC h, ne_eqb r.mark 0xFFFF q, eq-eqb r.mark 0xFFFE d, ← m))
 
   pub value_mem : (x : ℕ) → 0xFFFC < r.mark → (r.mark ≡ 0xFFFF → ⊥) → (r.mark ≡ 0xFFFE → ⊥) → x ≡ u64_at l r.value
-      → value_means l (held.Child (child.Mem x)) ≡ (entry_of (drop at l)).value
+      → value_means (held.Child (child.Mem x)) ≡ (entry_of (drop at l)).value
   unfolding value_means child_means value_of field_at
   value_mem x h q d p =
       let m = mark_child r.mark h q in
@@ -554,4 +617,4 @@ module _ (l : List ℕ) (at : ℕ) (r : RecordParts) (e : r ≡ parts_at l at) w
 -- what `Record::key` and `Record::value` take of these
 pub ruleset key = (key_start, key_end, key_part)
 
-pub ruleset value = (value_leaf, value_ghost, value_room, value_disk, value_mem)
+pub ruleset value = (value_start, value_end, value_leaf, value_ghost, value_room, value_disk, value_mem)

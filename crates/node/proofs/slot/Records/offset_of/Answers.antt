@@ -1,15 +1,15 @@
-use Rattle.std.proofs.Common.{rules}
-use Rattle.node.specs.laws.slot.Slot.{at_start, at_lies_below}
-use Rattle.node.specs.laws.slot.SameHead.{like_start, like_next}
+use Rattle.std.proofs.Common.{arith, ap, ◌∙◌, ◌+◌, ◌≡◌}
+use Rattle.node.specs.laws.slot.Walk.{goes_on}
 use Rattle.node.proofs.slot.Records.offset_of.Goals as goal
 
-ruleset laws = (rules, at_start, like_start, like_next)
+pub loop-preserved : goal.loop-preserved
+loop-preserved c =
+    let i = c.loop.invariant in
+    let g = goes_on c.loop.walk c.next.result c.next.new.self c.next.ensures.steps (omega (arith, i.1, ap (λ x. x.count) i.0)) in
+    (g.0 ∙ i.0, g.1 ∙ ap (λ x. x + 1) i.1)
 
-pub loop-k-init : goal.loop-k-init
-loop-k-init c = search laws
-
-pub invariant_of-r : goal.invariant_of-r
-invariant_of-r c = record { lies = at_lies_below _ _ _ _ _ c.args.self.within c.requires c.loop-k-test.true c.loop-k.invariant.start }
-
-pub loop-k-preserved : goal.loop-k-preserved
-loop-k-preserved c = search laws
+pub returns : goal.returns
+returns c =
+    let i = c.loop.invariant in
+    let e : c.loop.counter ≡ c.args.i = omega arith in
+    rw (← e, ← i.1, ← i.0) c.loop.walk.start

@@ -5,7 +5,8 @@ use Rattle.node.specs.internal.SlotSteps.{lengths_of}
 use Rattle.node.specs.Cut.{cut_place}
 use Rattle.node.specs.Records.{entries_of}
 use mathlib.Core.Bool.{false}
-use Rattle.node.proofs.slot.Records.cut_place.Given as goal
+use Rattle.node.proofs.cut.Whole.left.Given as goal
 
 abbrev pub invariant-loop-place : goal.invariant-loop-place
-invariant-loop-place l = (l.lengths ≡ lengths_of l.info l.place l.self.slot.now) × (l.place ≤ cut_place (fits l.info false l.level) (entries_of l.n l.self.slot.now))
+invariant-loop-place l = (l.lengths ≡ lengths_of l.self.info l.place l.self.records.slot.now)
+    × (l.place ≤ cut_place (fits l.self.info false l.self.level) (entries_of l.n l.self.records.slot.now))
