@@ -19,4 +19,4 @@ unfoldable pub use Rattle.node.specs.Slot.{head_at, head_words, marked, node_of,
 pub use Rattle.node.specs.declared.head.Head.{Head}
 pub use Rattle.node.specs.declared.info.BTreeInfo.{BTreeInfo}
 pub use Rattle.node.specs.declared.build.NodeBuild.{NodeBuild}
-pub use Rattle.node.specs.declared.read.Place.{Place}
+pub use Rattle.node.specs.Place.{Place}

@@ -9,7 +9,7 @@ use Rattle.node.specs.Find.{key_at, val_at, way_index, last_not_above, last_of}
 use Rattle.node.specs.Fit.{flag}
 use Rattle.node.specs.Read.{OnDisk, read_node, info_at}
 use Rattle.node.specs.Slot.{MemNode, with_value}
-use Rattle.node.specs.declared.read.Place.{Place}
+use Rattle.node.specs.Place.{Place}
 use Rattle.tree.specs.Lent.{Lent, block_at, in_image}
 use Rattle.tree.specs.State.{State, node_at, put_node, add_node, with_entries}
 

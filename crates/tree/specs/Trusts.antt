@@ -71,6 +71,11 @@ pub record Trusts (image : List ℕ) (l : Lent) (t : Tree) (heads bytes : List �
 
 -- ---- what is left
 
+-- the tree is as it was, on slots that are ready
+abbrev pub Stays : Lent → Tree → List ℕ → List ℕ → List ℕ → List ℕ → Type 0
+Stays l t heads bytes heads' bytes' =
+    (state_of l.size t heads' bytes' ≡ state_of l.size t heads bytes) × Ready l.size l.slots t.used heads' bytes'
+
 -- an accepted open leaves a tree to be trusted
 abbrev pub OpenedTrusts : List ℕ → Lent → List ℕ → List ℕ → std.Result Tree Refusal → Type 0
 OpenedTrusts image l heads bytes (Err x) = Unit {0}
@@ -78,30 +83,25 @@ OpenedTrusts image l heads bytes (Ok t) = Trusts image l t heads bytes
 
 -- a refused get leaves the tree as it was, an accepted one a tree to be trusted
 abbrev pub GotCalled : List ℕ → Lent → Tree → List ℕ → List ℕ → List ℕ → List ℕ → std.Result (Tree × Option Copied) Refusal → Type 0
-GotCalled image l t heads bytes heads' bytes' (Err x) =
-    (state_of l.size t heads' bytes' ≡ state_of l.size t heads bytes) × Ready l.size l.slots t.used heads' bytes'
+GotCalled image l t heads bytes heads' bytes' (Err x) = Stays l t heads bytes heads' bytes'
 GotCalled image l t heads bytes heads' bytes' (Ok (u, c)) = Trusts image l u heads' bytes'
 
 -- a refused floor leaves the tree as it was, an accepted one a tree to be trusted
 abbrev pub FloorCalled : List ℕ → Lent → Tree → List ℕ → List ℕ → List ℕ → List ℕ → std.Result (Tree × Option ℕ) Refusal → Type 0
-FloorCalled image l t heads bytes heads' bytes' (Err x) =
-    (state_of l.size t heads' bytes' ≡ state_of l.size t heads bytes) × Ready l.size l.slots t.used heads' bytes'
+FloorCalled image l t heads bytes heads' bytes' (Err x) = Stays l t heads bytes heads' bytes'
 FloorCalled image l t heads bytes heads' bytes' (Ok (u, n)) = Trusts image l u heads' bytes'
 
 -- a refused range leaves the tree as it was, an accepted one a tree to be trusted
 abbrev pub RangeCalled : List ℕ → Lent → Tree → List ℕ → List ℕ → List ℕ → List ℕ → std.Result Ranged Refusal → Type 0
-RangeCalled image l t heads bytes heads' bytes' (Err x) =
-    (state_of l.size t heads' bytes' ≡ state_of l.size t heads bytes) × Ready l.size l.slots t.used heads' bytes'
+RangeCalled image l t heads bytes heads' bytes' (Err x) = Stays l t heads bytes heads' bytes'
 RangeCalled image l t heads bytes heads' bytes' (Ok r) = Trusts image l r.tree heads' bytes'
 
 -- a refused edit leaves the tree as it was, an accepted one a tree to be trusted
 abbrev pub EditedCalled : List ℕ → Lent → Tree → List ℕ → List ℕ → List ℕ → List ℕ → std.Result Tree Refusal → Type 0
-EditedCalled image l t heads bytes heads' bytes' (Err x) =
-    (state_of l.size t heads' bytes' ≡ state_of l.size t heads bytes) × Ready l.size l.slots t.used heads' bytes'
+EditedCalled image l t heads bytes heads' bytes' (Err x) = Stays l t heads bytes heads' bytes'
 EditedCalled image l t heads bytes heads' bytes' (Ok u) = Trusts image l u heads' bytes'
 
 -- the same of remove
 abbrev pub RemovedCalled : List ℕ → Lent → Tree → List ℕ → List ℕ → List ℕ → List ℕ → std.Result (Tree × Bool) Refusal → Type 0
-RemovedCalled image l t heads bytes heads' bytes' (Err x) =
-    (state_of l.size t heads' bytes' ≡ state_of l.size t heads bytes) × Ready l.size l.slots t.used heads' bytes'
+RemovedCalled image l t heads bytes heads' bytes' (Err x) = Stays l t heads bytes heads' bytes'
 RemovedCalled image l t heads bytes heads' bytes' (Ok (u, there)) = Trusts image l u heads' bytes'

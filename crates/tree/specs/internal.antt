@@ -1,9 +1,11 @@
 -- Definitions that only internal contracts cite, or that a theorem assumes.
 pub mod Bank
+pub mod View
 pub mod Undo
 pub mod Tree
 pub mod Way
 pub mod Marks
+pub mod Mapped
 pub mod Map
 pub mod Open
 pub mod Holding

@@ -5,6 +5,7 @@ ghost use Rattle.node.specs.Find.{val_at};
 ghost use Rattle.node.specs.Records.{records_length, entries_of};
 ghost use Rattle.node.specs.Slot.{head_at, with_value, is_child};
 ghost use Rattle.node.specs.Read.{spans_length, on_disk};
+ghost use Rattle.node.specs.laws.base.Bytes.{Bytes};
 ghost use Rattle.tree.specs.State.{with_entries, marked_dirty};
 ghost use Rattle.tree.specs.Load.{adopted};
 ghost use Rattle.tree.specs.Workspace.{slot_bytes};
@@ -12,11 +13,13 @@ ghost use Rattle.tree.specs.Trusts.{live, Ready};
 ghost use Rattle.tree.specs.internal.Bank.{node_in, Wrote, Put};
 ghost use Rattle.tree.specs.internal.Undo.{Follows};
 
+use crate::lent::Lent;
 use crate::undo;
 use node::head::Head;
 use node::read::ReadNode;
 use node::slot::Records;
-use node::{head, record, slot};
+use node::val::Child;
+use node::{head, slot};
 
 // A slot's bytes: so many blocks' worth.
 pub const SLOT_BLOCKS: usize = 4;
@@ -46,7 +49,8 @@ pub fn live_at(heads: &[u64], n: usize) -> Head
 // The bytes of slot n.
 pub fn slot_of(bytes: &[u8], size: usize, n: usize) -> &[u8]
     requires { (n * (4 * size) + 4 * size ≤ length bytes.now) × (size ≤ 65536) × (n ≤ 4096) }
-    ensures { result.now ≡ slot_bytes size bytes.now n }
+    ensures slot { result.now ≡ slot_bytes size bytes.now n }
+    ensures bytes { Bytes result.now }
 {
     let a = n * (SLOT_BLOCKS * size);
     let e = a + SLOT_BLOCKS * size;
@@ -61,71 +65,46 @@ fn link_part(slot: &mut [u8], count: u64, i: u64, c: u64)
         × (entries_of count slot.new ≡ with_value i (mem c) (entries_of count slot.old)) }
 {
     let at = Records { slot, count }.offset_of(i);
-    slot::relink(slot, count, i, at, record::MEM, c);
+    slot::relink(slot, count, i, at, Child::Mem(c));
 }
 
 // The child of entry i of slot n is in slot c now. The slot is saved.
-fn link_in(
-    heads: &[u64],
-    bytes: &mut [u8],
-    size: usize,
-    slots: usize,
-    used: usize,
-    n: usize,
-    i: u64,
-    c: u64,
-)
-    requires ready { Ready size slots used heads.now bytes.old }
+fn link_in(heads: &[u64], bytes: &mut [u8], lent: Lent, used: usize, n: usize, i: u64, c: u64)
+    requires ready { Ready lent.size lent.slots used heads.now bytes.old }
     requires n_lt_used { (n < used) × (i < (live (head_at heads.now n)).count)
-        × (is_child (val_at (node_in size heads.now bytes.old n).entries i) ≡ true) }
-    ensures { Wrote size heads.now bytes.old heads.now bytes.new n
-        (with_entries (node_in size heads.now bytes.old n) (with_value i (mem c) (node_in size
+        × (is_child (val_at (node_in lent.size heads.now bytes.old n).entries i) ≡ true) }
+    ensures { Wrote lent.size heads.now bytes.old heads.now bytes.new n
+        (with_entries (node_in lent.size heads.now bytes.old n) (with_value i (mem c) (node_in lent.size
         heads.now bytes.old n).entries)) }
 {
     let h = live_at(heads, n);
-    let a = n * (SLOT_BLOCKS * size);
-    let e = a + SLOT_BLOCKS * size;
+    let a = n * (SLOT_BLOCKS * lent.size);
+    let e = a + SLOT_BLOCKS * lent.size;
     link_part(&mut bytes[a..e], h.count, i, c);
 }
 
 // The child of entry i of slot n is in slot c now.
-pub fn link(
-    heads: &mut [u64],
-    bytes: &mut [u8],
-    size: usize,
-    slots: usize,
-    used: usize,
-    n: usize,
-    i: u64,
-    c: u64,
-)
-    requires ready { Ready size slots used heads.old bytes.old }
+pub fn link(heads: &mut [u64], bytes: &mut [u8], lent: Lent, used: usize, n: usize, i: u64, c: u64)
+    requires ready { Ready lent.size lent.slots used heads.old bytes.old }
     requires n_lt_used { (n < used) × (i < (live (head_at heads.old n)).count)
-        × (is_child (val_at (node_in size heads.old bytes.old n).entries i) ≡ true) }
-    ensures put { Put size slots heads.old bytes.old heads.new bytes.new n
-        (with_entries (node_in size heads.old bytes.old n) (with_value i (mem c) (node_in size
+        × (is_child (val_at (node_in lent.size heads.old bytes.old n).entries i) ≡ true) }
+    ensures put { Put lent.size lent.slots heads.old bytes.old heads.new bytes.new n
+        (with_entries (node_in lent.size heads.old bytes.old n) (with_value i (mem c) (node_in lent.size
         heads.old bytes.old n).entries)) }
-    ensures follows { Follows size slots used heads.old bytes.old heads.new bytes.new }
+    ensures follows { Follows lent.size lent.slots used heads.old bytes.old heads.new bytes.new }
 {
-    undo::save(heads, bytes, size, slots, used, n);
-    link_in(heads, bytes, size, slots, used, n, i, c);
+    undo::save(heads, bytes, lent, used, n);
+    link_in(heads, bytes, lent, used, n, i, c);
 }
 
 // Slot n is dirty now.
-pub fn mark_dirty(
-    heads: &mut [u64],
-    bytes: &mut [u8],
-    size: usize,
-    slots: usize,
-    used: usize,
-    n: usize,
-)
-    requires ready { Ready size slots used heads.old bytes.old }
+pub fn mark_dirty(heads: &mut [u64], bytes: &mut [u8], lent: Lent, used: usize, n: usize)
+    requires ready { Ready lent.size lent.slots used heads.old bytes.old }
     requires n_lt_used { n < used }
-    ensures put { Put size slots heads.old bytes.old heads.new bytes.new n (marked_dirty (node_in size heads.old bytes.old n)) }
-    ensures follows { Follows size slots used heads.old bytes.old heads.new bytes.new }
+    ensures put { Put lent.size lent.slots heads.old bytes.old heads.new bytes.new n (marked_dirty (node_in lent.size heads.old bytes.old n)) }
+    ensures follows { Follows lent.size lent.slots used heads.old bytes.old heads.new bytes.new }
 {
-    undo::save(heads, bytes, size, slots, used, n);
+    undo::save(heads, bytes, lent, used, n);
     let h = Head::load(heads, n);
     let d = Head { dirty: 1, ..h };
     d.store(heads, n);

@@ -8,44 +8,75 @@ ghost use Rattle.tree.specs.Workspace.{state_of};
 ghost use Rattle.tree.specs.Answers.{edited_of};
 ghost use Rattle.tree.specs.Trusts.{Ready};
 ghost use Rattle.tree.specs.internal.Undo.{Follows};
-ghost use Rattle.tree.specs.internal.Index.{Rewritten, steps_from};
+ghost use Rattle.tree.specs.internal.Index.{Rewritten};
+ghost use Rattle.tree.specs.internal.Way.{steps_in};
 ghost use Rattle.tree.specs.internal.Edits.{above_of, CutFits, CutsFit, ReadyEdited};
 ghost use Rattle.tree.specs.internal.Cutting.{up_of, room_of, counted, stays_whole, child_put, ChildFits, root_added, RootFits, CutIs};
+ghost use Rattle.tree.specs.internal.View.{seen};
 
 use crate::editor::Tree;
 use crate::lent::Lent;
+use crate::view::{View, view};
+use crate::way::{MOST_LEVEL, Step};
 use crate::{bank, undo, writers};
+use node::cut::CutAt;
 use node::head::Head;
-use node::info::BTreeInfo;
-use node::refusal::Refusal;
+use node::refusal::{Refusal, check};
+use node::room::Shape;
 use node::slot::Records;
-use node::{bytes, fit, record};
-
-// The step of a way above a node.
-#[derive(Clone, Copy)]
-pub struct Up {
-    pub slot: usize,
-    pub child: u64,
-}
-
-// The greatest count that a root stores.
-const MOST_COUNT: u64 = 0xFFFFFFFFFFFFFFFF;
-
-// The highest level of a node.
-const MOST_LEVEL: u64 = 32;
+use node::val::{Child, Val};
 
 // The step above step j of a way; none above the root.
-fn step_above(way: &[usize], kids: &[u64], j: usize) -> Option<Up>
-    requires { (j ≤ length way.now) × (j ≤ length kids.now) }
-    ensures { up_of result ≡ above_of way.now kids.now j }
+fn step_above(way: &[Step], j: usize) -> Option<Step>
+    requires { j ≤ length way.now }
+    ensures { up_of result ≡ above_of way.now j }
 {
     if j == 0 {
         return None;
     }
-    Some(Up {
-        slot: way[j - 1],
-        child: kids[j - 1],
-    })
+    Some(way[j - 1])
+}
+
+impl<'h, 'b> View<'h, 'b> {
+    // Whether the node of a slot needs no cut: it is dead, or it fits.
+    pub fn fits_at(self, n: usize) -> bool
+        requires sized { Sized self.tree.info × (n < self.tree.used) }
+        ensures { result ≡ stays_whole (seen self.entry) n }
+    {
+        let h = Head::load(self.heads, n);
+        if h.dead == 1 {
+            return true;
+        }
+        let records = Records {
+            slot: bank::slot_of(self.bytes, self.lent.size, n),
+            count: h.count,
+        };
+        let shape = Shape {
+            info: self.tree.info,
+            root: n == self.tree.root,
+            level: h.level,
+        };
+        records.fits(h.used, shape)
+    }
+
+    // 15: whether a root above slot n, cut after so many entries, fits and is not at level 33.
+    fn new_root_holds(self, n: usize, place: u64) -> bool
+        requires sized { Sized self.tree.info × (n < self.tree.used) × (1 ≤ place) }
+        ensures { result ≡ new_root_holds (parted (seen self.entry) n place) n self.entry.tree.used }
+    {
+        let level = self.level_at(n);
+        if MOST_LEVEL <= level {
+            return false;
+        }
+        let left = self.key_at(n, 0);
+        let right = self.key_at(n, place);
+        let above = Shape {
+            info: self.tree.info,
+            root: true,
+            level: level + 1,
+        };
+        above.fits_two(left.len() as u64, right.len() as u64)
+    }
 }
 
 impl Tree {
@@ -54,8 +85,7 @@ impl Tree {
         requires { (self.used ≤ slots) × (slots ≤ 4096) × (n ≤ 2) }
         ensures { result ≡ room_of self.info.node_count self.used slots n }
     {
-        let info = self.info;
-        if MOST_COUNT - (n as u64) < info.node_count {
+        if u64::MAX - (n as u64) < self.info.node_count {
             return Err(Refusal::Count);
         }
         if slots < self.used + n {
@@ -69,28 +99,8 @@ impl Tree {
         requires { self.info.node_count + n < 2 ^ 64 }
         ensures { result ≡ counted self n }
     {
-        self.info = BTreeInfo {
-            node_count: self.info.node_count + n,
-            ..self.info
-        };
+        self.info.node_count += n;
         self
-    }
-
-    // Whether the node of a slot needs no cut: it is dead, or it fits.
-    pub fn fits_at(self, heads: &[u64], bytes: &[u8], size: usize, slots: usize, n: usize) -> bool
-        requires ready { Ready size slots self.used heads.now bytes.now }
-        requires sized { Sized self.info × (n < self.used) }
-        ensures { result ≡ stays_whole (state_of size self heads.now bytes.now) n }
-    {
-        let h = Head::load(heads, n);
-        if h.dead == 1 {
-            return true;
-        }
-        let records = Records {
-            slot: bank::slot_of(bytes, size, n),
-            count: h.count,
-        };
-        records.fits(h.used, self.info, n == self.root, h.level)
     }
 
     // Before entry i of slot n, the child in slot c under its first key; slot n is dirty.
@@ -98,55 +108,43 @@ impl Tree {
         self,
         heads: &mut [u64],
         bytes: &mut [u8],
-        size: usize,
-        slots: usize,
+        lent: Lent,
         n: usize,
         i: u64,
         c: usize,
         scratch: &mut [u8],
     )
-        requires ready { Ready size slots self.used heads.old bytes.old }
-        requires room { ChildFits size (state_of size self heads.old bytes.old) n i c (length scratch.old) }
-        ensures { Rewritten size slots self heads.old bytes.old heads.new bytes.new
-            (child_put (state_of size self heads.old bytes.old) n i c) }
+        requires ready { Ready lent.size lent.slots self.used heads.old bytes.old }
+        requires room { ChildFits lent.size (state_of lent.size self heads.old bytes.old) n i c (length scratch.old) }
+        ensures { Rewritten lent.size lent.slots self heads.old bytes.old heads.new bytes.new
+            (child_put (state_of lent.size self heads.old bytes.old) n i c) }
     {
-        let len = self.first_key(heads, bytes, size, slots, c, scratch);
-        let mut number = [0u8; 8];
-        bytes::put_field::<8>(&mut number, 0, c as u64);
-        let at = writers::offset_at(heads, bytes, size, slots, self.used, n, i);
+        let len = view!(self, heads, bytes, lent).first_key(c, scratch);
+        let at = view!(self, heads, bytes, lent).offset_at(n, i);
         writers::insert_at(
             heads,
             bytes,
-            size,
-            slots,
+            lent,
             self.used,
             n,
             i,
             at,
             &scratch[..len],
-            record::MEM,
-            &number,
+            Val::Child(Child::Mem(c as u64)),
             true,
         );
     }
 
     // The next slot, without entries, one level above slot n, takes its id and block and is the root.
-    fn add_root(
-        mut self,
-        heads: &mut [u64],
-        bytes: &mut [u8],
-        size: usize,
-        slots: usize,
-        n: usize,
-    ) -> Tree
-        requires ready_2 { Ready size slots self.used heads.old bytes.old }
-        requires used_lt_slots { (self.used < slots) × (n < self.used) × ((node_at (state_of size self heads.old bytes.old) n).level < 32) }
-        ensures after { state_of size result heads.new bytes.new
-            ≡ root_added (state_of size self heads.old bytes.old) n }
-        ensures ready { Ready size slots result.used heads.new bytes.new }
-        ensures follows { Follows size slots self.used heads.old bytes.old heads.new bytes.new }
+    fn add_root(mut self, heads: &mut [u64], bytes: &mut [u8], lent: Lent, n: usize) -> Tree
+        requires ready_2 { Ready lent.size lent.slots self.used heads.old bytes.old }
+        requires used_lt_slots { (self.used < lent.slots) × (n < self.used) × ((node_at (state_of lent.size self heads.old bytes.old) n).level < 32) }
+        ensures after { state_of lent.size result heads.new bytes.new
+            ≡ root_added (state_of lent.size self heads.old bytes.old) n }
+        ensures ready { Ready lent.size lent.slots result.used heads.new bytes.new }
+        ensures follows { Follows lent.size lent.slots self.used heads.old bytes.old heads.new bytes.new }
     {
-        undo::save(heads, bytes, size, slots, self.used, n);
+        undo::save(heads, bytes, lent, self.used, n);
         let c = self.used;
         let h = Head::load(heads, n);
         let top = Head {
@@ -176,46 +174,22 @@ impl Tree {
         self,
         heads: &mut [u64],
         bytes: &mut [u8],
-        size: usize,
-        slots: usize,
+        lent: Lent,
         n: usize,
         r: usize,
         scratch: &mut [u8],
     ) -> Tree
-        requires ready { Ready size slots self.used heads.old bytes.old × (self.used < slots) }
-        requires room { RootFits size (state_of size self heads.old bytes.old) n r (length scratch.old) }
-        ensures after { state_of size result heads.new bytes.new
-            ≡ grow_root (state_of size self heads.old bytes.old) n r }
-        ensures ready { Ready size slots result.used heads.new bytes.new }
-        ensures follows { Follows size slots self.used heads.old bytes.old heads.new bytes.new }
+        requires ready { Ready lent.size lent.slots self.used heads.old bytes.old × (self.used < lent.slots) }
+        requires room { RootFits lent.size (state_of lent.size self heads.old bytes.old) n r (length scratch.old) }
+        ensures after { state_of lent.size result heads.new bytes.new
+            ≡ grow_root (state_of lent.size self heads.old bytes.old) n r }
+        ensures ready { Ready lent.size lent.slots result.used heads.new bytes.new }
+        ensures follows { Follows lent.size lent.slots self.used heads.old bytes.old heads.new bytes.new }
     {
-        let t = self.add_root(heads, bytes, size, slots, n);
-        t.link_child(heads, bytes, size, slots, t.root, 0, n, scratch);
-        t.link_child(heads, bytes, size, slots, t.root, 1, r, scratch);
+        let t = self.add_root(heads, bytes, lent, n);
+        t.link_child(heads, bytes, lent, t.root, 0, n, scratch);
+        t.link_child(heads, bytes, lent, t.root, 1, r, scratch);
         t
-    }
-
-    // 15: whether a root above slot n, cut after so many entries, fits and is not at level 33.
-    fn new_root_holds(
-        self,
-        heads: &[u64],
-        bytes: &[u8],
-        size: usize,
-        slots: usize,
-        n: usize,
-        place: u64,
-    ) -> bool
-        requires ready { Ready size slots self.used heads.now bytes.now }
-        requires sized { Sized self.info × (n < self.used) × (1 ≤ place) }
-        ensures { result ≡ new_root_holds (parted (state_of size self heads.now bytes.now) n place) n self.used }
-    {
-        let level = self.level_at(heads, bytes, size, slots, n);
-        if MOST_LEVEL <= level {
-            return false;
-        }
-        let left = self.key_at(heads, bytes, size, slots, n, 0);
-        let right = self.key_at(heads, bytes, size, slots, n, place);
-        fit::fits_two(self.info, level + 1, left.len() as u64, right.len() as u64)
     }
 
     // Slot n, the root, cut after so many entries: 15, 17, 11.
@@ -225,25 +199,23 @@ impl Tree {
         bytes: &mut [u8],
         lent: Lent,
         n: usize,
-        place: u64,
-        at: usize,
+        found: CutAt,
         scratch: &mut [u8],
     ) -> Result<Tree, Refusal>
         requires ready { (Ready lent.size lent.slots self.used heads.old bytes.old) × (lent.size ≤ length scratch.old) }
         requires room { (CutFits lent.size (state_of lent.size self heads.old bytes.old) [] n)
-            × (CutIs lent.size self heads.old bytes.old n place at) }
+            × (CutIs lent.size self heads.old bytes.old n found.place found.at) }
         ensures answer { edited_of lent.size heads.new bytes.new result
-            ≡ cut_at (lent_of [] lent) [] n place (state_of lent.size self heads.old bytes.old) }
+            ≡ cut_at (lent_of [] lent) [] n found.place (state_of lent.size self heads.old bytes.old) }
         ensures ready { ReadyEdited lent.size lent.slots heads.new bytes.new result }
         ensures follows { Follows lent.size lent.slots self.used heads.old bytes.old heads.new bytes.new }
     {
-        if !self.new_root_holds(heads, bytes, lent.size, lent.slots, n, place) {
-            return Err(Refusal::NewRoot);
-        }
+        let holds = view!(self, heads, bytes, lent).new_root_holds(n, found.place as u64);
+        check(Refusal::NewRoot, holds)?;
         self.room_for(lent.slots, 2)?;
         let r = self.used;
-        let t = self.part(heads, bytes, lent.size, lent.slots, n, place, at);
-        let top = t.grow_root(heads, bytes, lent.size, lent.slots, n, r, scratch);
+        let t = self.part(heads, bytes, lent, n, found.place as u64, found.at);
+        let top = t.grow_root(heads, bytes, lent, n, r, scratch);
         Ok(top.more_nodes(2))
     }
 
@@ -253,33 +225,23 @@ impl Tree {
         heads: &mut [u64],
         bytes: &mut [u8],
         lent: Lent,
-        up: Up,
+        up: Step,
         n: usize,
-        place: u64,
-        at: usize,
+        found: CutAt,
         scratch: &mut [u8],
     ) -> Result<Tree, Refusal>
         requires ready { (Ready lent.size lent.slots self.used heads.old bytes.old) × (lent.size ≤ length scratch.old) }
         requires room { (CutFits lent.size (state_of lent.size self heads.old bytes.old) (up_of (Some up)) n)
-            × (CutIs lent.size self heads.old bytes.old n place at) }
+            × (CutIs lent.size self heads.old bytes.old n found.place found.at) }
         ensures answer { edited_of lent.size heads.new bytes.new result
-            ≡ cut_at (lent_of [] lent) (up_of (Some up)) n place (state_of lent.size self heads.old bytes.old) }
+            ≡ cut_at (lent_of [] lent) (up_of (Some up)) n found.place (state_of lent.size self heads.old bytes.old) }
         ensures ready { ReadyEdited lent.size lent.slots heads.new bytes.new result }
         ensures follows { Follows lent.size lent.slots self.used heads.old bytes.old heads.new bytes.new }
     {
         self.room_for(lent.slots, 1)?;
         let r = self.used;
-        let t = self.part(heads, bytes, lent.size, lent.slots, n, place, at);
-        t.link_child(
-            heads,
-            bytes,
-            lent.size,
-            lent.slots,
-            up.slot,
-            up.child + 1,
-            r,
-            scratch,
-        );
+        let t = self.part(heads, bytes, lent, n, found.place as u64, found.at);
+        t.link_child(heads, bytes, lent, up.slot, up.child + 1, r, scratch);
         Ok(t.more_nodes(1))
     }
 
@@ -289,7 +251,7 @@ impl Tree {
         heads: &mut [u64],
         bytes: &mut [u8],
         lent: Lent,
-        up: Option<Up>,
+        up: Option<Step>,
         n: usize,
         scratch: &mut [u8],
     ) -> Result<Tree, Refusal>
@@ -300,7 +262,7 @@ impl Tree {
         ensures ready { ReadyEdited lent.size lent.slots heads.new bytes.new result }
         ensures follows { Follows lent.size lent.slots self.used heads.old bytes.old heads.new bytes.new }
     {
-        if self.fits_at(heads, bytes, lent.size, lent.slots, n) {
+        if view!(self, heads, bytes, lent).fits_at(n) {
             return Ok(self);
         }
         let h = Head::load(heads, n);
@@ -308,19 +270,15 @@ impl Tree {
             slot: bank::slot_of(bytes, lent.size, n),
             count: h.count,
         };
-        let found = records.cut(self.info, h.level)?;
+        let shape = Shape {
+            info: self.info,
+            root: n == self.root,
+            level: h.level,
+        };
+        let found = records.cut(shape)?;
         match up {
-            None => self.cut_root(heads, bytes, lent, n, found.place as u64, found.at, scratch),
-            Some(up) => self.cut_child(
-                heads,
-                bytes,
-                lent,
-                up,
-                n,
-                found.place as u64,
-                found.at,
-                scratch,
-            ),
+            None => self.cut_root(heads, bytes, lent, n, found, scratch),
+            Some(up) => self.cut_child(heads, bytes, lent, up, n, found, scratch),
         }
     }
 
@@ -330,25 +288,22 @@ impl Tree {
         heads: &mut [u64],
         bytes: &mut [u8],
         lent: Lent,
-        way: &[usize],
-        kids: &[u64],
-        steps: usize,
+        way: &[Step],
         scratch: &mut [u8],
     ) -> Result<Tree, Refusal>
-        requires ready { (Ready lent.size lent.slots self.used heads.old bytes.old)
-            × (steps ≤ length way.now) × (steps ≤ length kids.now) }
-        requires room { (CutsFit (lent_of [] lent) (state_of lent.size self heads.old bytes.old) way.now kids.now steps)
+        requires ready { Ready lent.size lent.slots self.used heads.old bytes.old }
+        requires room { (CutsFit (lent_of [] lent) (state_of lent.size self heads.old bytes.old) way.now)
             × (lent.size ≤ length scratch.old) }
         ensures answer { edited_of lent.size heads.new bytes.new result
-            ≡ cuts (lent_of [] lent) [] (steps_from way.now kids.now 0 steps) (state_of lent.size self
+            ≡ cuts (lent_of [] lent) [] (steps_in way.now) (state_of lent.size self
             heads.old bytes.old) }
         ensures ready { ReadyEdited lent.size lent.slots heads.new bytes.new result }
         ensures follows { Follows lent.size lent.slots self.used heads.old bytes.old heads.new bytes.new }
     {
         let mut t = self;
-        for j in (0..steps).rev() {
-            let up = step_above(way, kids, j);
-            t = t.cut_node(heads, bytes, lent, up, way[j], scratch)?;
+        for j in (0..way.len()).rev() {
+            let up = step_above(way, j);
+            t = t.cut_node(heads, bytes, lent, up, way[j].slot, scratch)?;
         }
         Ok(t)
     }

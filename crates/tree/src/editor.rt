@@ -1,28 +1,29 @@
 // An open tree: its numbers by value, its nodes in slots. A child loaded.
-ghost use Rattle.std.specs.Prelude.{◌≡◌, true, ◌+◌, ◌≤◌, ◌<◌, ◌^◌, length, Some};
+ghost use Rattle.std.specs.Prelude.{◌≡◌, true, ◌+◌, ◌≤◌, ◌<◌, ◌*◌, ◌^◌, length, IfOk, Some};
+ghost use Rattle.node.specs.Bytes.{window};
 ghost use Rattle.node.specs.declared.val.Child.TheVariants.{Disk};
 ghost use Rattle.node.specs.Find.{key_at, val_at};
 ghost use Rattle.node.specs.Slot.{head_at, is_child};
-ghost use Rattle.node.specs.Read.{spans_length, on_disk, read_of};
+ghost use Rattle.node.specs.Read.{spans_length, on_disk, read_of, map_ok};
 ghost use Rattle.tree.specs.Lent.{block_at, lent_of};
 ghost use Rattle.tree.specs.State.{node_at};
-ghost use Rattle.tree.specs.Load.{bound_key, tighter_lower, tighter_upper, child_bounds, load_child};
+ghost use Rattle.tree.specs.Load.{tighter_lower, tighter_upper, child_bounds, load_child};
 ghost use Rattle.tree.specs.Trusts.{live, Ready};
 ghost use Rattle.tree.specs.internal.Brought.{brought};
 ghost use Rattle.tree.specs.internal.Undo.{Follows};
 ghost use Rattle.tree.specs.Workspace.{state_of};
-ghost use Rattle.tree.specs.internal.Tree.{child_of, bound_of, BoundIn, BoundsIn, bounds_of, read_child, fetched_at, loaded_of, ReadyAfter};
+ghost use Rattle.tree.specs.internal.Tree.{child_of, bound_of, edge_of, BoundIn, BoundsIn, bounds_of, read_child, fetched_at, loaded_of, ReadyAfter};
+ghost use Rattle.tree.specs.internal.View.{seen};
 
 use crate::lent::Lent;
-use crate::{bank, map};
+use crate::view::{View, view};
+use crate::{bank, kids, map};
 use node::head::Head;
 use node::info::BTreeInfo;
 use node::order::Order;
-use node::read::{Node, Place, ReadNode};
-use node::record::Record;
-use node::refusal::Refusal;
-use node::slot::Records;
-use node::val::{Child, Val};
+use node::read::{Place, ReadNode};
+use node::refusal::{Refusal, check};
+use node::val::Child;
 
 #[derive(Clone, Copy)]
 pub struct Tree {
@@ -46,287 +47,195 @@ pub struct Bound {
 
 // The bounds of a node's keys; the first node of the first has no lower one, the last of the last no upper one.
 #[derive(Clone, Copy)]
-pub struct Bounds {
-    pub lower: Option<Bound>,
-    pub upper: Option<Bound>,
+pub struct Bounds<K> {
+    pub lower: Option<K>,
+    pub upper: Option<K>,
 }
 
 // No bounds: a root's.
-pub const UNBOUNDED: Bounds = Bounds {
+pub const UNBOUNDED: Bounds<Bound> = Bounds {
     lower: None,
     upper: None,
 };
 
-impl Tree {
+impl<'h, 'b> View<'h, 'b> {
     // The key of an entry of a slot; none where there is no such slot or entry.
-    pub fn key_at<'a>(
-        self,
-        heads: &[u64],
-        bytes: &'a [u8],
-        size: usize,
-        slots: usize,
-        n: usize,
-        i: u64,
-    ) -> &'a [u8]
-        requires { Ready size slots self.used heads.now bytes.now }
+    pub fn key_at(self, n: usize, i: u64) -> &'b [u8]
         ensures { result.now
-            ≡ key_at (node_at (state_of size self heads.now bytes.now) n).entries i }
+            ≡ key_at (node_at (seen self.entry) n).entries i }
     {
-        if self.used <= n {
-            return &bytes[..0];
+        let records = self.records(n);
+        if records.count <= i {
+            return &self.bytes[..0];
         }
-        let h = bank::live_at(heads, n);
-        if h.count <= i {
-            return &bytes[..0];
-        }
-        let part = bank::slot_of(bytes, size, n);
-        let records = Records {
-            slot: part,
-            count: h.count,
-        };
-        let at = records.offset_of(i);
-        Record { slot: part, at }.key()
+        records.record(i).key()
     }
 
     // The child of an entry of a slot.
-    pub fn child_at(
-        self,
-        heads: &[u64],
-        bytes: &[u8],
-        size: usize,
-        slots: usize,
-        n: usize,
-        i: u64,
-    ) -> Option<Child>
-        requires { Ready size slots self.used heads.now bytes.now }
+    pub fn child_at(self, n: usize, i: u64) -> Option<Child>
         ensures { result
-            ≡ child_of (val_at (node_at (state_of size self heads.now bytes.now) n).entries i) }
+            ≡ child_of (val_at (node_at (seen self.entry) n).entries i) }
     {
-        if self.used <= n {
+        let records = self.records(n);
+        if records.count <= i {
             return None;
         }
-        let h = bank::live_at(heads, n);
-        if h.count <= i {
-            return None;
-        }
-        let part = bank::slot_of(bytes, size, n);
-        let records = Records {
-            slot: part,
-            count: h.count,
-        };
-        let at = records.offset_of(i);
-        match (Record { slot: part, at }.value()) {
-            Val::Ghost => None,
-            Val::Leaf(_, _) => None,
-            Val::Child(c) => Some(c),
-        }
+        kids::child_of(records.record(i).value())
     }
 
     // How many entries a slot holds; none where there is no such slot.
-    pub fn count_at(self, heads: &[u64], bytes: &[u8], size: usize, slots: usize, n: usize) -> u64
-        requires { Ready size slots self.used heads.now bytes.now }
+    pub fn count_at(self, n: usize) -> u64
         ensures { (result
-            ≡ length (node_at (state_of size self heads.now bytes.now) n).entries)
+            ≡ length (node_at (seen self.entry) n).entries)
             × (result < 2 ^ 32) }
     {
-        if self.used <= n {
-            return 0;
-        }
-        let h = bank::live_at(heads, n);
-        h.count
+        self.records(n).count
     }
 
     // The level of a slot's node.
-    pub fn level_at(self, heads: &[u64], bytes: &[u8], size: usize, slots: usize, n: usize) -> u64
-        requires { Ready size slots self.used heads.now bytes.now }
-        ensures { result ≡ (node_at (state_of size self heads.now bytes.now) n).level }
+    pub fn level_at(self, n: usize) -> u64
+        ensures { result ≡ (node_at (seen self.entry) n).level }
     {
-        if self.used <= n {
+        if self.tree.used <= n {
             return 0;
         }
-        let h = Head::load(heads, n);
+        let h = Head::load(self.heads, n);
         h.level
     }
 
-    // The key of a bound; nothing where there is none.
-    fn bound_key<'a>(
-        self,
-        heads: &[u64],
-        bytes: &'a [u8],
-        size: usize,
-        slots: usize,
-        b: Option<Bound>,
-    ) -> &'a [u8]
-        requires { Ready size slots self.used heads.now bytes.now }
-        ensures { result.now ≡ bound_key (bound_of (state_of size self heads.now bytes.now) b) }
+    // The key of a bound, if there is one.
+    #[tactic(auto, using(crate::specs::laws::load::Fetch::bound_keys))]
+    fn bound_key(self, b: Option<Bound>) -> Option<&'b [u8]>
+        ensures { edge_of result ≡ bound_of (seen self.entry) b }
     {
-        match b {
-            None => &bytes[..0],
-            Some(b) => self.key_at(heads, bytes, size, slots, b.slot, b.index),
-        }
+        let bound = b?;
+        Some(self.key_at(bound.slot, bound.index))
     }
 
     // The higher of a lower bound and the key of entry i of slot n.
-    fn tighter_lower(
-        self,
-        heads: &[u64],
-        bytes: &[u8],
-        size: usize,
-        slots: usize,
-        b: Option<Bound>,
-        n: usize,
-        i: u64,
-    ) -> Option<Bound>
-        requires { Ready size slots self.used heads.now bytes.now }
-        ensures bound { bound_of (state_of size self heads.now bytes.now) result
-            ≡ tighter_lower self.order (bound_of (state_of size self heads.now bytes.now) b)
-            (key_at (node_at (state_of size self heads.now bytes.now) n).entries i) }
-        ensures within { BoundIn self.used b → n < self.used → BoundIn self.used result }
+    #[tactic(auto, using(crate::specs::laws::load::Fetch::tighter))]
+    fn tighter_lower(self, b: Option<Bound>, n: usize, i: u64) -> Option<Bound>
+        ensures bound { bound_of (seen self.entry) result
+            ≡ tighter_lower self.entry.tree.order (bound_of (seen self.entry) b)
+            (key_at (node_at (seen self.entry) n).entries i) }
+        ensures within { BoundIn self.entry.tree.used b → n < self.entry.tree.used → BoundIn self.entry.tree.used result }
     {
-        let new = Some(Bound { slot: n, index: i });
-        let Some(bound) = b else {
-            return new;
+        let order = Order {
+            code: self.tree.order,
         };
-        let order = Order { code: self.order };
-        let old = self.key_at(heads, bytes, size, slots, bound.slot, bound.index);
-        let key = self.key_at(heads, bytes, size, slots, n, i);
-        if order.less(old, key) {
-            return new;
+        match self.bound_key(b) {
+            Some(old) if !order.less(old, self.key_at(n, i)) => b,
+            _ => Some(Bound { slot: n, index: i }),
         }
-        b
     }
 
     // The lower of an upper bound and the key of entry i of slot n.
-    fn tighter_upper(
-        self,
-        heads: &[u64],
-        bytes: &[u8],
-        size: usize,
-        slots: usize,
-        b: Option<Bound>,
-        n: usize,
-        i: u64,
-    ) -> Option<Bound>
-        requires { Ready size slots self.used heads.now bytes.now }
-        ensures bound { bound_of (state_of size self heads.now bytes.now) result
-            ≡ tighter_upper self.order (bound_of (state_of size self heads.now bytes.now) b)
-            (key_at (node_at (state_of size self heads.now bytes.now) n).entries i) }
-        ensures within { BoundIn self.used b → n < self.used → BoundIn self.used result }
+    #[tactic(auto, using(crate::specs::laws::load::Fetch::tighter))]
+    fn tighter_upper(self, b: Option<Bound>, n: usize, i: u64) -> Option<Bound>
+        ensures bound { bound_of (seen self.entry) result
+            ≡ tighter_upper self.entry.tree.order (bound_of (seen self.entry) b)
+            (key_at (node_at (seen self.entry) n).entries i) }
+        ensures within { BoundIn self.entry.tree.used b → n < self.entry.tree.used → BoundIn self.entry.tree.used result }
     {
-        let new = Some(Bound { slot: n, index: i });
-        let Some(bound) = b else {
-            return new;
+        let order = Order {
+            code: self.tree.order,
         };
-        let order = Order { code: self.order };
-        let old = self.key_at(heads, bytes, size, slots, bound.slot, bound.index);
-        let key = self.key_at(heads, bytes, size, slots, n, i);
-        if order.less(key, old) {
-            return new;
+        match self.bound_key(b) {
+            Some(old) if !order.less(self.key_at(n, i), old) => b,
+            _ => Some(Bound { slot: n, index: i }),
         }
-        b
     }
 
     // The bounds of child i of slot n.
-    pub fn child_bounds(
-        self,
-        heads: &[u64],
-        bytes: &[u8],
-        size: usize,
-        slots: usize,
-        b: Bounds,
-        n: usize,
-        i: u64,
-    ) -> Bounds
-        requires { Ready size slots self.used heads.now bytes.now }
-        ensures bounds { bounds_of (state_of size self heads.now bytes.now) result
-            ≡ child_bounds self.order (bounds_of (state_of size self heads.now bytes.now) b)
-            (node_at (state_of size self heads.now bytes.now) n).entries i }
-        ensures within { BoundsIn self.used b → n < self.used → BoundsIn self.used result }
+    #[tactic(auto, using(crate::specs::laws::load::Fetch::inner_bounds))]
+    pub fn child_bounds(self, b: Bounds<Bound>, n: usize, i: u64) -> Bounds<Bound>
+        ensures bounds { bounds_of (seen self.entry) result
+            ≡ child_bounds self.entry.tree.order (bounds_of (seen self.entry) b)
+            (node_at (seen self.entry) n).entries i }
+        ensures within { BoundsIn self.entry.tree.used b → n < self.entry.tree.used → BoundsIn self.entry.tree.used result }
     {
-        let old = b.lower;
-        let end = b.upper;
-        let lower = self.tighter_lower(heads, bytes, size, slots, old, n, i);
-        let count = self.count_at(heads, bytes, size, slots, n);
-        if count <= i {
-            return Bounds { lower, upper: end };
+        let lower = self.tighter_lower(b.lower, n, i);
+        if self.count_at(n).saturating_sub(1) <= i {
+            return Bounds {
+                lower,
+                upper: b.upper,
+            };
         }
-        if count <= i + 1 {
-            return Bounds { lower, upper: end };
-        }
-        let upper = self.tighter_upper(heads, bytes, size, slots, end, n, i + 1);
+        let upper = self.tighter_upper(b.upper, n, i + 1);
         Bounds { lower, upper }
     }
 
     // The block at an address, read as the child r of slot n: 2 to 9.
-    fn read_child(
+    #[tactic(auto, using(crate::specs::laws::load::Fetch::read_child_lem))]
+    fn read_child<'i>(
         self,
-        image: &[u8],
-        heads: &[u64],
-        bytes: &[u8],
-        lent: Lent,
-        b: Bounds,
+        image: &'i [u8],
+        b: Bounds<Bound>,
         n: usize,
         r: u64,
         a: u64,
-    ) -> Result<Node, Refusal>
-        requires { Ready lent.size lent.slots self.used heads.now bytes.now }
-        ensures { read_of (block_at (lent_of image.now lent) a) result
-            ≡ read_child (lent_of image.now lent) (state_of lent.size self heads.now bytes.now)
-            (bounds_of (state_of lent.size self heads.now bytes.now) b) n r a }
+    ) -> Result<ReadNode<'i>, Refusal>
+        ensures answer { read_of (block_at (lent_of image.now self.entry.lent) a) (map_ok (λ r. r.node) result)
+            ≡ read_child (lent_of image.now self.entry.lent) (seen self.entry)
+            (bounds_of (seen self.entry) b) n r a }
+        ensures block { IfOk result (λ r. r.block.now ≡ window (a * self.entry.lent.size) self.entry.lent.size image.now) }
     {
-        let lower = b.lower;
-        let upper = b.upper;
-        let info = self.info;
+        let lower = self.bound_key(b.lower);
+        let upper = self.bound_key(b.upper);
+        let info = self.tree.info;
         let place = Place {
             root: false,
             oid: r,
-            parent: self.level_at(heads, bytes, lent.size, lent.slots, n),
+            parent: self.level_at(n),
             ksize: info.key_size,
             vsize: info.val_size,
-            bounded: upper.is_some(),
+            lower,
+            upper,
         };
-        let order = Order { code: self.order };
-        let lo = self.bound_key(heads, bytes, lent.size, lent.slots, lower);
-        let up = self.bound_key(heads, bytes, lent.size, lent.slots, upper);
-        map::load_block(image, lent, order, place, lo, up, a)
+        let order = Order {
+            code: self.tree.order,
+        };
+        map::load_block(image, self.lent, order, place, a)
     }
+}
 
+impl Tree {
     // A node that was read, brought into the next slot as child i of slot n.
     pub fn bring(
         mut self,
         read: ReadNode<'_>,
         heads: &mut [u64],
         bytes: &mut [u8],
-        size: usize,
-        slots: usize,
+        lent: Lent,
         n: usize,
         i: u64,
         a: u64,
     ) -> Tree
-        requires ready_2 { Ready size slots self.used heads.old bytes.old }
-        requires nkeys_bound { (spans_length read.node read.block.now 0 read.node.nkeys ≤ 65532) × (length read.block.now ≡ size)
-            × (self.used < slots) × (n < self.used) × (i < (live (head_at heads.old n)).count)
-            × (is_child (val_at (node_at (state_of size self heads.old bytes.old) n).entries i) ≡ true) }
-        ensures after { state_of size result heads.new bytes.new
-            ≡ (brought (state_of size self heads.old bytes.old) n i (on_disk read.entry.node read.entry.block.now) a).state }
-        ensures ready { Ready size slots result.used heads.new bytes.new }
-        ensures follows { Follows size slots self.used heads.old bytes.old heads.new bytes.new }
+        requires ready_2 { Ready lent.size lent.slots self.used heads.old bytes.old }
+        requires nkeys_bound { (spans_length read.node read.block.now 0 read.node.nkeys ≤ 65532) × (length read.block.now ≡ lent.size)
+            × (self.used < lent.slots) × (n < self.used) × (i < (live (head_at heads.old n)).count)
+            × (is_child (val_at (node_at (state_of lent.size self heads.old bytes.old) n).entries i) ≡ true) }
+        ensures after { state_of lent.size result heads.new bytes.new
+            ≡ (brought (state_of lent.size self heads.old bytes.old) n i (on_disk read.entry.node read.entry.block.now) a).state }
+        ensures ready { Ready lent.size lent.slots result.used heads.new bytes.new }
+        ensures follows { Follows lent.size lent.slots self.used heads.old bytes.old heads.new bytes.new }
     {
         let c = self.used;
-        bank::link(heads, bytes, size, slots, c, n, i, c as u64);
-        bank::adopt_into(read, heads, bytes, size, c, self.by_id, a);
+        bank::link(heads, bytes, lent, c, n, i, c as u64);
+        bank::adopt_into(read, heads, bytes, lent.size, c, self.by_id, a);
         self.used = c + 1;
         self
     }
 
     // The child r of slot n, read at an address and brought.
+    #[tactic(auto, using(crate::specs::laws::load::Fetch::fetching, crate::specs::laws::slots::Undo::follows_same))]
     fn fetch(
         self,
         image: &[u8],
         heads: &mut [u64],
         bytes: &mut [u8],
         lent: Lent,
-        b: Bounds,
+        b: Bounds<Bound>,
         n: usize,
         i: u64,
         r: u64,
@@ -342,22 +251,21 @@ impl Tree {
         ensures ready { ReadyAfter lent.size lent.slots heads.new bytes.new result }
         ensures follows { Follows lent.size lent.slots self.used heads.old bytes.old heads.new bytes.new }
     {
-        let node = self.read_child(image, heads, bytes, lent, b, n, r, a)?;
+        let read = view!(self, heads, bytes, lent).read_child(image, b, n, r, a)?;
         let c = self.used;
-        let block = map::block_of(image, lent.size, a);
-        let read = ReadNode { block, node };
-        let t = self.bring(read, heads, bytes, lent.size, lent.slots, n, i, a);
+        let t = self.bring(read, heads, bytes, lent, n, i, a);
         Ok((t, c))
     }
 
     // Child i of slot n: loaded already, or loaded now into the next slot.
+    #[tactic(auto, using(crate::specs::laws::load::Fetch::loading, crate::specs::laws::slots::Undo::follows_same))]
     pub fn load_child(
         self,
         image: &[u8],
         heads: &mut [u64],
         bytes: &mut [u8],
         lent: Lent,
-        b: Bounds,
+        b: Bounds<Bound>,
         n: usize,
         i: u64,
     ) -> Result<(Tree, usize), Refusal>
@@ -368,18 +276,13 @@ impl Tree {
         ensures ready { ReadyAfter lent.size lent.slots heads.new bytes.new result }
         ensures follows { Follows lent.size lent.slots self.used heads.old bytes.old heads.new bytes.new }
     {
-        let held = self.child_at(heads, bytes, lent.size, lent.slots, n, i);
-        let Some(child) = held else {
-            return Err(Refusal::Lent);
-        };
-        match child {
-            Child::Mem(c) => Ok((self, c as usize)),
-            Child::Disk(r) => {
-                if lent.slots <= self.used {
-                    return Err(Refusal::NoSlot);
-                }
+        match view!(self, heads, bytes, lent).child_at(n, i) {
+            None => Err(Refusal::Lent),
+            Some(Child::Mem(c)) => Ok((self, c as usize)),
+            Some(Child::Disk(r)) => {
+                check(Refusal::NoSlot, self.used < lent.slots)?;
                 let a = map::address_of(image, lent, self.xid, r)?;
-                let inner = self.child_bounds(heads, bytes, lent.size, lent.slots, b, n, i);
+                let inner = view!(self, heads, bytes, lent).child_bounds(b, n, i);
                 self.fetch(image, heads, bytes, lent, inner, n, i, r, a)
             }
         }

@@ -1,7 +1,6 @@
 // The last entry not above a key: found on its way down, leftward only if the leaf has none.
 ghost use Rattle.std.specs.Prelude.{◌≡◌, length, IfSome};
 ghost use Rattle.node.specs.Records.{records_length};
-ghost use Rattle.node.specs.Result.{ok};
 ghost use Rattle.tree.specs.Lent.{lent_of};
 ghost use Rattle.tree.specs.Lookup.{last_from, floor_from, floor_in};
 ghost use Rattle.tree.specs.Workspace.{slot_bytes, state_of};
@@ -9,17 +8,18 @@ ghost use Rattle.tree.specs.Answers.{floor_means, floored_in, floored_output, fl
 ghost use Rattle.tree.specs.Trusts.{Ready, Trusts, FloorCalled};
 ghost use Rattle.tree.specs.internal.Tree.{bounds_of, BoundsIn};
 ghost use Rattle.tree.specs.internal.Undo.{Follows};
-ghost use Rattle.tree.specs.internal.Floor.{entry_in, last_means, EntryReady, LastReady, last_at, floor_at, left_from};
+ghost use Rattle.tree.specs.internal.Floor.{entry_in, got_last, last_means, EntryReady, AtEntry, LastReady, last_at, floor_at, left_from};
 ghost use Rattle.tree.specs.internal.Floor.{floored_of, floor_way, FloorReady, SpotIs};
+ghost use Rattle.tree.specs.internal.View.{seen};
 
-use crate::editor::{Bounds, Tree, UNBOUNDED};
+use crate::editor::{Bound, Bounds, Tree, UNBOUNDED};
 use crate::lent::Lent;
-use crate::{bank, lent, undo};
+use crate::view::{View, view};
+use crate::{bank, lent};
 use node::bytes;
 use node::order::Order;
 use node::record::Record;
-use node::refusal::Refusal;
-use node::slot::Records;
+use node::refusal::{Refusal, check};
 
 // The entry of a slot that a lookup ended at.
 #[derive(Clone, Copy)]
@@ -36,71 +36,101 @@ pub struct Spot {
     pub at: usize,
 }
 
-impl Tree {
+impl<'h, 'b> View<'h, 'b> {
     // The last entry of slot n.
-    fn last_at(
-        self,
-        heads: &[u64],
-        bytes: &[u8],
-        size: usize,
-        slots: usize,
-        n: usize,
-    ) -> Result<(Tree, Option<Last>), Refusal>
-        requires { Ready size slots self.used heads.now bytes.now }
-        ensures answer { last_means size heads.now bytes.now result
-            ≡ ok (last_at (state_of size self heads.now bytes.now) n) }
-        ensures ready { LastReady size slots heads.now bytes.now result }
+    fn last_at(self, n: usize) -> Option<Last>
+        ensures answer { got_last (seen self.entry) result ≡ last_at (seen self.entry) n }
+        ensures entry { IfSome result (AtEntry self.entry.lent.size self.entry.lent.slots self.entry.tree self.entry.heads.now self.entry.bytes.now) }
     {
-        let count = self.count_at(heads, bytes, size, slots, n);
+        let count = self.count_at(n);
         if count == 0 {
-            return Ok((self, None));
+            return None;
         }
-        Ok((
-            self,
-            Some(Last {
-                slot: n,
-                index: count - 1,
-            }),
-        ))
+        Some(Last {
+            slot: n,
+            index: count - 1,
+        })
     }
 
     // The last entry of slot n that is not above a key.
-    fn floor_at(
-        self,
-        heads: &[u64],
-        bytes: &[u8],
-        size: usize,
-        slots: usize,
-        n: usize,
-        key: &[u8],
-    ) -> Result<(Tree, Option<Last>), Refusal>
-        requires { Ready size slots self.used heads.now bytes.now }
-        ensures answer { last_means size heads.now bytes.now result
-            ≡ ok (floor_at (state_of size self heads.now bytes.now) n key.now) }
-        ensures ready { LastReady size slots heads.now bytes.now result }
+    fn floor_at(self, n: usize, key: &[u8]) -> Option<Last>
+        ensures answer { got_last (seen self.entry) result ≡ floor_at (seen self.entry) n key.now }
+        ensures entry { IfSome result (AtEntry self.entry.lent.size self.entry.lent.slots self.entry.tree self.entry.heads.now self.entry.bytes.now) }
     {
-        if self.used <= n {
-            return Ok((self, None));
-        }
-        let h = bank::live_at(heads, n);
-        let order = Order { code: self.order };
-        let records = Records {
-            slot: bank::slot_of(bytes, size, n),
-            count: h.count,
+        let order = Order {
+            code: self.tree.order,
         };
-        let last = records.not_above(order, key);
+        let last = self.records(n).not_above(order, key);
         if last.count == 0 {
-            return Ok((self, None));
+            return None;
         }
-        Ok((
-            self,
-            Some(Last {
-                slot: n,
-                index: last.count - 1,
-            }),
-        ))
+        Some(Last {
+            slot: n,
+            index: last.count - 1,
+        })
     }
 
+    // An entry copied out as its record: 20.
+    fn copy_at(self, spot: Spot, out: &mut [u8]) -> Result<(Tree, Option<usize>), Refusal>
+        requires entry_ready { EntryReady self.lent.size self.lent.slots self.tree self.heads.now self.bytes.now spot.slot spot.index }
+        requires at_value { spot.at ≡ records_length spot.index (slot_bytes self.lent.size self.bytes.now spot.slot) }
+        ensures answer { floor_means self.entry.lent.size self.entry.heads.now self.entry.bytes.now out.new result
+            ≡ floored_of (length out.old)
+            (entry_in (seen self.entry) spot.slot spot.index) }
+        ensures output { out.new
+            ≡ floored_output out.old (floored_of (length out.old)
+            (entry_in (seen self.entry) spot.slot spot.index)) }
+        ensures ready { FloorReady self.entry.lent.size self.entry.lent.slots self.entry.heads.now self.entry.bytes.now result }
+    {
+        let part = bank::slot_of(self.bytes, self.lent.size, spot.slot);
+        let at = spot.at;
+        let end = Record { slot: part, at }.next();
+        check(Refusal::Output, end - at <= out.len())?;
+        bytes::copy_to(&part[at..end], out, 0);
+        Ok((self.tree, Some(end - at)))
+    }
+
+    // Entry i of slot n copied out as its record: 20.
+    fn copy_record(self, n: usize, i: u64, out: &mut [u8]) -> Result<(Tree, Option<usize>), Refusal>
+        requires { EntryReady self.lent.size self.lent.slots self.tree self.heads.now self.bytes.now n i }
+        ensures answer { floor_means self.entry.lent.size self.entry.heads.now self.entry.bytes.now out.new result
+            ≡ floored_of (length out.old)
+            (entry_in (seen self.entry) n i) }
+        ensures output { out.new
+            ≡ floored_output out.old (floored_of (length out.old)
+            (entry_in (seen self.entry) n i)) }
+        ensures ready { FloorReady self.entry.lent.size self.entry.lent.slots self.entry.heads.now self.entry.bytes.now result }
+    {
+        let spot = Spot {
+            slot: n,
+            index: i,
+            at: self.records(n).offset_of(i),
+        };
+        self.copy_at(spot, out)
+    }
+
+    // The last entry not above a key in the leaf of its way, where every child on the way is loaded.
+    fn floor_loaded(self, key: &[u8]) -> Option<Spot>
+        ensures { IfSome result (SpotIs self.entry.lent.size self.entry.lent.slots self.entry.tree self.entry.heads.now
+            self.entry.bytes.now key.now) }
+    {
+        let leaf = self.leaf_of(key)?;
+        let order = Order {
+            code: self.tree.order,
+        };
+        let last = self.records(leaf).not_above(order, key);
+        if last.count == 0 {
+            return None;
+        }
+        Some(Spot {
+            slot: leaf,
+            index: last.count - 1,
+            at: last.at,
+        })
+    }
+}
+
+impl Tree {
     // The last entry d levels below slot n.
     fn last_from(
         self,
@@ -108,7 +138,7 @@ impl Tree {
         heads: &mut [u64],
         bytes: &mut [u8],
         lent: Lent,
-        b: Bounds,
+        b: Bounds<Bound>,
         n: usize,
         d: u64,
     ) -> Result<(Tree, Option<Last>), Refusal>
@@ -124,11 +154,11 @@ impl Tree {
             bytes.old heads.new bytes.new }
     {
         if d == 0 {
-            return self.last_at(heads, bytes, lent.size, lent.slots, n);
+            return Ok((self, view!(self, heads, bytes, lent).last_at(n)));
         }
-        let count = self.count_at(heads, bytes, lent.size, lent.slots, n);
+        let count = view!(self, heads, bytes, lent).count_at(n);
         let i = count.saturating_sub(1);
-        let inner = self.child_bounds(heads, bytes, lent.size, lent.slots, b, n, i);
+        let inner = view!(self, heads, bytes, lent).child_bounds(b, n, i);
         let (t, c) = self.load_child(image, heads, bytes, lent, b, n, i)?;
         t.last_from(image, heads, bytes, lent, inner, c, d - 1)
     }
@@ -141,7 +171,7 @@ impl Tree {
         heads: &mut [u64],
         bytes: &mut [u8],
         lent: Lent,
-        b: Bounds,
+        b: Bounds<Bound>,
         n: usize,
         i: u64,
         d: u64,
@@ -162,11 +192,11 @@ impl Tree {
             return Ok((self, None));
         }
         let order = Order { code: self.order };
-        let above = order.less(key, self.key_at(heads, bytes, lent.size, lent.slots, n, i));
+        let above = order.less(key, view!(self, heads, bytes, lent).key_at(n, i));
         if above {
             return Ok((self, None));
         }
-        let inner = self.child_bounds(heads, bytes, lent.size, lent.slots, b, n, i - 1);
+        let inner = view!(self, heads, bytes, lent).child_bounds(b, n, i - 1);
         let (t, c) = self.load_child(image, heads, bytes, lent, b, n, i - 1)?;
         t.last_from(image, heads, bytes, lent, inner, c, d)
     }
@@ -178,7 +208,7 @@ impl Tree {
         heads: &mut [u64],
         bytes: &mut [u8],
         lent: Lent,
-        b: Bounds,
+        b: Bounds<Bound>,
         n: usize,
         d: u64,
         key: &[u8],
@@ -195,79 +225,16 @@ impl Tree {
             bytes.old heads.new bytes.new }
     {
         if d == 0 {
-            return self.floor_at(heads, bytes, lent.size, lent.slots, n, key);
+            return Ok((self, view!(self, heads, bytes, lent).floor_at(n, key)));
         }
-        let i = self.way_index(heads, bytes, lent.size, lent.slots, n, key);
-        let inner = self.child_bounds(heads, bytes, lent.size, lent.slots, b, n, i);
+        let i = view!(self, heads, bytes, lent).way_index(n, key);
+        let inner = view!(self, heads, bytes, lent).child_bounds(b, n, i);
         let (t, c) = self.load_child(image, heads, bytes, lent, b, n, i)?;
         let (u, found) = t.floor_from(image, heads, bytes, lent, inner, c, d - 1, key)?;
         match found {
             Some(_) => Ok((u, found)),
             None => u.floor_left(image, heads, bytes, lent, b, n, i, d - 1, key),
         }
-    }
-
-    // An entry copied out as its record: 20.
-    fn copy_at(
-        self,
-        heads: &[u64],
-        bytes: &[u8],
-        size: usize,
-        slots: usize,
-        spot: Spot,
-        out: &mut [u8],
-    ) -> Result<(Tree, Option<usize>), Refusal>
-        requires entry_ready { EntryReady size slots self heads.now bytes.now spot.slot spot.index }
-        requires at_value { spot.at ≡ records_length spot.index (slot_bytes size bytes.now spot.slot) }
-        ensures answer { floor_means size heads.now bytes.now out.new result
-            ≡ floored_of (length out.old)
-            (entry_in (state_of size self heads.now bytes.now) spot.slot spot.index) }
-        ensures output { out.new
-            ≡ floored_output out.old (floored_of (length out.old)
-            (entry_in (state_of size self heads.now bytes.now) spot.slot spot.index)) }
-        ensures ready { FloorReady size slots heads.now bytes.now result }
-    {
-        let part = bank::slot_of(bytes, size, spot.slot);
-        let at = spot.at;
-        let end = Record { slot: part, at }.next();
-        if out.len() < end - at {
-            return Err(Refusal::Output);
-        }
-        bytes::copy_to(&part[at..end], out, 0);
-        Ok((self, Some(end - at)))
-    }
-
-    // Entry i of slot n copied out as its record: 20.
-    fn copy_record(
-        self,
-        heads: &[u64],
-        bytes: &[u8],
-        size: usize,
-        slots: usize,
-        n: usize,
-        i: u64,
-        out: &mut [u8],
-    ) -> Result<(Tree, Option<usize>), Refusal>
-        requires { EntryReady size slots self heads.now bytes.now n i }
-        ensures answer { floor_means size heads.now bytes.now out.new result
-            ≡ floored_of (length out.old)
-            (entry_in (state_of size self heads.now bytes.now) n i) }
-        ensures output { out.new
-            ≡ floored_output out.old (floored_of (length out.old)
-            (entry_in (state_of size self heads.now bytes.now) n i)) }
-        ensures ready { FloorReady size slots heads.now bytes.now result }
-    {
-        let h = bank::live_at(heads, n);
-        let records = Records {
-            slot: bank::slot_of(bytes, size, n),
-            count: h.count,
-        };
-        let spot = Spot {
-            slot: n,
-            index: i,
-            at: records.offset_of(i),
-        };
-        self.copy_at(heads, bytes, size, slots, spot, out)
     }
 
     // Of floor, what follows 12: the lookup, 20. Refused, it may leave slots changed.
@@ -290,12 +257,12 @@ impl Tree {
         ensures follows { Follows lent.size lent.slots self.used heads.old
             bytes.old heads.new bytes.new }
     {
-        let level = self.level_at(heads, bytes, lent.size, lent.slots, self.root);
+        let level = view!(self, heads, bytes, lent).level_at(self.root);
         let root = self.root;
         let (t, found) = self.floor_from(image, heads, bytes, lent, UNBOUNDED, root, level, key)?;
         match found {
             None => Ok((t, None)),
-            Some(e) => t.copy_record(heads, bytes, lent.size, lent.slots, e.slot, e.index, out),
+            Some(e) => view!(t, heads, bytes, lent).copy_record(e.slot, e.index, out),
         }
     }
 
@@ -319,45 +286,13 @@ impl Tree {
             heads.new bytes.new result }
     {
         let order = Order { code: self.order };
-        if !order.keyed(key.len()) {
-            return Err(Refusal::Argument);
-        }
-        undo::clear_marks(heads, lent.slots, self.used);
-        let got = self.floor_way(image, heads, bytes, lent, key, out);
-        if got.is_err() {
-            undo::restore(heads, bytes, lent.size, lent.slots, self.used);
-        }
-        got
-    }
-
-    // The last entry not above a key in the leaf of its way, where every child on the way is loaded.
-    fn floor_loaded(
-        self,
-        heads: &[u64],
-        bytes: &[u8],
-        size: usize,
-        slots: usize,
-        key: &[u8],
-    ) -> Option<Spot>
-        requires { Ready size slots self.used heads.now bytes.now }
-        ensures { IfSome result (SpotIs size slots self heads.now bytes.now key.now) }
-    {
-        let leaf = self.leaf_of(heads, bytes, size, slots, key)?;
-        let h = bank::live_at(heads, leaf);
-        let order = Order { code: self.order };
-        let records = Records {
-            slot: bank::slot_of(bytes, size, leaf),
-            count: h.count,
-        };
-        let last = records.not_above(order, key);
-        if last.count == 0 {
-            return None;
-        }
-        Some(Spot {
-            slot: leaf,
-            index: last.count - 1,
-            at: last.at,
-        })
+        check(Refusal::Argument, order.keyed(key.len()))?;
+        self.undone(
+            heads,
+            bytes,
+            lent,
+            &mut |heads, bytes| self.floor_way(image, heads, bytes, lent, key, out),
+        )
     }
 
     // floor on slots that are trusted: 12; the lookup; 20. Refused, every slot is as it was.
@@ -379,8 +314,8 @@ impl Tree {
         ensures left { FloorCalled image.now lent self heads.old bytes.old
             heads.new bytes.new result }
     {
-        match self.floor_loaded(heads, bytes, lent.size, lent.slots, key) {
-            Some(spot) => self.copy_at(heads, bytes, lent.size, lent.slots, spot, out),
+        match view!(self, heads, bytes, lent).floor_loaded(key) {
+            Some(spot) => view!(self, heads, bytes, lent).copy_at(spot, out),
             None => self.floor_down(image, heads, bytes, lent, key, out),
         }
     }
@@ -403,9 +338,10 @@ impl Tree {
         ensures left { floored_leaves lent.size lent.slots self heads.old bytes.old
             heads.new bytes.new result }
     {
-        if !lent::lent_holds(self, image, heads, bytes, lent) {
-            return Err(Refusal::Lent);
-        }
+        check(
+            Refusal::Lent,
+            lent::lent_holds(self, image, heads, bytes, lent),
+        )?;
         // All slots were looked at, so that a short way would save nothing.
         self.floor_down(image, heads, bytes, lent, key, out)
     }

@@ -1,35 +1,51 @@
-// Where a key stands in a slot.
-ghost use Rattle.std.specs.Prelude.{◌<◌};
-ghost use Rattle.tree.specs.Workspace.{state_of};
-ghost use Rattle.tree.specs.Trusts.{Ready};
+// The records of a slot, and where a key stands among them.
+ghost use Rattle.std.specs.Prelude.{◌≡◌, ◌≤◌, ◌<◌, ◌^◌, length};
+ghost use Rattle.node.specs.Records.{entries_of};
+ghost use Rattle.node.specs.Slot.{head_at};
+ghost use Rattle.node.specs.laws.base.Bytes.{Bytes};
+ghost use Rattle.tree.specs.State.{node_at};
+ghost use Rattle.tree.specs.Workspace.{slot_bytes};
+ghost use Rattle.tree.specs.Trusts.{live};
 ghost use Rattle.tree.specs.internal.Found.{FoundAt};
+ghost use Rattle.tree.specs.internal.View.{seen};
 
 use crate::bank;
 use crate::editor::Tree;
+use crate::view::View;
 use node::order::Order;
 use node::slot::{Found, Records};
 
-impl Tree {
-    // Where a key stands among the entries of slot n, or would stand.
-    pub fn found_at(
-        self,
-        heads: &[u64],
-        bytes: &[u8],
-        size: usize,
-        slots: usize,
-        n: usize,
-        key: &[u8],
-    ) -> Found
-        requires { (Ready size slots self.used heads.now bytes.now) × (n < self.used) }
-        ensures { FoundAt size (state_of size self heads.now bytes.now) heads.now
-            bytes.now n key.now result }
+impl<'h, 'b> View<'h, 'b> {
+    // The records of slot n; none where there is no such slot.
+    pub fn records(self, n: usize) -> Records<'b>
+        ensures entries { (node_at (seen self.entry) n).entries ≡ entries_of result.count result.slot.now }
+        ensures place { n < self.entry.tree.used → (result.count ≡ (live (head_at self.entry.heads.now n)).count)
+            × (result.slot.now ≡ slot_bytes self.entry.lent.size self.entry.bytes.now n) }
+        ensures bytes { Bytes result.slot.now }
+        ensures room { (result.count < 2 ^ 32) × (length result.slot.now ≤ 2 ^ 20) }
     {
-        let h = bank::live_at(heads, n);
-        let order = Order { code: self.order };
-        let records = Records {
-            slot: bank::slot_of(bytes, size, n),
+        if self.tree.used <= n {
+            return Records {
+                slot: &self.bytes[..0],
+                count: 0,
+            };
+        }
+        let h = bank::live_at(self.heads, n);
+        Records {
+            slot: bank::slot_of(self.bytes, self.lent.size, n),
             count: h.count,
+        }
+    }
+
+    // Where a key stands among the entries of slot n, or would stand.
+    pub fn found_at(self, n: usize, key: &[u8]) -> Found
+        requires { (n < self.tree.used) }
+        ensures { FoundAt self.entry.lent.size (seen self.entry) self.entry.heads.now
+            self.entry.bytes.now n key.now result }
+    {
+        let order = Order {
+            code: self.tree.order,
         };
-        records.below(order, key)
+        self.records(n).below(order, key)
     }
 }

@@ -11,13 +11,15 @@ ghost use Rattle.tree.specs.Answers.{got_means, got_in, got_output, got_leaves};
 ghost use Rattle.tree.specs.Trusts.{Ready, Trusts, GotCalled};
 ghost use Rattle.tree.specs.internal.Undo.{Follows};
 ghost use Rattle.tree.specs.internal.Get.{held_means, HeldIn, got_at, got_way, got_of, ReadyGot};
+ghost use Rattle.tree.specs.internal.View.{seen};
 
 use crate::editor::Tree;
+use crate::lent;
 use crate::lent::Lent;
-use crate::{bank, lent, undo};
+use crate::view::{View, view};
 use node::order::Order;
 use node::record::Record;
-use node::refusal::Refusal;
+use node::refusal::{Refusal, check};
 use node::slot::Records;
 use node::{bytes, record};
 
@@ -57,38 +59,23 @@ fn held_in(records: Records<'_>, order: Order, key: &[u8]) -> Option<Held>
     Some(Held::Value(r.value, r.vlen))
 }
 
-impl Tree {
+impl<'h, 'b> View<'h, 'b> {
     // What a key holds in the leaf of slot n, copied out. The tree's words stay where they are: of all of them only two are looked at.
-    pub fn copy_out(
-        self,
-        heads: &[u64],
-        bytes: &[u8],
-        size: usize,
-        slots: usize,
-        n: usize,
-        key: &[u8],
-        out: &mut [u8],
-    ) -> Result<Option<Copied>, Refusal>
-        requires ready_2 { Ready size slots self.used heads.now bytes.now }
-        requires n_value { suits true (node_at (state_of size self heads.now bytes.now) n).entries ≡ true }
-        ensures answer { got_means size heads.now bytes.now out.new (got_of self result)
-            ≡ got_at (state_of size self heads.now bytes.now) (length out.old) n
+    pub fn copy_out(self, n: usize, key: &[u8], out: &mut [u8]) -> Result<Option<Copied>, Refusal>
+        requires n_value { suits true (node_at (seen self) n).entries ≡ true }
+        ensures answer { got_means self.entry.lent.size self.entry.heads.now self.entry.bytes.now out.new (got_of self.entry.tree result)
+            ≡ got_at (seen self.entry) (length out.old) n
             key.now }
         ensures output { out.new
-            ≡ got_output out.old (got_at (state_of size self heads.now bytes.now)
+            ≡ got_output out.old (got_at (seen self.entry)
             (length out.old) n key.now) }
-        ensures ready { ReadyGot size slots heads.now bytes.now (got_of self result) }
+        ensures ready { ReadyGot self.entry.lent.size self.entry.lent.slots self.entry.heads.now self.entry.bytes.now
+            (got_of self.entry.tree result) }
     {
-        if self.used <= n {
-            return Ok(None);
-        }
-        let order = Order { code: self.order };
-        let h = bank::live_at(heads, n);
-        let part = bank::slot_of(bytes, size, n);
-        let records = Records {
-            slot: part,
-            count: h.count,
+        let order = Order {
+            code: self.tree.order,
         };
+        let records = self.records(n);
         let Some(held) = held_in(records, order, key) else {
             return Ok(None);
         };
@@ -99,7 +86,7 @@ impl Tree {
                     return Err(Refusal::Output);
                 }
                 let end = at + len;
-                bytes::copy_to(&part[at..end], out, 0);
+                bytes::copy_to(&records.slot[at..end], out, 0);
                 Ok(Some(Copied::Value(len)))
             }
         }
@@ -108,28 +95,25 @@ impl Tree {
     // The same with the tree.
     fn copy_held(
         self,
-        heads: &[u64],
-        bytes: &[u8],
-        size: usize,
-        slots: usize,
         n: usize,
         key: &[u8],
         out: &mut [u8],
     ) -> Result<(Tree, Option<Copied>), Refusal>
-        requires ready_2 { Ready size slots self.used heads.now bytes.now }
-        requires n_value { suits true (node_at (state_of size self heads.now bytes.now) n).entries ≡ true }
-        ensures answer { got_means size heads.now bytes.now out.new result
-            ≡ got_at (state_of size self heads.now bytes.now) (length out.old) n
+        requires n_value { suits true (node_at (seen self) n).entries ≡ true }
+        ensures answer { got_means self.entry.lent.size self.entry.heads.now self.entry.bytes.now out.new result
+            ≡ got_at (seen self.entry) (length out.old) n
             key.now }
         ensures output { out.new
-            ≡ got_output out.old (got_at (state_of size self heads.now bytes.now)
+            ≡ got_output out.old (got_at (seen self.entry)
             (length out.old) n key.now) }
-        ensures ready { ReadyGot size slots heads.now bytes.now result }
+        ensures ready { ReadyGot self.entry.lent.size self.entry.lent.slots self.entry.heads.now self.entry.bytes.now result }
     {
-        let copied = self.copy_out(heads, bytes, size, slots, n, key, out)?;
-        Ok((self, copied))
+        let copied = self.copy_out(n, key, out)?;
+        Ok((self.tree, copied))
     }
+}
 
+impl Tree {
     // Of get, what follows 12: the way, 20. Refused, it may leave slots changed.
     fn get_way(
         self,
@@ -150,11 +134,10 @@ impl Tree {
         ensures ready { ReadyGot lent.size lent.slots heads.new bytes.new result }
         ensures follows { Follows lent.size lent.slots self.used heads.old bytes.old heads.new bytes.new }
     {
-        let level = self.level_at(heads, bytes, lent.size, lent.slots, self.root);
+        let level = view!(self, heads, bytes, lent).level_at(self.root);
         let w = self.way(image, heads, bytes, lent, level, key)?;
-        let n = w.slots[w.steps - 1];
-        w.tree
-            .copy_held(heads, bytes, lent.size, lent.slots, n, key, out)
+        let n = w.steps[w.count - 1].slot;
+        view!(w.tree, heads, bytes, lent).copy_held(n, key, out)
     }
 
     // get on slots that are trusted, whatever of the way is loaded.
@@ -177,15 +160,13 @@ impl Tree {
             heads.new bytes.new result }
     {
         let order = Order { code: self.order };
-        if !order.keyed(key.len()) {
-            return Err(Refusal::Argument);
-        }
-        undo::clear_marks(heads, lent.slots, self.used);
-        let got = self.get_way(image, heads, bytes, lent, key, out);
-        if got.is_err() {
-            undo::restore(heads, bytes, lent.size, lent.slots, self.used);
-        }
-        got
+        check(Refusal::Argument, order.keyed(key.len()))?;
+        self.undone(
+            heads,
+            bytes,
+            lent,
+            &mut |heads, bytes| self.get_way(image, heads, bytes, lent, key, out),
+        )
     }
 
     // get on slots that are trusted: 12; the way; 20. Refused, every slot is as it was.
@@ -207,8 +188,8 @@ impl Tree {
         ensures left { GotCalled image.now lent self heads.old bytes.old
             heads.new bytes.new result }
     {
-        match self.leaf_of(heads, bytes, lent.size, lent.slots, key) {
-            Some(leaf) => self.copy_held(heads, bytes, lent.size, lent.slots, leaf, key, out),
+        match view!(self, heads, bytes, lent).leaf_of(key) {
+            Some(leaf) => view!(self, heads, bytes, lent).copy_held(leaf, key, out),
             None => self.get_down(image, heads, bytes, lent, key, out),
         }
     }
@@ -231,9 +212,10 @@ impl Tree {
         ensures left { got_leaves lent.size lent.slots self heads.old bytes.old
             heads.new bytes.new result }
     {
-        if !lent::lent_holds(self, image, heads, bytes, lent) {
-            return Err(Refusal::Lent);
-        }
+        check(
+            Refusal::Lent,
+            lent::lent_holds(self, image, heads, bytes, lent),
+        )?;
         // All slots were looked at, so that a short way would save nothing.
         self.get_down(image, heads, bytes, lent, key, out)
     }

@@ -10,15 +10,15 @@ ghost use Rattle.tree.specs.internal.Holding.{Laid, count_holds, place_holds, bo
 
 use crate::bank;
 use crate::editor::Tree;
+use crate::lent::Lent;
+use crate::way::MOST_LEVEL;
 use node::head::Head;
 use node::order::Order;
 use node::record::Record;
+use node::room::Shape;
 use node::slot::Records;
+use node::stands;
 use node::val::{Child, Val};
-use node::{fit, stands};
-
-// The most levels of a tree, less one.
-const MOST_LEVEL: u64 = 32;
 
 // Slot k marked; false where it is marked already.
 fn mark_slot(k: usize, used: usize, marks: &mut [u8]) -> bool
@@ -36,63 +36,49 @@ fn mark_slot(k: usize, used: usize, marks: &mut [u8]) -> bool
 }
 
 // A number without its mark is 0.
+#[tactic(auto, unfolding(crate::specs::Trusts::number_holds))]
 fn number_holds(mark: u64, x: u64) -> bool
     ensures { result ≡ number_holds mark x }
 {
-    if mark == 1 {
-        return true;
-    }
-    x == 0
+    mark == 1 || x == 0
 }
 
 // A slot's words: marks are 0 or 1, a number without its mark is 0.
+#[tactic(auto, unfolding(crate::specs::Trusts::words_hold))]
 fn words_hold(h: Head) -> bool
     ensures { result ≡ words_hold h }
 {
-    if 1 < h.placed {
-        return false;
-    }
-    if 1 < h.named {
-        return false;
-    }
-    if 1 < h.dirty {
-        return false;
-    }
-    if 1 < h.dead {
-        return false;
-    }
-    if !number_holds(h.placed, h.block) {
-        return false;
-    }
-    number_holds(h.named, h.id)
+    h.placed <= 1
+        && h.named <= 1
+        && h.dirty <= 1
+        && h.dead <= 1
+        && number_holds(h.placed, h.block)
+        && number_holds(h.named, h.id)
 }
 
 // An index has entries.
+#[tactic(auto, unfolding(crate::specs::internal::Holding::count_holds))]
 fn count_holds(level: u64, count: u64) -> bool
     ensures { result ≡ count_holds level count }
 {
-    if level == 0 {
-        return true;
-    }
-    count != 0
+    level == 0 || count != 0
 }
 
 // A dirty node fits, its keys and values taking so much room; a clean one has a block and, if virtual, an id.
+#[tactic(auto, unfolding(crate::specs::internal::Holding::place_holds))]
 fn place_holds(t: Tree, root: bool, h: Head, room: u64) -> bool
     requires { Sized t.info × (h.count < 2 ^ 32) × (room < 2 ^ 32) }
     ensures { result ≡ place_holds t root h room }
 {
     if h.dirty == 1 {
-        let info = t.info;
-        return fit::fits_sums(info, root, h.level, h.count, room);
+        let shape = Shape {
+            info: t.info,
+            root,
+            level: h.level,
+        };
+        return shape.fits_sums(h.count, room);
     }
-    if h.placed != 1 {
-        return false;
-    }
-    if !t.by_id {
-        return true;
-    }
-    h.named == 1
+    h.placed == 1 && (!t.by_id || h.named == 1)
 }
 
 // The node of a live slot but for its children: its level, its records in one pass, its place on disk.
@@ -116,22 +102,16 @@ fn body_holds(t: Tree, part: &[u8], h: Head, n: usize) -> bool
 }
 
 // A child in a slot: in use, not dead, one level lower.
+#[tactic(auto, unfolding(crate::specs::internal::Holding::child_stands))]
 fn child_holds(heads: &[u64], used: usize, level: u64, c: u64) -> bool
     requires { used * 9 ≤ length heads.now }
     ensures { result ≡ child_stands heads.now used level c }
 {
-    let end = used as u64;
-    if end <= c {
+    if used as u64 <= c {
         return false;
     }
     let h = Head::load(heads, c as usize);
-    if h.dead == 1 {
-        return false;
-    }
-    if level == 0 {
-        return false;
-    }
-    h.level == level - 1
+    h.dead != 1 && level != 0 && h.level == level - 1
 }
 
 // The child in a slot that a record names, if it names one, holds and is marked; false where it does not, or is marked already.
@@ -166,35 +146,21 @@ fn link_entries(
     ensures { mark_of result marks.new
         ≡ link_entries heads.now used level (entries_of records.entry.count records.entry.slot.now) marks.old }
 {
-    let mut at = 0;
-    for _i in 0..records.count {
-        let r = Record {
-            slot: records.slot,
-            at,
-        };
+    for (_, r) in records.walk() {
         if !link_value(heads, r, level, used, marks) {
             return false;
         }
-        at = r.next();
     }
     true
 }
 
 // Slot n holds; unless it is dead, its node holds, and its children are marked. A leaf has none.
-fn hold_slot(
-    t: Tree,
-    heads: &[u64],
-    bytes: &[u8],
-    size: usize,
-    slots: usize,
-    n: usize,
-    marks: &mut [u8],
-) -> bool
-    requires laid { Laid size slots t.used heads.now bytes.now }
+fn hold_slot(t: Tree, heads: &[u64], bytes: &[u8], lent: Lent, n: usize, marks: &mut [u8]) -> bool
+    requires laid { Laid lent.size lent.slots t.used heads.now bytes.now }
     requires sized { Sized t.info × (n < t.used) × (t.used ≤ length marks.old) }
     ensures { mark_of result marks.new
-        ≡ hold_slot size heads.now bytes.now
-        (state_of size t heads.now bytes.now) t.used n marks.old }
+        ≡ hold_slot lent.size heads.now bytes.now
+        (state_of lent.size t heads.now bytes.now) t.used n marks.old }
 {
     let h = Head::load(heads, n);
     if !words_hold(h) {
@@ -203,11 +169,11 @@ fn hold_slot(
     if h.dead == 1 {
         return true;
     }
-    let most = (2 * size) as u64;
+    let most = (2 * lent.size) as u64;
     if most < h.used {
         return false;
     }
-    let part = bank::slot_of(bytes, size, n);
+    let part = bank::slot_of(bytes, lent.size, n);
     if !body_holds(t, part, h, n) {
         return false;
     }
@@ -222,22 +188,15 @@ fn hold_slot(
 }
 
 // The same of every slot in use.
-fn hold_slots(
-    t: Tree,
-    heads: &[u64],
-    bytes: &[u8],
-    size: usize,
-    slots: usize,
-    marks: &mut [u8],
-) -> bool
-    requires laid { Laid size slots t.used heads.now bytes.now }
+fn hold_slots(t: Tree, heads: &[u64], bytes: &[u8], lent: Lent, marks: &mut [u8]) -> bool
+    requires laid { Laid lent.size lent.slots t.used heads.now bytes.now }
     requires sized { Sized t.info × (t.used ≤ length marks.old) }
     ensures { mark_of result marks.new
-        ≡ hold_slots size heads.now bytes.now
-        (state_of size t heads.now bytes.now) t.used t.used 0 marks.old }
+        ≡ hold_slots lent.size heads.now bytes.now
+        (state_of lent.size t heads.now bytes.now) t.used t.used 0 marks.old }
 {
     for n in 0..t.used {
-        if !hold_slot(t, heads, bytes, size, slots, n, marks) {
+        if !hold_slot(t, heads, bytes, lent, n, marks) {
             return false;
         }
     }
@@ -245,10 +204,10 @@ fn hold_slots(
 }
 
 // 1: the slots in use are nodes, and hold together.
-pub fn hold_together(t: Tree, heads: &[u64], bytes: &[u8], size: usize, slots: usize) -> bool
-    requires { Laid size slots t.used heads.now bytes.now × Sized t.info }
-    ensures { result ≡ slots_hold size heads.now bytes.now t.used 0
-        && hold_together (state_of size t heads.now bytes.now) }
+pub fn hold_together(t: Tree, heads: &[u64], bytes: &[u8], lent: Lent) -> bool
+    requires { Laid lent.size lent.slots t.used heads.now bytes.now × Sized t.info }
+    ensures { result ≡ slots_hold lent.size heads.now bytes.now t.used 0
+        && hold_together (state_of lent.size t heads.now bytes.now) }
 {
     let root = t.root;
     if t.used <= root {
@@ -260,5 +219,5 @@ pub fn hold_together(t: Tree, heads: &[u64], bytes: &[u8], size: usize, slots: u
     }
     let mut marks = [0u8; 4096];
     marks[root] = 1;
-    hold_slots(t, heads, bytes, size, slots, &mut marks)
+    hold_slots(t, heads, bytes, lent, &mut marks)
 }

@@ -1,36 +1,38 @@
-// The loaded children of a node, one record after another: what a walk over children reads.
-ghost use Rattle.std.specs.Prelude.{◌≡◌, ◌+◌, ◌≤◌, length, drop};
-ghost use Rattle.node.specs.Records.{record_length, entry_of};
+// The child that a value is.
+ghost use Rattle.std.specs.Prelude.{◌≡◌, drop};
+ghost use Rattle.node.specs.Records.{entry_of};
+ghost use Rattle.node.specs.Slot.{value_means};
 ghost use Rattle.tree.specs.internal.Kids.{kid_means, slots_of};
+ghost use Rattle.tree.specs.internal.Tree.{child_of};
 
 use node::record::Record;
 use node::val::{Child, Val};
 
-// The slot of a record's child, if it holds one that is loaded, and where the next record starts.
-#[derive(Clone, Copy)]
-pub struct Kid {
-    pub slot: Option<usize>,
-    pub next: usize,
+// The child, if a value is one.
+#[tactic(auto, using(crate::specs::laws::slots::Kids::child_read))]
+pub fn child_of(v: Val<'_>) -> Option<Child>
+    ensures { result ≡ child_of (value_means v.entry) }
+{
+    match v {
+        Val::Child(c) => Some(c),
+        Val::Leaf(_) => None,
+        Val::Ghost => None,
+    }
 }
 
-// The child of the record at an offset.
-pub fn kid_of(part: &[u8], at: usize) -> Kid
-    requires { at + record_length (drop at part.now) ≤ length part.now }
-    ensures { (kid_means result ≡ slots_of (entry_of (drop at part.now)).value)
-        × (result.next ≡ at + record_length (drop at part.now)) }
+// Its slot, if it is loaded.
+pub fn slot_of(v: Val<'_>) -> Option<usize>
+    ensures { kid_means result ≡ slots_of (value_means v.entry) }
 {
-    let r = Record { slot: part, at };
-    let next = r.next();
-    let none = Kid { slot: None, next };
-    match r.value() {
-        Val::Ghost => none,
-        Val::Leaf(_, _) => none,
-        Val::Child(c) => match c {
-            Child::Disk(_) => none,
-            Child::Mem(s) => Kid {
-                slot: Some(s as usize),
-                next,
-            },
-        },
+    match child_of(v)? {
+        Child::Mem(s) => Some(s as usize),
+        Child::Disk(_) => None,
     }
+}
+
+// The slot of a record's child, if its value is a child that is loaded.
+pub fn kid_of(r: Record<'_>) -> Option<usize>
+    ensures { kid_means result ≡ slots_of (entry_of (drop r.entry.at r.entry.slot.now)).value }
+{
+    slot_of(r.value())
 }

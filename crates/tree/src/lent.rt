@@ -16,7 +16,7 @@ pub const MOST_BLOCKS: usize = 0x100000;
 pub const MOST_SLOTS: usize = 4096;
 
 // Words of a slot, of its shadow, and its mark.
-const WORDS_EACH: usize = 19;
+pub const WORDS_EACH: usize = 19;
 
 // What a root stores as u32 is below this.
 const U32_END: u64 = 0x100000000;
@@ -32,34 +32,15 @@ pub struct Lent {
 }
 
 // A power of two from 512 to 65,536.
+#[tactic(auto, unfolding(crate::specs::Lent::is_size))]
 pub fn is_size(n: usize) -> bool
     ensures { result ≡ is_size n }
 {
-    if n == 512 {
-        return true;
-    }
-    if n == 1024 {
-        return true;
-    }
-    if n == 2048 {
-        return true;
-    }
-    if n == 4096 {
-        return true;
-    }
-    if n == 8192 {
-        return true;
-    }
-    if n == 16384 {
-        return true;
-    }
-    if n == 32768 {
-        return true;
-    }
-    n == 65536
+    matches!(n, 512 | 1024 | 2048 | 4096 | 8192 | 16384 | 32768 | 65536)
 }
 
 // 1: lent sizes.
+#[tactic(auto, unfolding(crate::specs::Lent::sizes_hold, crate::specs::Lent::blocks, crate::specs::Lent::lent_of))]
 pub fn sizes_hold(image: &[u8], lent: Lent) -> bool
     ensures { result ≡ sizes_hold (lent_of image.now lent) }
 {
@@ -67,39 +48,21 @@ pub fn sizes_hold(image: &[u8], lent: Lent) -> bool
     if !is_size(size) {
         return false;
     }
-    if image.len() % size != 0 {
-        return false;
-    }
-    let blocks = image.len() / size;
-    if blocks < 1 {
-        return false;
-    }
-    if MOST_BLOCKS < blocks {
-        return false;
-    }
-    if lent.slots < 1 {
-        return false;
-    }
-    lent.slots <= MOST_SLOTS
+    image.len() % size == 0
+        && (1..=MOST_BLOCKS).contains(&(image.len() / size))
+        && (1..=MOST_SLOTS).contains(&lent.slots)
 }
 
 // 1: the tree's lengths and flags are u32.
+#[tactic(auto, unfolding(crate::specs::Hold::info_holds))]
 pub fn info_holds(info: BTreeInfo) -> bool
     ensures { result ≡ info_holds info }
 {
-    if U32_END <= info.flags {
-        return false;
-    }
-    if U32_END <= info.key_size {
-        return false;
-    }
-    if U32_END <= info.val_size {
-        return false;
-    }
-    if U32_END <= info.longest_key {
-        return false;
-    }
-    info.longest_val < U32_END
+    info.flags < U32_END
+        && info.key_size < U32_END
+        && info.val_size < U32_END
+        && info.longest_key < U32_END
+        && info.longest_val < U32_END
 }
 
 // A map is lent to a virtual tree and to no other.
@@ -135,18 +98,15 @@ pub fn numbers_hold(t: Tree, image: &[u8], lent: Lent) -> bool
 }
 
 // Words and bytes for the slots and their shadows, a mark a slot; no more slots in use than there are.
+#[tactic(auto, unfolding(crate::specs::internal::Holding::room_holds))]
 pub fn room_holds(heads: &[u64], bytes: &[u8], used: usize, lent: Lent) -> bool
     requires { (lent.size ≤ 65536) × (lent.slots ≤ 4096) }
     ensures { result ≡ room_holds lent.size lent.slots used heads.now bytes.now }
 {
     let slots = lent.slots;
-    if heads.len() != slots * WORDS_EACH {
-        return false;
-    }
-    if bytes.len() != (slots + slots) * (4 * lent.size) {
-        return false;
-    }
-    used <= slots
+    heads.len() == slots * WORDS_EACH
+        && bytes.len() == (slots + slots) * (4 * lent.size)
+        && used <= slots
 }
 
 // 1, of the workspace and of a call that is lent no bitmap.
@@ -160,7 +120,7 @@ pub fn lent_holds(t: Tree, image: &[u8], heads: &[u64], bytes: &[u8], lent: Lent
     if !room_holds(heads, bytes, t.used, lent) {
         return false;
     }
-    hold::hold_together(t, heads, bytes, lent.size, lent.slots)
+    hold::hold_together(t, heads, bytes, lent)
 }
 
 // 1, of an edit: also the scratch, for a key on its way from slot to slot and for what a drop removes.

@@ -1,7 +1,7 @@
 // Editing one tree: what is lent, loading, lookups, edits, the object map. Of one node it hands on what flush calls.
 #![tactic(auto)]
 
-pub use node::{pack, refusal};
+pub use node::{head, pack, record, refusal};
 
 pub mod bank;
 pub mod block;
@@ -17,11 +17,13 @@ pub mod lent;
 pub mod loaded;
 pub mod lookup;
 pub mod map;
+pub mod mapped;
 pub mod omap;
 pub mod range;
 pub mod remove;
 pub mod still;
 pub mod undo;
 pub mod upsert;
+pub mod view;
 pub mod way;
 pub mod writers;

@@ -11,10 +11,11 @@ use crate::lent::Lent;
 use crate::{bank, lent, map};
 use node::info::BTreeInfo;
 use node::order::Order;
-use node::read::{Place, ReadNode};
-use node::refusal::Refusal;
+use node::read::Place;
+use node::refusal::{Refusal, check};
 
 // The tree whose root is r, at an address: the load line from 2, then 10.
+#[tactic(auto, using(crate::specs::laws::load::Open::opening))]
 fn open_at(
     image: &[u8],
     heads: &mut [u64],
@@ -38,24 +39,23 @@ fn open_at(
         parent: 0,
         ksize: 0,
         vsize: 0,
-        bounded: false,
+        lower: None,
+        upper: None,
     };
-    let none = &image[..0];
-    let v = map::load_block(image, lent, Order { code: order }, place, none, none, a)?;
+    let read = map::load_block(image, lent, Order { code: order }, place, a)?;
     let by_id = lent.map.is_some();
-    if !map::root_holds(image, lent, a, by_id, v) {
-        return Err(Refusal::Root);
-    }
-    let block = map::block_of(image, lent.size, a);
-    let info = BTreeInfo::parse(block);
-    let read = ReadNode { block, node: v };
+    check(
+        Refusal::Root,
+        map::root_holds(image, lent, a, by_id, read.node),
+    )?;
+    let info = BTreeInfo::parse(read.block);
     bank::adopt_into(read, heads, bytes, lent.size, 0, by_id, a);
     Ok(Tree {
         root: 0,
         used: 1,
         info,
         by_id,
-        subtype: v.subtype,
+        subtype: read.node.subtype,
         order,
         xid,
     })
@@ -77,13 +77,9 @@ pub fn open_in(
         ≡ opened (lent_of image.now lent) r order xid }
     ensures trusts { OpenedTrusts image.now lent heads.new bytes.new result }
 {
-    if !lent::sizes_hold(image, lent) {
-        return Err(Refusal::Lent);
-    }
+    check(Refusal::Lent, lent::sizes_hold(image, lent))?;
     let by = Order { code: order };
-    if !by.known() {
-        return Err(Refusal::Lent);
-    }
+    check(Refusal::Lent, by.known())?;
     let a = map::address_of(image, lent, xid, r)?;
     open_at(image, heads, bytes, lent, r, order, xid, a)
 }
@@ -103,11 +99,7 @@ pub fn open(
     ensures left { opened_leaves lent.size lent.slots heads.new bytes.new result }
     ensures trusts { OpenedTrusts image.now lent heads.new bytes.new result }
 {
-    if !lent::sizes_hold(image, lent) {
-        return Err(Refusal::Lent);
-    }
-    if !lent::room_holds(heads, bytes, 0, lent) {
-        return Err(Refusal::Lent);
-    }
+    check(Refusal::Lent, lent::sizes_hold(image, lent))?;
+    check(Refusal::Lent, lent::room_holds(heads, bytes, 0, lent))?;
     open_in(image, heads, bytes, lent, r, order, xid)
 }

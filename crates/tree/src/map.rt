@@ -1,19 +1,23 @@
 // The object map: a physical tree of pairs, its nodes read where they lie in the image.
-ghost use Rattle.std.specs.Prelude.{◌≡◌, [], ◌∷◌, ◌+◌, ◌*◌, ◌/◌, ◌≤◌, ◌<◌, length};
+ghost use Rattle.std.specs.Prelude.{◌≡◌, ◌*◌, ◌/◌, ◌≤◌, ◌<◌, length, take, drop, ◌-◌, IfOk, OnOk};
 ghost use Rattle.node.specs.Bytes.{window};
 ghost use Rattle.node.specs.Order.{pair};
 ghost use Rattle.node.specs.Find.{key_at, val_at};
-ghost use Rattle.node.specs.Read.{read_of, on_disk, entry_at};
+ghost use Rattle.node.specs.Place.{place_of, lent_key};
+ghost use Rattle.node.specs.Read.{read_of, map_ok, on_disk};
 ghost use Rattle.tree.specs.Lent.{block_at, lent_of};
-ghost use Rattle.tree.specs.Load.{bound_key, disk_number, tighter_lower, tighter_upper, child_bounds, root_holds, map_last, map_floor, mapping, map_root_holds, map_address, address_of};
-ghost use Rattle.tree.specs.internal.Map.{load_at, edge_of, edges_of, key_of, KeyIn, EdgeIn, EdgesIn, MapSound, map_entries, map_read, map_child_at, map_loaded_of, MapSoundAfter, leftward, spotted_of, SpottedIn, address_at, mapping_in, looked_up, FoundIn};
+ghost use Rattle.tree.specs.Load.{disk_number, tighter_lower, tighter_upper, child_bounds, root_holds, map_last, map_floor, mapping, map_root_holds, map_address, address_of};
+ghost use Rattle.tree.specs.internal.Tree.{edge_of, edges_of};
+ghost use Rattle.tree.specs.internal.Map.{load_at, map_read, map_child_at, map_loaded_of, leftward, found_of, spotted_of, address_at, looked_up};
 
+use crate::editor::Bounds;
 use crate::lent::Lent;
+use crate::mapped::{Blocks, MapNode, Mapped};
 use node::info::BTreeInfo;
 use node::order::Order;
 use node::read::{Node, Place, ReadNode};
-use node::refusal::Refusal;
-use node::val::{Child, Val};
+use node::refusal::{Refusal, check};
+use node::val::Val;
 use node::{bytes, read};
 
 // Fixed lengths of the map's keys and values (`omap_key_t`, `omap_val_t`).
@@ -25,41 +29,8 @@ const OMAP_VAL_ENCRYPTED: u64 = 4;
 // What the storage class of an object's type starts at: 0 virtual, 1 physical.
 const STORAGE_CLASS: u64 = 0x40000000;
 
-// A node of the map, with its address.
-#[derive(Clone, Copy)]
-pub struct MapNode {
-    pub at: u64,
-    pub node: Node,
-}
-
-// Where the key of a bound lies in the image.
-#[derive(Clone, Copy)]
-pub struct Edge {
-    pub at: usize,
-    pub len: usize,
-}
-
-// The bounds of a node's keys; the first node of the first has no lower one, the last of the last no upper one.
-#[derive(Clone, Copy)]
-pub struct Edges {
-    pub lower: Option<Edge>,
-    pub upper: Option<Edge>,
-}
-
-// No bounds: a root's.
-pub const UNBOUNDED: Edges = Edges {
-    lower: None,
-    upper: None,
-};
-
-// An entry of the map: its node and its index.
-#[derive(Clone, Copy)]
-pub struct Spotted {
-    pub node: MapNode,
-    pub index: u64,
-}
-
 // The block at an address.
+#[tactic(auto, using(crate::specs::laws::load::MapNode::in_image))]
 pub fn block_of(image: &[u8], size: usize, a: u64) -> &[u8]
     requires { a < length image.now / size }
     ensures { result.now ≡ window (a * size) size image.now }
@@ -70,368 +41,280 @@ pub fn block_of(image: &[u8], size: usize, a: u64) -> &[u8]
 }
 
 // 2 to 9: the node at an address, in its place.
-pub fn load_block(
-    image: &[u8],
+#[tactic(auto, using(crate::specs::laws::load::MapNode::loads))]
+pub fn load_block<'i>(
+    image: &'i [u8],
     lent: Lent,
     order: Order,
-    place: Place,
-    lower: &[u8],
-    upper: &[u8],
+    place: Place<'_>,
     a: u64,
-) -> Result<Node, Refusal>
+) -> Result<ReadNode<'i>, Refusal>
     requires { (512 ≤ lent.size) × (lent.size ≤ 65536) }
-    ensures { read_of (block_at (lent_of image.now lent) a) result
-        ≡ load_at (lent_of image.now lent) order.code place lower.now upper.now a }
+    ensures answer { read_of (block_at (lent_of image.now lent) a) (map_ok (λ r. r.node) result)
+        ≡ load_at (lent_of image.now lent) order.code (place_of place.entry) (lent_key place.entry.lower)
+        (lent_key place.entry.upper) a }
+    ensures block { IfOk result (λ r. r.block.now ≡ window (a * lent.size) lent.size image.now) }
+    ensures inside { OnOk result (a < length image.now / lent.size) }
 {
-    let size = lent.size;
-    if (image.len() / size) as u64 <= a {
-        return Err(Refusal::Address);
-    }
-    read::read_node(block_of(image, size, a), order, place, lower, upper)
+    check(Refusal::Address, a < (image.len() / lent.size) as u64)?;
+    read::read_node(block_of(image, lent.size, a), order, place)
 }
 
 // 10: a root's storage class, or its stored node size.
+#[tactic(auto, using(crate::specs::laws::load::MapAddress::roots))]
 pub fn root_holds(image: &[u8], lent: Lent, a: u64, by_id: bool, v: Node) -> bool
     requires { (a < length image.now / lent.size) × (512 ≤ lent.size) }
     ensures { result
         ≡ root_holds (lent_of image.now lent) a by_id (on_disk v (block_at (lent_of image.now lent) a)) }
 {
-    let size = lent.size;
-    let info = BTreeInfo::parse(block_of(image, size, a));
-    let class = u64::from(!by_id);
-    if v.otype / STORAGE_CLASS != class {
-        return false;
-    }
-    info.node_size == size as u64
-}
-
-// The key that lies there.
-fn key_in(image: &[u8], e: Edge) -> &[u8]
-    requires { KeyIn image.now e }
-    ensures { result.now ≡ key_of image.now e }
-{
-    &image[e.at..e.at + e.len]
-}
-
-// The key of a bound; nothing where there is none.
-fn edge_key(image: &[u8], b: Option<Edge>) -> &[u8]
-    requires { EdgeIn image.now b }
-    ensures { result.now ≡ bound_key (edge_of image.now b) }
-{
-    match b {
-        None => &image[..0],
-        Some(e) => key_in(image, e),
-    }
-}
-
-// Where the key of an entry lies; an empty one where there is no such entry.
-fn edge_at(image: &[u8], size: usize, d: MapNode, i: u64) -> Edge
-    requires { MapSound image.now size d }
-    ensures key { key_of image.now result ≡ key_at (map_entries image.now size d) i }
-    ensures within { KeyIn image.now result }
-{
-    let v = d.node;
-    if v.nkeys <= i {
-        return Edge { at: 0, len: 0 };
-    }
-    let block = block_of(image, size, d.at);
-    let s = ReadNode { block, node: v }.span_at(i as usize);
-    Edge {
-        at: d.at as usize * size + s.key,
-        len: s.klen,
-    }
-}
-
-// The number of a child; 0 where there is no child.
-fn number_at(image: &[u8], size: usize, d: MapNode, i: u64) -> u64
-    requires { MapSound image.now size d }
-    ensures { result ≡ disk_number (val_at (map_entries image.now size d) i) }
-{
-    let v = d.node;
-    if v.nkeys <= i {
-        return 0;
-    }
-    let block = block_of(image, size, d.at);
-    match (ReadNode { block, node: v }.value_at(i as usize)) {
-        Val::Ghost => 0,
-        Val::Leaf(_, _) => 0,
-        Val::Child(c) => match c {
-            Child::Disk(r) => r,
-            Child::Mem(_) => 0,
-        },
-    }
+    let info = BTreeInfo::parse(block_of(image, lent.size, a));
+    v.otype / STORAGE_CLASS == u64::from(!by_id) && info.node_size == lent.size as u64
 }
 
 // The higher of a lower bound and a key.
-fn tighter_lower(image: &[u8], old: Option<Edge>, key: Edge) -> Option<Edge>
-    requires { (EdgeIn image.now old) × (KeyIn image.now key) }
-    ensures bound { edge_of image.now result ≡ tighter_lower pair (edge_of image.now old) (key_of image.now key) }
-    ensures within { EdgeIn image.now result }
+#[tactic(auto, using(crate::specs::laws::load::MapNode::tighter))]
+fn tighter_lower<'i>(old: Option<&'i [u8]>, key: &'i [u8]) -> Option<&'i [u8]>
+    ensures { edge_of result ≡ tighter_lower pair (edge_of old.entry) key.now }
 {
-    let Some(edge) = old else {
-        return Some(key);
-    };
-    let order = Order { code: Order::PAIR };
-    if order.less(key_in(image, edge), key_in(image, key)) {
-        return Some(key);
+    match old {
+        Some(bound) if !Order::PAIR_ORDER.less(bound, key) => old,
+        _ => Some(key),
     }
-    old
 }
 
 // The lower of an upper bound and a key.
-fn tighter_upper(image: &[u8], old: Option<Edge>, key: Edge) -> Option<Edge>
-    requires { (EdgeIn image.now old) × (KeyIn image.now key) }
-    ensures bound { edge_of image.now result ≡ tighter_upper pair (edge_of image.now old) (key_of image.now key) }
-    ensures within { EdgeIn image.now result }
+#[tactic(auto, using(crate::specs::laws::load::MapNode::tighter))]
+fn tighter_upper<'i>(old: Option<&'i [u8]>, key: &'i [u8]) -> Option<&'i [u8]>
+    ensures { edge_of result ≡ tighter_upper pair (edge_of old.entry) key.now }
 {
-    let Some(edge) = old else {
-        return Some(key);
-    };
-    let order = Order { code: Order::PAIR };
-    if order.less(key_in(image, key), key_in(image, edge)) {
-        return Some(key);
+    match old {
+        Some(bound) if !Order::PAIR_ORDER.less(key, bound) => old,
+        _ => Some(key),
     }
-    old
 }
 
-// The bounds of child i.
-fn map_bounds(image: &[u8], size: usize, d: MapNode, b: Edges, i: u64) -> Edges
-    requires { (MapSound image.now size d) × (EdgesIn image.now b) }
-    ensures bounds { edges_of image.now result
-        ≡ child_bounds pair (edges_of image.now b) (map_entries image.now size d) i }
-    ensures within { EdgesIn image.now result }
-{
-    let old = b.lower;
-    let end = b.upper;
-    let first = edge_at(image, size, d, i);
-    let lower = tighter_lower(image, old, first);
-    let v = d.node;
-    if v.nkeys <= i {
-        return Edges { lower, upper: end };
-    }
-    if v.nkeys <= i + 1 {
-        return Edges { lower, upper: end };
-    }
-    let next = edge_at(image, size, d, i + 1);
-    let upper = tighter_upper(image, end, next);
-    Edges { lower, upper }
-}
-
-// Child i of a node, within its bounds.
-fn map_child(image: &[u8], lent: Lent, d: MapNode, b: Edges, i: u64) -> Result<MapNode, Refusal>
-    requires le_size { (512 ≤ lent.size) × (lent.size ≤ 65536) }
-    requires map_sound { (MapSound image.now lent.size d) × (EdgesIn image.now b) }
-    ensures answer { map_loaded_of image.now lent.size result
-        ≡ map_child_at (lent_of image.now lent) d.node.level (edges_of image.now b)
-        (disk_number (val_at (map_entries image.now lent.size d) i)) }
-    ensures sound { MapSoundAfter image.now lent.size result }
-{
-    let v = d.node;
-    let lower = b.lower;
-    let upper = b.upper;
-    let a = number_at(image, lent.size, d, i);
-    let place = Place {
-        root: false,
-        oid: a,
-        parent: v.level,
-        ksize: PAIR_SIZE,
-        vsize: PAIR_SIZE,
-        bounded: upper.is_some(),
-    };
-    let order = Order { code: Order::PAIR };
-    let lo = edge_key(image, lower);
-    let up = edge_key(image, upper);
-    let node = load_block(image, lent, order, place, lo, up, a)?;
-    Ok(MapNode { at: a, node })
-}
-
-// The last entry below a node.
-fn map_last(
-    image: &[u8],
-    lent: Lent,
-    d: MapNode,
-    b: Edges,
-    level: u64,
-) -> Result<Option<Spotted>, Refusal>
-    requires le_size { (512 ≤ lent.size) × (lent.size ≤ 65536) }
-    requires map_sound { (MapSound image.now lent.size d) × (EdgesIn image.now b) }
-    ensures answer { spotted_of image.now lent.size result
-        ≡ map_last level (lent_of image.now lent) (map_read image.now lent.size d) (edges_of image.now b) }
-    ensures within { SpottedIn image.now lent.size result }
-{
-    let v = d.node;
-    let i = v.nkeys.saturating_sub(1);
-    if level == 0 {
-        if v.nkeys == 0 {
-            return Ok(None);
+impl<'i> MapNode<'i> {
+    // The key of an entry; nothing where there is no such entry.
+    #[tactic(auto, using(crate::specs::laws::load::MapNode::keys))]
+    fn key_at(self, i: u64) -> &'i [u8]
+        ensures { result.now ≡ key_at (map_read self.entry).entries i }
+    {
+        if self.read.node.nkeys <= i {
+            return &[];
         }
-        return Ok(Some(Spotted { node: d, index: i }));
+        self.read.key_at(i as usize)
     }
-    let inner = map_bounds(image, lent.size, d, b, i);
-    let c = map_child(image, lent, d, inner, i)?;
-    map_last(image, lent, c, inner, level - 1)
-}
 
-// The last entry of the child before child i, where the key does not lie before child i.
-fn map_left(
-    image: &[u8],
-    lent: Lent,
-    d: MapNode,
-    b: Edges,
-    key: &[u8],
-    i: u64,
-    level: u64,
-) -> Result<Option<Spotted>, Refusal>
-    requires le_size { (512 ≤ lent.size) × (lent.size ≤ 65536) }
-    requires map_sound { (MapSound image.now lent.size d) × (EdgesIn image.now b) }
-    ensures answer { spotted_of image.now lent.size result
-        ≡ leftward level (lent_of image.now lent) (map_read image.now lent.size d) (edges_of image.now b)
-        key.now i }
-    ensures within { SpottedIn image.now lent.size result }
-{
-    if i == 0 {
-        return Ok(None);
+    // The number of a child; 0 where there is no child.
+    #[tactic(auto, using(crate::specs::laws::load::MapNode::numbers))]
+    fn number_at(self, i: u64) -> u64
+        ensures { result ≡ disk_number (val_at (map_read self.entry).entries i) }
+    {
+        if self.read.node.nkeys <= i || self.read.node.level == 0 {
+            return 0;
+        }
+        self.read.child_at(i as usize)
     }
-    let order = Order { code: Order::PAIR };
-    let here = edge_at(image, lent.size, d, i);
-    if order.less(key, key_in(image, here)) {
-        return Ok(None);
-    }
-    let inner = map_bounds(image, lent.size, d, b, i - 1);
-    let c = map_child(image, lent, d, inner, i - 1)?;
-    map_last(image, lent, c, inner, level)
-}
 
-// The last entry not above a key; leftward only if the leaf has none.
-fn map_floor(
-    image: &[u8],
-    lent: Lent,
-    d: MapNode,
-    b: Edges,
-    key: &[u8],
-    level: u64,
-) -> Result<Option<Spotted>, Refusal>
-    requires le_size { (512 ≤ lent.size) × (lent.size ≤ 65536) }
-    requires map_sound { (MapSound image.now lent.size d) × (EdgesIn image.now b) }
-    ensures answer { spotted_of image.now lent.size result
-        ≡ map_floor level (lent_of image.now lent) (map_read image.now lent.size d) (edges_of image.now b)
-        key.now }
-    ensures within { SpottedIn image.now lent.size result }
-{
-    let block = block_of(image, lent.size, d.at);
-    let read = ReadNode {
-        block,
-        node: d.node,
-    };
-    let n = read.not_above(Order::PAIR_ORDER, key);
-    let i = n.saturating_sub(1);
-    if level == 0 {
+    // The last of the first n entries, if there is one.
+    #[tactic(auto, using(crate::specs::laws::load::MapNode::entries))]
+    fn last_of(self, n: u64) -> Option<Mapped<'i>>
+        requires { n ≤ self.read.node.nkeys }
+        ensures { found_of result ≡ drop (n - 1) (take n (map_read self.entry).entries) }
+    {
         if n == 0 {
+            return None;
+        }
+        Some(Mapped {
+            key: self.read.key_at(n as usize - 1),
+            value: self.read.value_at(n as usize - 1),
+        })
+    }
+
+    // The bounds of child i.
+    #[tactic(auto, using(crate::specs::laws::load::MapNode::bounds))]
+    fn child_bounds(self, b: Bounds<&'i [u8]>, i: u64) -> Bounds<&'i [u8]>
+        ensures { edges_of result
+            ≡ child_bounds pair (edges_of b.entry) (map_read self.entry).entries i }
+    {
+        let lower = tighter_lower(b.lower, self.key_at(i));
+        if self.read.node.nkeys.saturating_sub(1) <= i {
+            return Bounds {
+                lower,
+                upper: b.upper,
+            };
+        }
+        let upper = tighter_upper(b.upper, self.key_at(i + 1));
+        Bounds { lower, upper }
+    }
+}
+
+impl<'i> Blocks<'i> {
+    // Child i of a node, within its bounds.
+    #[tactic(auto, using(crate::specs::laws::load::MapFloor::child))]
+    fn child(self, d: MapNode<'i>, b: Bounds<&'i [u8]>, i: u64) -> Result<MapNode<'i>, Refusal>
+        ensures { map_loaded_of result
+            ≡ map_child_at (lent_of self.entry.image.now self.entry.lent) d.entry.read.node.level (edges_of b.entry)
+            (disk_number (val_at (map_read d.entry).entries i)) }
+    {
+        let a = d.number_at(i);
+        let place = Place {
+            root: false,
+            oid: a,
+            parent: d.read.node.level,
+            ksize: PAIR_SIZE,
+            vsize: PAIR_SIZE,
+            lower: b.lower,
+            upper: b.upper,
+        };
+        let read = load_block(self.image, self.lent, Order::PAIR_ORDER, place, a)?;
+        Ok(MapNode { read })
+    }
+
+    // The last entry below a node.
+    #[tactic(auto, using(crate::specs::laws::load::MapFloor::last))]
+    fn map_last(
+        self,
+        d: MapNode<'i>,
+        b: Bounds<&'i [u8]>,
+        level: u64,
+    ) -> Result<Option<Mapped<'i>>, Refusal>
+        ensures { spotted_of result
+            ≡ map_last level (lent_of self.entry.image.now self.entry.lent) (map_read d.entry) (edges_of b.entry) }
+    {
+        let n = d.read.node.nkeys;
+        if level == 0 {
+            return Ok(d.last_of(n));
+        }
+        let i = n.saturating_sub(1);
+        let inner = d.child_bounds(b, i);
+        let c = self.child(d, inner, i)?;
+        self.map_last(c, inner, level - 1)
+    }
+
+    // The last entry of the child before child i, where the key does not lie before child i.
+    #[tactic(auto, using(crate::specs::laws::load::MapFloor::left))]
+    fn map_left(
+        self,
+        d: MapNode<'i>,
+        b: Bounds<&'i [u8]>,
+        key: &[u8],
+        i: u64,
+        level: u64,
+    ) -> Result<Option<Mapped<'i>>, Refusal>
+        ensures { spotted_of result
+            ≡ leftward level (lent_of self.entry.image.now self.entry.lent) (map_read d.entry) (edges_of b.entry)
+            key.now i }
+    {
+        if i == 0 || Order::PAIR_ORDER.less(key, d.key_at(i)) {
             return Ok(None);
         }
-        return Ok(Some(Spotted { node: d, index: i }));
+        let inner = d.child_bounds(b, i - 1);
+        let c = self.child(d, inner, i - 1)?;
+        self.map_last(c, inner, level)
     }
-    let inner = map_bounds(image, lent.size, d, b, i);
-    let c = map_child(image, lent, d, inner, i)?;
-    let found = map_floor(image, lent, c, inner, key, level - 1)?;
-    match found {
-        Some(s) => Ok(Some(s)),
-        None => map_left(image, lent, d, b, key, i, level - 1),
+
+    // The last entry not above a key; leftward only if the leaf has none.
+    #[tactic(auto, using(crate::specs::laws::load::MapFloor::floor))]
+    fn map_floor(
+        self,
+        d: MapNode<'i>,
+        b: Bounds<&'i [u8]>,
+        key: &[u8],
+        level: u64,
+    ) -> Result<Option<Mapped<'i>>, Refusal>
+        ensures { spotted_of result
+            ≡ map_floor level (lent_of self.entry.image.now self.entry.lent) (map_read d.entry) (edges_of b.entry)
+            key.now }
+    {
+        let n = d.read.not_above(Order::PAIR_ORDER, key);
+        if level == 0 {
+            return Ok(d.last_of(n));
+        }
+        let i = n.saturating_sub(1);
+        let inner = d.child_bounds(b, i);
+        let c = self.child(d, inner, i)?;
+        match self.map_floor(c, inner, key, level - 1)? {
+            Some(m) => Ok(Some(m)),
+            None => self.map_left(d, b, key, i, level - 1),
+        }
     }
 }
 
-// 18 where an entry is not the id's or has no value, 19 where it is encrypted; else its address.
-fn mapping_at(image: &[u8], size: usize, d: MapNode, i: u64, id: u64) -> Result<u64, Refusal>
-    requires { (MapSound image.now size d) × (i < d.node.nkeys) }
-    ensures { address_at result
-        ≡ mapping id (entry_at d.node (window (d.at * size) size image.now) i ∷ []) }
+// 18 where no entry was found, or it is not the id's or has no value, 19 where it is encrypted; else its address.
+#[tactic(auto, using(crate::specs::laws::load::MapAddress::mapped))]
+fn mapping(found: Option<Mapped<'_>>, id: u64) -> Result<u64, Refusal>
+    ensures { address_at result ≡ mapping id (found_of found.entry) }
 {
-    let v = d.node;
-    let block = block_of(image, size, d.at);
-    let read = ReadNode { block, node: v };
-    let key = read.span_at(i as usize).key;
-    if bytes::field_at::<8>(block, key) != id {
-        return Err(Refusal::Unmapped);
-    }
-    let Val::Leaf(at, _) = read.value_at(i as usize) else {
+    let m = found.ok_or(Refusal::Unmapped)?;
+    check(Refusal::Unmapped, bytes::field_at::<8>(m.key, 0) == id)?;
+    let Val::Leaf(value) = m.value else {
         return Err(Refusal::Unmapped);
     };
-    let flags = bytes::field_at::<4>(block, at);
-    if flags / OMAP_VAL_ENCRYPTED % 2 == 1 {
-        return Err(Refusal::Encrypted);
-    }
-    Ok(bytes::field_at::<8>(block, at + 8))
-}
-
-// The same of what was found, if anything was.
-fn mapping(image: &[u8], size: usize, found: Option<Spotted>, id: u64) -> Result<u64, Refusal>
-    requires { FoundIn image.now size found }
-    ensures { address_at result ≡ mapping_in id (spotted_of image.now size (Ok found)) }
-{
-    match found {
-        None => Err(Refusal::Unmapped),
-        Some(s) => mapping_at(image, size, s.node, s.index, id),
-    }
+    let flags = bytes::field_at::<4>(value, 0);
+    check(Refusal::Encrypted, flags / OMAP_VAL_ENCRYPTED % 2 != 1)?;
+    Ok(bytes::field_at::<8>(value, 8))
 }
 
 // 10 of the map's root.
+#[tactic(auto, using(crate::specs::laws::load::MapAddress::map_root), unfolding(crate::specs::Load::map_root_holds))]
 fn map_root_holds(image: &[u8], lent: Lent, a: u64, v: Node) -> bool
     requires { (a < length image.now / lent.size) × (512 ≤ lent.size) }
     ensures { result
         ≡ map_root_holds (lent_of image.now lent) a (on_disk v (block_at (lent_of image.now lent) a)) }
 {
-    if !root_holds(image, lent, a, false, v) {
-        return false;
-    }
     let info = BTreeInfo::parse(block_of(image, lent.size, a));
-    if info.key_size != PAIR_SIZE {
-        return false;
-    }
-    info.val_size == PAIR_SIZE
+    root_holds(image, lent, a, false, v) && info.key_size == PAIR_SIZE && info.val_size == PAIR_SIZE
 }
 
-// The mapping of an id as seen from a transaction, from the map's root on.
-fn map_lookup(image: &[u8], lent: Lent, d: MapNode, xid: u64, id: u64) -> Result<u64, Refusal>
-    requires le_size { (512 ≤ lent.size) × (lent.size ≤ 65536) }
-    requires map_sound { MapSound image.now lent.size d }
-    ensures { address_at result
-        ≡ looked_up (lent_of image.now lent) (map_read image.now lent.size d) xid id }
-{
-    let mut key = [0u8; 16];
-    Order::pair_key(&mut key, id, xid);
-    let found = map_floor(image, lent, d, UNBOUNDED, &key, d.node.level)?;
-    mapping(image, lent.size, found, id)
-}
-
-// The address of an id as seen from a transaction, in the map whose root is at m.
-fn map_address(image: &[u8], lent: Lent, xid: u64, id: u64, m: u64) -> Result<u64, Refusal>
-    requires { (512 ≤ lent.size) × (lent.size ≤ 65536) }
-    ensures { address_at result ≡ map_address (lent_of image.now lent) xid id m }
-{
-    let place = Place {
-        root: true,
-        oid: m,
-        parent: 0,
-        ksize: 0,
-        vsize: 0,
-        bounded: false,
-    };
-    let order = Order { code: Order::PAIR };
-    let none = &image[..0];
-    let v = load_block(image, lent, order, place, none, none, m)?;
-    if !map_root_holds(image, lent, m, v) {
-        return Err(Refusal::Root);
+impl<'i> Blocks<'i> {
+    // The mapping of an id as seen from a transaction, from the map's root on.
+    #[tactic(auto, using(crate::specs::laws::load::MapAddress::lookup))]
+    fn map_lookup(self, d: MapNode<'i>, xid: u64, id: u64) -> Result<u64, Refusal>
+        ensures { address_at result
+            ≡ looked_up (lent_of self.entry.image.now self.entry.lent) (map_read d.entry) xid id }
+    {
+        let mut key = [0u8; 16];
+        Order::pair_key(&mut key, id, xid);
+        let all = Bounds {
+            lower: None,
+            upper: None,
+        };
+        let found = self.map_floor(d, all, &key, d.read.node.level)?;
+        mapping(found, id)
     }
-    map_lookup(image, lent, MapNode { at: m, node: v }, xid, id)
+
+    // The address of an id as seen from a transaction, in the map whose root is at m.
+    #[tactic(auto, using(crate::specs::laws::load::MapAddress::address))]
+    fn map_address(self, xid: u64, id: u64, m: u64) -> Result<u64, Refusal>
+        ensures { address_at result ≡ map_address (lent_of self.entry.image.now self.entry.lent) xid id m }
+    {
+        let place = Place {
+            root: true,
+            oid: m,
+            parent: 0,
+            ksize: 0,
+            vsize: 0,
+            lower: None,
+            upper: None,
+        };
+        let read = load_block(self.image, self.lent, Order::PAIR_ORDER, place, m)?;
+        check(
+            Refusal::Root,
+            map_root_holds(self.image, self.lent, m, read.node),
+        )?;
+        self.map_lookup(MapNode { read }, xid, id)
+    }
 }
 
 // The address of a reference: itself, or with a map lent its id's mapping.
+#[tactic(auto, using(crate::specs::laws::load::MapAddress::through))]
 pub fn address_of(image: &[u8], lent: Lent, xid: u64, r: u64) -> Result<u64, Refusal>
     requires { (512 ≤ lent.size) × (lent.size ≤ 65536) }
     ensures { address_at result ≡ address_of (lent_of image.now lent) xid r }
 {
     match lent.map {
         None => Ok(r),
-        Some(m) => map_address(image, lent, xid, r, m),
+        Some(m) => Blocks { image, lent }.map_address(xid, r, m),
     }
 }

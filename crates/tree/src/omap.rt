@@ -12,12 +12,13 @@ ghost use Rattle.tree.specs.internal.Edits.{ReadyEdited};
 ghost use Rattle.tree.specs.internal.Dropping.{Listed, put_anew};
 
 use crate::editor::{Tree, UNBOUNDED};
+use crate::lent;
 use crate::lent::Lent;
-use crate::{lent, undo};
+use crate::view::{View, view};
 use node::bytes;
 use node::order::Order;
 use node::record::Record;
-use node::refusal::Refusal;
+use node::refusal::{Refusal, check};
 
 // Keys and values of an object map have so many bytes.
 const OMAP_ENTRY: u64 = 16;
@@ -109,21 +110,10 @@ impl Tree {
         let mut hi = [0u8; 16];
         let end = versions_end(&mut hi, id);
         let n = self.root;
-        let level = self.level_at(heads, bytes, lent.size, lent.slots, n);
+        let level = view!(self, heads, bytes, lent).level_at(n);
         let r = self.range_from(image, heads, bytes, lent, UNBOUNDED, n, level, &lo, end)?;
         let t = r.tree;
-        t.range_out(
-            heads,
-            bytes,
-            lent.size,
-            lent.slots,
-            t.root,
-            level,
-            &lo,
-            end,
-            scratch,
-            2 * lent.size,
-        );
+        view!(t, heads, bytes, lent).range_out(t.root, level, &lo, end, scratch, 2 * lent.size);
         t.remove_all(image, heads, bytes, lent, scratch, r.count)
     }
 
@@ -144,15 +134,13 @@ impl Tree {
         ensures left { EditedCalled image.now lent self heads.old bytes.old
             heads.new bytes.new result }
     {
-        if !self.is_omap() {
-            return Err(Refusal::Argument);
-        }
-        undo::clear_marks(heads, lent.slots, self.used);
-        let done = self.dropped(image, heads, bytes, lent, scratch, id);
-        if done.is_err() {
-            undo::restore(heads, bytes, lent.size, lent.slots, self.used);
-        }
-        done
+        check(Refusal::Argument, self.is_omap())?;
+        self.undone(
+            heads,
+            bytes,
+            lent,
+            &mut |heads, bytes| self.dropped(image, heads, bytes, lent, scratch, id),
+        )
     }
 
     // The drop, then the upsert. Refused, it may leave slots changed.
@@ -212,20 +200,18 @@ impl Tree {
         ensures left { EditedCalled image.now lent self heads.old bytes.old
             heads.new bytes.new result }
     {
-        if !self.is_omap() {
-            return Err(Refusal::Argument);
-        }
-        undo::clear_marks(heads, lent.slots, self.used);
+        check(Refusal::Argument, self.is_omap())?;
         let mut key = [0u8; 16];
         Order::pair_key(&mut key, id, xid);
         let mut value = [0u8; 16];
         bytes::put_field::<4>(&mut value, 4, size);
         bytes::put_field::<8>(&mut value, 8, address);
-        let done = self.put(image, heads, bytes, lent, scratch, id, &key, &value);
-        if done.is_err() {
-            undo::restore(heads, bytes, lent.size, lent.slots, self.used);
-        }
-        done
+        self.undone(
+            heads,
+            bytes,
+            lent,
+            &mut |heads, bytes| self.put(image, heads, bytes, lent, scratch, id, &key, &value),
+        )
     }
 
     // An id's versions taken out.
@@ -244,9 +230,10 @@ impl Tree {
         ensures left { edited_leaves lent.size lent.slots self heads.old bytes.old
             heads.new bytes.new result }
     {
-        if !lent::edit_holds(self, image, heads, bytes, scratch, lent) {
-            return Err(Refusal::Lent);
-        }
+        check(
+            Refusal::Lent,
+            lent::edit_holds(self, image, heads, bytes, scratch, lent),
+        )?;
         self.omap_drop_in(image, heads, bytes, lent, scratch, id)
     }
 
@@ -269,9 +256,10 @@ impl Tree {
         ensures left { edited_leaves lent.size lent.slots self heads.old bytes.old
             heads.new bytes.new result }
     {
-        if !lent::edit_holds(self, image, heads, bytes, scratch, lent) {
-            return Err(Refusal::Lent);
-        }
+        check(
+            Refusal::Lent,
+            lent::edit_holds(self, image, heads, bytes, scratch, lent),
+        )?;
         self.omap_put_in(image, heads, bytes, lent, scratch, id, xid, address, size)
     }
 }

@@ -14,14 +14,16 @@ ghost use Rattle.tree.specs.internal.Tree.{bounds_of, BoundsIn};
 ghost use Rattle.tree.specs.internal.Undo.{Follows};
 ghost use Rattle.tree.specs.internal.Range.{end_of, lies_between, next_entered, most, at_most, sum_of, counted, ranged_of, ReadyRanged};
 ghost use Rattle.tree.specs.internal.Range.{range_child, held_child, range_held, range_way};
+ghost use Rattle.tree.specs.internal.View.{seen};
 
-use crate::editor::{Bounds, Tree, UNBOUNDED};
+use crate::editor::{Bound, Bounds, Tree, UNBOUNDED};
+use crate::lent;
 use crate::lent::Lent;
-use crate::{bank, lent, undo};
+use crate::view::{View, view};
 use node::bytes;
 use node::order::Order;
 use node::record::Record;
-use node::refusal::Refusal;
+use node::refusal::{Refusal, check};
 use node::slot::Records;
 use node::val::Child;
 
@@ -44,37 +46,30 @@ pub struct Sum {
 }
 
 // Two sums as one, neither above the most.
+#[tactic(auto, unfolding(crate::specs::internal::Range::at_most))]
 fn add(a: u64, b: u64) -> u64
     requires { (a ≤ most) × (b ≤ most) }
     ensures { result ≡ at_most (a + b) }
 {
-    let c = a + b;
-    if MOST < c {
-        return MOST;
-    }
-    c
+    (a + b).min(MOST)
 }
 
 // Below an upper end, if there is one.
+#[tactic(auto, unfolding(crate::specs::Lookup::ends_above, crate::specs::internal::Range::end_of))]
 fn ends_above(order: Order, hi: Option<&[u8]>, key: &[u8]) -> bool
     ensures { result ≡ ends_above order.code (end_of hi.entry) key.now }
 {
-    match hi {
-        Some(end) => order.less(key, end),
-        None => true,
-    }
+    hi.is_none_or(|end| order.less(key, end))
 }
 
 // Whether a record's key lies between.
+#[tactic(auto, unfolding(crate::specs::internal::Range::lies_between))]
 fn between_at(r: Record<'_>, order: Order, lo: &[u8], hi: Option<&[u8]>) -> bool
     ensures { result
         ≡ lies_between order.code lo.now (end_of hi.entry) (entry_of (drop r.entry.at r.entry.slot.now)).key }
 {
     let key = r.key();
-    if order.less(key, lo) {
-        return false;
-    }
-    ends_above(order, hi, key)
+    !order.less(key, lo) && ends_above(order, hi, key)
 }
 
 // Whether range looks into child i, which lies at an offset: its key below hi, and the next, if any, above lo.
@@ -109,16 +104,10 @@ fn next_in(records: Records<'_>, from: u64, order: Order, lo: &[u8], hi: Option<
         ≡ next_entered order.code lo.now (end_of hi.entry) (entries_of records.entry.count records.entry.slot.now)
         (records.entry.count - from) from }
 {
-    let mut at = records.offset_of(from);
-    for i in from..records.count {
-        if enters_at(records, i, at, order, lo, hi) {
+    for (i, r) in records.walk_from(from, records.offset_of(from)) {
+        if enters_at(records, i, r.at, order, lo, hi) {
             return i;
         }
-        let r = Record {
-            slot: records.slot,
-            at,
-        };
-        at = r.next();
     }
     records.count
 }
@@ -129,18 +118,13 @@ fn count_between(records: Records<'_>, order: Order, lo: &[u8], hi: Option<&[u8]
     ensures { result
         ≡ sum_of (between order.code lo.now (end_of hi.entry) (entries_of records.entry.count records.entry.slot.now)) }
 {
-    let slot = records.slot;
     let mut count: u64 = 0;
     let mut length: u64 = 0;
-    let mut at: usize = 0;
-    for _i in 0..records.count {
-        let r = Record { slot, at };
-        let next = r.next();
+    for (_, r) in records.walk() {
         if between_at(r, order, lo, hi) {
             count += 1;
-            length += (next - at) as u64;
+            length += (r.next() - r.at) as u64;
         }
-        at = next;
     }
     Sum { count, length }
 }
@@ -164,118 +148,166 @@ fn write_between(
         ≡ splice out.old from (records_of (between order.code lo.now (end_of hi.entry)
         (entries_of records.entry.count records.entry.slot.now))) }
 {
-    let slot = records.slot;
     let mut end = from;
-    let mut at: usize = 0;
-    for _i in 0..records.count {
-        let r = Record { slot, at };
-        let next = r.next();
+    for (_, r) in records.walk() {
         if between_at(r, order, lo, hi) {
-            bytes::copy_to(&slot[at..next], out, end);
-            end += next - at;
+            let next = r.next();
+            bytes::copy_to(&r.slot[r.at..next], out, end);
+            end += next - r.at;
         }
-        at = next;
     }
     end
 }
 
-impl Tree {
+impl<'h, 'b> View<'h, 'b> {
     // Whether range looks into child i of slot n: its index key below hi, and the next, if any, above lo.
-    fn range_enters(
-        self,
-        heads: &[u64],
-        bytes: &[u8],
-        size: usize,
-        slots: usize,
-        n: usize,
-        i: u64,
-        lo: &[u8],
-        hi: Option<&[u8]>,
-    ) -> bool
-        requires { Ready size slots self.used heads.now bytes.now }
+    fn range_enters(self, n: usize, i: u64, lo: &[u8], hi: Option<&[u8]>) -> bool
         ensures { result
-            ≡ range_enters self.order lo.now (end_of hi.entry)
-            (node_at (state_of size self heads.now bytes.now) n).entries i }
+            ≡ range_enters self.entry.tree.order lo.now (end_of hi.entry)
+            (node_at (seen self.entry) n).entries i }
     {
-        let order = Order { code: self.order };
-        let key = self.key_at(heads, bytes, size, slots, n, i);
+        let order = Order {
+            code: self.tree.order,
+        };
+        let key = self.key_at(n, i);
         if !ends_above(order, hi, key) {
             return false;
         }
-        let count = self.count_at(heads, bytes, size, slots, n);
+        let count = self.count_at(n);
         if count <= i {
             return true;
         }
         if count <= i + 1 {
             return true;
         }
-        order.less(lo, self.key_at(heads, bytes, size, slots, n, i + 1))
+        order.less(lo, self.key_at(n, i + 1))
     }
 
     // The first child of slot n from one on that range looks into. Past the last, that one itself.
-    fn next_entered(
-        self,
-        heads: &[u64],
-        bytes: &[u8],
-        size: usize,
-        slots: usize,
-        n: usize,
-        from: u64,
-        lo: &[u8],
-        hi: Option<&[u8]>,
-    ) -> u64
-        requires { Ready size slots self.used heads.now bytes.now }
+    fn next_entered(self, n: usize, from: u64, lo: &[u8], hi: Option<&[u8]>) -> u64
         ensures { result
-            ≡ next_entered self.order lo.now (end_of hi.entry)
-            (node_at (state_of size self heads.now bytes.now) n).entries
-            (length (node_at (state_of size self heads.now bytes.now) n).entries - from) from }
+            ≡ next_entered self.entry.tree.order lo.now (end_of hi.entry)
+            (node_at (seen self.entry) n).entries
+            (length (node_at (seen self.entry) n).entries - from) from }
     {
-        if self.used <= n {
+        let records = self.records(n);
+        if records.count < from {
             return from;
         }
-        let h = bank::live_at(heads, n);
-        if h.count < from {
-            return from;
-        }
-        let order = Order { code: self.order };
-        let records = Records {
-            slot: bank::slot_of(bytes, size, n),
-            count: h.count,
+        let order = Order {
+            code: self.tree.order,
         };
         next_in(records, from, order, lo, hi)
     }
 
     // Of the entries of slot n, those between.
-    fn count_at_between(
+    fn count_at_between(self, n: usize, lo: &[u8], hi: Option<&[u8]>) -> Sum
+        ensures { result
+            ≡ sum_of (between self.entry.tree.order lo.now (end_of hi.entry)
+            (node_at (seen self.entry) n).entries) }
+    {
+        let order = Order {
+            code: self.tree.order,
+        };
+        count_between(self.records(n), order, lo, hi)
+    }
+
+    // The records of the range d levels below slot n, all of its nodes loaded, written out from a place on. The answer is where they end.
+    #[cycle(child_out_range_out)]
+    pub fn range_out(
         self,
-        heads: &[u64],
-        bytes: &[u8],
-        size: usize,
-        slots: usize,
+        n: usize,
+        d: u64,
+        lo: &[u8],
+        hi: Option<&[u8]>,
+        out: &mut [u8],
+        from: usize,
+    ) -> usize
+        requires n_in_bounds { from + length (records_of (range_held d (seen self) lo.now
+            (end_of hi) n)) ≤ length out.old }
+        ensures end { result
+            ≡ from + length (records_of (range_held d (seen self.entry)
+            lo.now (end_of hi.entry) n)) }
+        ensures output { out.new
+            ≡ splice out.old from (records_of (range_held d (seen self.entry) lo.now (end_of hi.entry) n)) }
+    {
+        if d == 0 {
+            return self.write_at_between(n, lo, hi, out, from);
+        }
+        let kids = self.count_at(n);
+        let mut end = from;
+        let mut i = self.next_entered(n, 0, lo, hi);
+        // From each child that range looks into, i goes to the next such child, not to the next number.
+        while i < kids {
+            end = self.child_out(n, i, d - 1, lo, hi, out, end);
+            i = self.next_entered(n, i + 1, lo, hi);
+        }
+        end
+    }
+
+    // The same of child i of slot n, if range looks into it.
+    #[cycle(child_out_range_out)]
+    fn child_out(
+        self,
+        n: usize,
+        i: u64,
+        d: u64,
+        lo: &[u8],
+        hi: Option<&[u8]>,
+        out: &mut [u8],
+        from: usize,
+    ) -> usize
+        requires i_in_bounds { from + length (records_of (held_child (range_held d (seen self) lo.now
+            (end_of hi)) (seen self) lo.now (end_of hi) n i))
+            ≤ length out.old }
+        ensures end { result
+            ≡ from + length (records_of (held_child (range_held d (seen self.entry)
+            lo.now (end_of hi.entry)) (seen self.entry)
+            lo.now (end_of hi.entry) n i)) }
+        ensures output { out.new
+            ≡ splice out.old from (records_of (held_child (range_held d (seen self.entry) lo.now (end_of hi.entry)) (seen self.entry) lo.now
+            (end_of hi.entry) n i)) }
+    {
+        let enters = self.range_enters(n, i, lo, hi);
+        if !enters {
+            return from;
+        }
+        let held = self.child_at(n, i);
+        let Some(child) = held else {
+            return from;
+        };
+        match child {
+            Child::Mem(c) => self.range_out(c as usize, d, lo, hi, out, from),
+            Child::Disk(_) => from,
+        }
+    }
+
+    // Of the entries of slot n, those between, written out from a place on. The answer is where they end.
+    fn write_at_between(
+        self,
         n: usize,
         lo: &[u8],
         hi: Option<&[u8]>,
-    ) -> Sum
-        requires { Ready size slots self.used heads.now bytes.now }
-        ensures { result
-            ≡ sum_of (between self.order lo.now (end_of hi.entry)
-            (node_at (state_of size self heads.now bytes.now) n).entries) }
+        out: &mut [u8],
+        from: usize,
+    ) -> usize
+        requires n_in_bounds { from + length (records_of (between self.tree.order lo.now (end_of hi)
+            (node_at (seen self) n).entries)) ≤ length out.old }
+        ensures end { result
+            ≡ from + length (records_of (between self.entry.tree.order lo.now (end_of hi.entry)
+            (node_at (seen self.entry) n).entries)) }
+        ensures output { out.new
+            ≡ splice out.old from (records_of (between self.entry.tree.order lo.now (end_of hi.entry)
+            (node_at (seen self.entry) n).entries)) }
     {
-        if self.used <= n {
-            return Sum {
-                count: 0,
-                length: 0,
-            };
-        }
-        let h = bank::live_at(heads, n);
-        let order = Order { code: self.order };
-        let records = Records {
-            slot: bank::slot_of(bytes, size, n),
-            count: h.count,
+        let order = Order {
+            code: self.tree.order,
         };
-        count_between(records, order, lo, hi)
+        write_between(self.records(n), order, lo, hi, out, from)
     }
+}
 
+impl Tree {
     // The range d levels below slot n: nodes loaded, entries counted.
     #[cycle(range_child_range_from)]
     pub fn range_from(
@@ -284,7 +316,7 @@ impl Tree {
         heads: &mut [u64],
         bytes: &mut [u8],
         lent: Lent,
-        b: Bounds,
+        b: Bounds<Bound>,
         n: usize,
         d: u64,
         lo: &[u8],
@@ -300,25 +332,25 @@ impl Tree {
         ensures follows { Follows lent.size lent.slots self.used heads.old bytes.old heads.new bytes.new }
     {
         if d == 0 {
-            let s = self.count_at_between(heads, bytes, lent.size, lent.slots, n, lo, hi);
+            let s = view!(self, heads, bytes, lent).count_at_between(n, lo, hi);
             return Ok(Ranged {
                 tree: self,
                 count: s.count,
                 length: s.length,
             });
         }
-        let kids = self.count_at(heads, bytes, lent.size, lent.slots, n);
+        let kids = view!(self, heads, bytes, lent).count_at(n);
         let mut t = self;
         let mut count: u64 = 0;
         let mut length: u64 = 0;
-        let mut i = t.next_entered(heads, bytes, lent.size, lent.slots, n, 0, lo, hi);
+        let mut i = view!(t, heads, bytes, lent).next_entered(n, 0, lo, hi);
         // From each child that range looks into, i goes to the next such child, not to the next number.
         while i < kids {
             let got = t.range_child(image, heads, bytes, lent, b, n, i, d - 1, lo, hi)?;
             t = got.tree;
             count = add(count, got.count);
             length = add(length, got.length);
-            i = t.next_entered(heads, bytes, lent.size, lent.slots, n, i + 1, lo, hi);
+            i = view!(t, heads, bytes, lent).next_entered(n, i + 1, lo, hi);
         }
         Ok(Ranged {
             tree: t,
@@ -335,7 +367,7 @@ impl Tree {
         heads: &mut [u64],
         bytes: &mut [u8],
         lent: Lent,
-        b: Bounds,
+        b: Bounds<Bound>,
         n: usize,
         i: u64,
         d: u64,
@@ -352,7 +384,7 @@ impl Tree {
         ensures ready { ReadyRanged lent.size lent.slots heads.new bytes.new result }
         ensures follows { Follows lent.size lent.slots self.used heads.old bytes.old heads.new bytes.new }
     {
-        let enters = self.range_enters(heads, bytes, lent.size, lent.slots, n, i, lo, hi);
+        let enters = view!(self, heads, bytes, lent).range_enters(n, i, lo, hi);
         if !enters {
             return Ok(Ranged {
                 tree: self,
@@ -360,128 +392,9 @@ impl Tree {
                 length: 0,
             });
         }
-        let inner = self.child_bounds(heads, bytes, lent.size, lent.slots, b, n, i);
+        let inner = view!(self, heads, bytes, lent).child_bounds(b, n, i);
         let (t, c) = self.load_child(image, heads, bytes, lent, b, n, i)?;
         t.range_from(image, heads, bytes, lent, inner, c, d, lo, hi)
-    }
-
-    // The records of the range d levels below slot n, all of its nodes loaded, written out from a place on. The answer is where they end.
-    #[cycle(child_out_range_out)]
-    pub fn range_out(
-        self,
-        heads: &[u64],
-        bytes: &[u8],
-        size: usize,
-        slots: usize,
-        n: usize,
-        d: u64,
-        lo: &[u8],
-        hi: Option<&[u8]>,
-        out: &mut [u8],
-        from: usize,
-    ) -> usize
-        requires ready { Ready size slots self.used heads.now bytes.now }
-        requires n_in_bounds { from + length (records_of (range_held d (state_of size self heads.now bytes.now) lo.now
-            (end_of hi) n)) ≤ length out.old }
-        ensures end { result
-            ≡ from + length (records_of (range_held d (state_of size self heads.now bytes.now)
-            lo.now (end_of hi.entry) n)) }
-        ensures output { out.new
-            ≡ splice out.old from (records_of (range_held d (state_of size self heads.now
-            bytes.now) lo.now (end_of hi.entry) n)) }
-    {
-        if d == 0 {
-            return self.write_at_between(heads, bytes, size, slots, n, lo, hi, out, from);
-        }
-        let kids = self.count_at(heads, bytes, size, slots, n);
-        let mut end = from;
-        let mut i = self.next_entered(heads, bytes, size, slots, n, 0, lo, hi);
-        // From each child that range looks into, i goes to the next such child, not to the next number.
-        while i < kids {
-            end = self.child_out(heads, bytes, size, slots, n, i, d - 1, lo, hi, out, end);
-            i = self.next_entered(heads, bytes, size, slots, n, i + 1, lo, hi);
-        }
-        end
-    }
-
-    // The same of child i of slot n, if range looks into it.
-    #[cycle(child_out_range_out)]
-    fn child_out(
-        self,
-        heads: &[u64],
-        bytes: &[u8],
-        size: usize,
-        slots: usize,
-        n: usize,
-        i: u64,
-        d: u64,
-        lo: &[u8],
-        hi: Option<&[u8]>,
-        out: &mut [u8],
-        from: usize,
-    ) -> usize
-        requires ready { Ready size slots self.used heads.now bytes.now }
-        requires i_in_bounds { from + length (records_of (held_child (range_held d (state_of size self heads.now bytes.now) lo.now
-            (end_of hi)) (state_of size self heads.now bytes.now) lo.now (end_of hi) n i))
-            ≤ length out.old }
-        ensures end { result
-            ≡ from + length (records_of (held_child (range_held d (state_of size self heads.now bytes.now)
-            lo.now (end_of hi.entry)) (state_of size self heads.now bytes.now)
-            lo.now (end_of hi.entry) n i)) }
-        ensures output { out.new
-            ≡ splice out.old from (records_of (held_child (range_held d (state_of size self heads.now
-            bytes.now) lo.now (end_of hi.entry)) (state_of size self heads.now bytes.now) lo.now (end_of hi.entry) n i)) }
-    {
-        let enters = self.range_enters(heads, bytes, size, slots, n, i, lo, hi);
-        if !enters {
-            return from;
-        }
-        let held = self.child_at(heads, bytes, size, slots, n, i);
-        let Some(child) = held else {
-            return from;
-        };
-        match child {
-            Child::Mem(c) => self.range_out(
-                heads, bytes, size, slots, c as usize, d, lo, hi, out, from,
-            ),
-            Child::Disk(_) => from,
-        }
-    }
-
-    // Of the entries of slot n, those between, written out from a place on. The answer is where they end.
-    fn write_at_between(
-        self,
-        heads: &[u64],
-        bytes: &[u8],
-        size: usize,
-        slots: usize,
-        n: usize,
-        lo: &[u8],
-        hi: Option<&[u8]>,
-        out: &mut [u8],
-        from: usize,
-    ) -> usize
-        requires ready { Ready size slots self.used heads.now bytes.now }
-        requires n_in_bounds { from + length (records_of (between self.order lo.now (end_of hi)
-            (node_at (state_of size self heads.now bytes.now) n).entries)) ≤ length out.old }
-        ensures end { result
-            ≡ from + length (records_of (between self.order lo.now (end_of hi.entry)
-            (node_at (state_of size self heads.now bytes.now) n).entries)) }
-        ensures output { out.new
-            ≡ splice out.old from (records_of (between self.order lo.now (end_of hi.entry)
-            (node_at (state_of size self heads.now bytes.now) n).entries)) }
-    {
-        if self.used <= n {
-            return from;
-        }
-        let h = bank::live_at(heads, n);
-        let order = Order { code: self.order };
-        let part = bank::slot_of(bytes, size, n);
-        let records = Records {
-            slot: part,
-            count: h.count,
-        };
-        write_between(records, order, lo, hi, out, from)
     }
 
     // Of range, what follows 12: the loads, 20, the records. Refused, it may leave slots changed.
@@ -508,7 +421,7 @@ impl Tree {
         ensures follows { Follows lent.size lent.slots self.used heads.old bytes.old heads.new bytes.new }
     {
         let root = self.root;
-        let level = self.level_at(heads, bytes, lent.size, lent.slots, root);
+        let level = view!(self, heads, bytes, lent).level_at(root);
         let found = self.range_from(
             image,
             heads,
@@ -521,21 +434,8 @@ impl Tree {
             Some(hi),
         )?;
         let t = found.tree;
-        if (out.len() as u64) < found.length {
-            return Err(Refusal::Output);
-        }
-        t.range_out(
-            heads,
-            bytes,
-            lent.size,
-            lent.slots,
-            t.root,
-            level,
-            lo,
-            Some(hi),
-            out,
-            0,
-        );
+        check(Refusal::Output, found.length <= out.len() as u64)?;
+        view!(t, heads, bytes, lent).range_out(t.root, level, lo, Some(hi), out, 0);
         Ok(found)
     }
 
@@ -561,18 +461,14 @@ impl Tree {
             heads.new bytes.new result }
     {
         let order = Order { code: self.order };
-        if !order.keyed(lo.len()) {
-            return Err(Refusal::Argument);
-        }
-        if !order.keyed(hi.len()) {
-            return Err(Refusal::Argument);
-        }
-        undo::clear_marks(heads, lent.slots, self.used);
-        let got = self.range_way(image, heads, bytes, lent, lo, hi, out);
-        if got.is_err() {
-            undo::restore(heads, bytes, lent.size, lent.slots, self.used);
-        }
-        got
+        check(Refusal::Argument, order.keyed(lo.len()))?;
+        check(Refusal::Argument, order.keyed(hi.len()))?;
+        self.undone(
+            heads,
+            bytes,
+            lent,
+            &mut |heads, bytes| self.range_way(image, heads, bytes, lent, lo, hi, out),
+        )
     }
 
     // The entries from one key up to another, without it; their records are copied to the output's start.
@@ -595,9 +491,10 @@ impl Tree {
         ensures left { ranged_leaves lent.size lent.slots self heads.old bytes.old
             heads.new bytes.new result }
     {
-        if !lent::lent_holds(self, image, heads, bytes, lent) {
-            return Err(Refusal::Lent);
-        }
+        check(
+            Refusal::Lent,
+            lent::lent_holds(self, image, heads, bytes, lent),
+        )?;
         self.range_in(image, heads, bytes, lent, lo, hi, out)
     }
 }

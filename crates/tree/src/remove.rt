@@ -1,5 +1,5 @@
 // Remove: the entry of a key taken out, emptied nodes dropped, the root's place handed down.
-ghost use Rattle.std.specs.Prelude.{◌≡◌, true, ◌-◌, ◌*◌, ◌≤◌, ◌<◌, length, get_or};
+ghost use Rattle.std.specs.Prelude.{◌≡◌, true, ◌-◌, ◌*◌, ◌≤◌, ◌<◌, length};
 ghost use Rattle.node.specs.Fit.{Sized, fits};
 ghost use Rattle.node.specs.Records.{records_length};
 ghost use Rattle.node.specs.Slot.{head_at, node_of};
@@ -12,19 +12,23 @@ ghost use Rattle.tree.specs.Answers.{edited_of, removed_of, removed_leaves};
 ghost use Rattle.tree.specs.Trusts.{live, Lies, Ready, Trusts, RemovedCalled};
 ghost use Rattle.tree.specs.internal.Bank.{Put};
 ghost use Rattle.tree.specs.internal.Undo.{Follows};
-ghost use Rattle.tree.specs.internal.Way.{steps_of, WayIn};
+ghost use Rattle.tree.specs.internal.Way.{steps_in, nth_step, WayIn};
 ghost use Rattle.tree.specs.internal.Index.{Rewritten};
 ghost use Rattle.tree.specs.internal.Edits.{ReadyEdited, ReadyRemoved};
 ghost use Rattle.tree.specs.internal.Removing.{dead_put, child_dropped, DropFits, DropRoom, Emptied, taken_on, shrunk_at, removed_at, OnWay, SameUsed, Handed};
+ghost use Rattle.tree.specs.internal.View.{seen};
 
 use crate::editor::{Tree, UNBOUNDED};
 use crate::lent::Lent;
+use crate::view::{View, view};
+use crate::way::Step;
 use crate::{bank, lent, undo, writers};
 use node::head::Head;
 use node::info::BTreeInfo;
 use node::order::Order;
-use node::refusal::Refusal;
-use node::slot::Records;
+use node::refusal::{Refusal, check};
+use node::room::Shape;
+use node::slot::{Found, Records};
 
 // A tree's numbers with other counts.
 pub fn recounted(info: BTreeInfo, keys: u64, nodes: u64) -> BTreeInfo
@@ -37,32 +41,54 @@ pub fn recounted(info: BTreeInfo, keys: u64, nodes: u64) -> BTreeInfo
     }
 }
 
+impl<'h, 'b> View<'h, 'b> {
+    // Whether the node of a slot fits as root.
+    fn fits_as_root(self, n: usize) -> bool
+        requires { (n < self.tree.used) × (Sized self.tree.info) }
+        ensures { result
+            ≡ fits self.entry.tree.info true (node_at (seen self.entry) n).level
+            (node_at (seen self.entry) n).entries }
+    {
+        let h = bank::live_at(self.heads, n);
+        let records = Records {
+            slot: bank::slot_of(self.bytes, self.lent.size, n),
+            count: h.count,
+        };
+        let shape = Shape {
+            info: self.tree.info,
+            root: true,
+            level: h.level,
+        };
+        records.fits(h.used, shape)
+    }
+
+    // An index root with one child.
+    #[tactic(auto, using(crate::specs::laws::remove::Reads::only_none, crate::specs::laws::remove::Reads::only_count))]
+    pub fn has_only_child(self) -> bool
+        ensures { result ≡ has_only_child (seen self.entry) }
+    {
+        self.level_at(self.tree.root) != 0 && self.count_at(self.tree.root) == 1
+    }
+}
+
 impl Tree {
     // The words of slot n replaced, its records left as they are.
-    fn put_words(
-        self,
-        heads: &mut [u64],
-        bytes: &mut [u8],
-        size: usize,
-        slots: usize,
-        n: usize,
-        d: Head,
-    )
-        requires ready { Ready size slots self.used heads.old bytes.old }
-        requires place { (n < self.used) × (Lies size (live d) (slot_bytes size bytes.old n)) }
-        ensures put { Put size slots heads.old bytes.old heads.new bytes.new n
-            (node_of d (slot_bytes size bytes.old n)) }
-        ensures follows { Follows size slots self.used heads.old bytes.old heads.new bytes.new }
+    fn put_words(self, heads: &mut [u64], bytes: &mut [u8], lent: Lent, n: usize, d: Head)
+        requires ready { Ready lent.size lent.slots self.used heads.old bytes.old }
+        requires place { (n < self.used) × (Lies lent.size (live d) (slot_bytes lent.size bytes.old n)) }
+        ensures put { Put lent.size lent.slots heads.old bytes.old heads.new bytes.new n
+            (node_of d (slot_bytes lent.size bytes.old n)) }
+        ensures follows { Follows lent.size lent.slots self.used heads.old bytes.old heads.new bytes.new }
     {
-        undo::save(heads, bytes, size, slots, self.used, n);
+        undo::save(heads, bytes, lent, self.used, n);
         d.store(heads, n);
     }
 
     // Slot n is dead, and has no entries.
-    fn mark_dead(self, heads: &mut [u64], bytes: &mut [u8], size: usize, slots: usize, n: usize)
-        requires { (Ready size slots self.used heads.old bytes.old) × (n < self.used) }
-        ensures { Rewritten size slots self heads.old bytes.old heads.new bytes.new
-            (dead_put (state_of size self heads.old bytes.old) n) }
+    fn mark_dead(self, heads: &mut [u64], bytes: &mut [u8], lent: Lent, n: usize)
+        requires { (Ready lent.size lent.slots self.used heads.old bytes.old) × (n < self.used) }
+        ensures { Rewritten lent.size lent.slots self heads.old bytes.old heads.new bytes.new
+            (dead_put (state_of lent.size self heads.old bytes.old) n) }
     {
         let h = Head::load(heads, n);
         let d = Head {
@@ -71,110 +97,84 @@ impl Tree {
             dead: 1,
             ..h
         };
-        self.put_words(heads, bytes, size, slots, n, d);
+        self.put_words(heads, bytes, lent, n, d);
     }
 
     // On a way, bottom up: emptied nodes are dropped, never the root. The answer is how many.
-    fn drop_emptied(
-        self,
-        heads: &mut [u64],
-        bytes: &mut [u8],
-        size: usize,
-        slots: usize,
-        way: &[usize],
-        kids: &[u64],
-        steps: usize,
-    ) -> u64
-        requires ready { (Ready size slots self.used heads.old bytes.old) × (WayIn self.used way.now steps) }
-        requires steps { (1 ≤ steps) × (steps ≤ length kids.now) }
-        requires room { DropRoom (state_of size self heads.old bytes.old) way.now kids.now steps }
-        ensures { Emptied size slots self heads.old bytes.old heads.new bytes.new
-            (drop_emptied (steps_of way.now kids.now steps) (state_of size self heads.old bytes.old)) result }
+    fn drop_emptied(self, heads: &mut [u64], bytes: &mut [u8], lent: Lent, way: &[Step]) -> u64
+        requires ready { (Ready lent.size lent.slots self.used heads.old bytes.old) × (WayIn self.used way.now) }
+        requires steps { 1 ≤ length way.now }
+        requires room { DropRoom (state_of lent.size self heads.old bytes.old) way.now }
+        ensures { Emptied lent.size lent.slots self heads.old bytes.old heads.new bytes.new
+            (drop_emptied (steps_in way.now) (state_of lent.size self heads.old bytes.old)) result }
     {
         let mut dropped: u64 = 0;
-        for j in (1..steps).rev() {
-            let n = way[j - 1];
-            let i = kids[j - 1];
-            let c = way[j];
-            dropped += self.drop_if_empty(heads, bytes, size, slots, n, i, c);
+        for j in (1..way.len()).rev() {
+            let above = way[j - 1];
+            let c = way[j].slot;
+            dropped += self.drop_if_empty(heads, bytes, lent, above.slot, above.child, c);
         }
         dropped
     }
 
     // Slot c, if it is empty, is dead, and slot n loses child i. The answer is how many nodes were dropped.
+    #[tactic(auto, using(crate::specs::laws::remove::Drops::none_dropped, crate::specs::laws::remove::Drops::one_dropped))]
     fn drop_if_empty(
         self,
         heads: &mut [u64],
         bytes: &mut [u8],
-        size: usize,
-        slots: usize,
+        lent: Lent,
         n: usize,
         i: u64,
         c: usize,
     ) -> u64
-        requires ready { Ready size slots self.used heads.old bytes.old }
-        requires place { (n < self.used) × (c < self.used) × (DropFits (state_of size self heads.old bytes.old) n i c) }
-        ensures dropped { Emptied size slots self heads.old bytes.old heads.new bytes.new
+        requires ready { Ready lent.size lent.slots self.used heads.old bytes.old }
+        requires place { (n < self.used) × (c < self.used) × (DropFits (state_of lent.size self heads.old bytes.old) n i c) }
+        ensures dropped { Emptied lent.size lent.slots self heads.old bytes.old heads.new bytes.new
             (drop_node (record { slot = n; child = i }) c
-            (record { state = state_of size self heads.old bytes.old; nodes = 0 })) result }
+            (record { state = state_of lent.size self heads.old bytes.old; nodes = 0 })) result }
         ensures few { result ≤ 1 }
     {
-        let count = self.count_at(heads, bytes, size, slots, c);
+        let count = view!(self, heads, bytes, lent).count_at(c);
         if count != 0 {
             return 0;
         }
-        self.drop_node(heads, bytes, size, slots, n, i, c);
+        self.drop_node(heads, bytes, lent, n, i, c);
         1
     }
 
     // Slot c is dead, and slot n loses child i.
-    fn drop_node(
-        self,
-        heads: &mut [u64],
-        bytes: &mut [u8],
-        size: usize,
-        slots: usize,
-        n: usize,
-        i: u64,
-        c: usize,
-    )
-        requires ready { Ready size slots self.used heads.old bytes.old }
-        requires place { (n < self.used) × (c < self.used) × (DropFits (state_of size self heads.old bytes.old) n i c) }
-        ensures { Rewritten size slots self heads.old bytes.old heads.new bytes.new
-            (child_dropped (state_of size self heads.old bytes.old) n i c) }
+    fn drop_node(self, heads: &mut [u64], bytes: &mut [u8], lent: Lent, n: usize, i: u64, c: usize)
+        requires ready { Ready lent.size lent.slots self.used heads.old bytes.old }
+        requires place { (n < self.used) × (c < self.used) × (DropFits (state_of lent.size self heads.old bytes.old) n i c) }
+        ensures { Rewritten lent.size lent.slots self heads.old bytes.old heads.new bytes.new
+            (child_dropped (state_of lent.size self heads.old bytes.old) n i c) }
     {
-        self.mark_dead(heads, bytes, size, slots, c);
-        let at = writers::offset_at(heads, bytes, size, slots, self.used, n, i);
-        writers::remove_at(heads, bytes, size, slots, self.used, n, i, at, true);
+        self.mark_dead(heads, bytes, lent, c);
+        let at = view!(self, heads, bytes, lent).offset_at(n, i);
+        writers::remove_at(heads, bytes, lent, self.used, n, i, at, true);
     }
 
     // An emptied root is a leaf.
-    fn level_root(self, heads: &mut [u64], bytes: &mut [u8], size: usize, slots: usize)
-        requires { (Ready size slots self.used heads.old bytes.old) × (self.root < self.used) }
-        ensures { Rewritten size slots self heads.old bytes.old heads.new bytes.new
-            (leveled_root (state_of size self heads.old bytes.old)) }
+    fn level_root(self, heads: &mut [u64], bytes: &mut [u8], lent: Lent)
+        requires { (Ready lent.size lent.slots self.used heads.old bytes.old) × (self.root < self.used) }
+        ensures { Rewritten lent.size lent.slots self heads.old bytes.old heads.new bytes.new
+            (leveled_root (state_of lent.size self heads.old bytes.old)) }
     {
-        let count = self.count_at(heads, bytes, size, slots, self.root);
+        let count = view!(self, heads, bytes, lent).count_at(self.root);
         if count != 0 {
             return;
         }
         let h = Head::load(heads, self.root);
         let d = Head { level: 0, ..h };
-        self.put_words(heads, bytes, size, slots, self.root, d);
+        self.put_words(heads, bytes, lent, self.root, d);
     }
 
     // Slot c takes the root's place: ids exchanged, blocks not; it is dirty, the old root dead.
-    fn handed_down(
-        mut self,
-        heads: &mut [u64],
-        bytes: &mut [u8],
-        size: usize,
-        slots: usize,
-        c: usize,
-    ) -> Tree
-        requires ready { Ready size slots self.used heads.old bytes.old }
+    fn handed_down(mut self, heads: &mut [u64], bytes: &mut [u8], lent: Lent, c: usize) -> Tree
+        requires ready { Ready lent.size lent.slots self.used heads.old bytes.old }
         requires place { (self.root < self.used) × (c < self.used) × (c ≡ self.root → ⊥) × (0 < self.info.node_count) }
-        ensures { Handed size slots self heads.old bytes.old heads.new bytes.new c result }
+        ensures { Handed lent.size lent.slots self heads.old bytes.old heads.new bytes.new c result }
     {
         let r = self.root;
         let old = Head::load(heads, r);
@@ -187,46 +187,17 @@ impl Tree {
             dead: 1,
             ..old
         };
-        self.put_words(heads, bytes, size, slots, r, dead);
+        self.put_words(heads, bytes, lent, r, dead);
         let top = Head {
             named: old.named,
             id: old.id,
             dirty: 1,
             ..new
         };
-        self.put_words(heads, bytes, size, slots, c, top);
-        let info = self.info;
-        self.info = recounted(info, info.key_count, info.node_count - 1);
+        self.put_words(heads, bytes, lent, c, top);
+        self.info.node_count -= 1;
         self.root = c;
         self
-    }
-
-    // Whether the node of a slot fits as root.
-    fn fits_as_root(self, heads: &[u64], bytes: &[u8], size: usize, slots: usize, n: usize) -> bool
-        requires { (Ready size slots self.used heads.now bytes.now) × (n < self.used) × (Sized self.info) }
-        ensures { result
-            ≡ fits self.info true (node_at (state_of size self heads.now bytes.now) n).level
-            (node_at (state_of size self heads.now bytes.now) n).entries }
-    {
-        let h = bank::live_at(heads, n);
-        let records = Records {
-            slot: bank::slot_of(bytes, size, n),
-            count: h.count,
-        };
-        records.fits(h.used, self.info, true, h.level)
-    }
-
-    // An index root with one child.
-    pub fn has_only_child(self, heads: &[u64], bytes: &[u8], size: usize, slots: usize) -> bool
-        requires { Ready size slots self.used heads.now bytes.now }
-        ensures { result ≡ has_only_child (state_of size self heads.now bytes.now) }
-    {
-        let level = self.level_at(heads, bytes, size, slots, self.root);
-        if level == 0 {
-            return false;
-        }
-        let count = self.count_at(heads, bytes, size, slots, self.root);
-        count == 1
     }
 
     // While an index root has one child: its load, and the root's place goes down to it, at most n times.
@@ -247,19 +218,17 @@ impl Tree {
     {
         let mut t = self;
         for _i in 0..n {
-            let only = t.has_only_child(heads, bytes, lent.size, lent.slots);
-            if !only {
+            if !view!(t, heads, bytes, lent).has_only_child() {
                 return Ok(t);
             }
             let (u, c) = t.load_child(image, heads, bytes, lent, UNBOUNDED, t.root, 0)?;
-            let fits = u.fits_as_root(heads, bytes, lent.size, lent.slots, c);
-            if !fits {
+            if !view!(u, heads, bytes, lent).fits_as_root(c) {
                 return Ok(u);
             }
             if u.info.node_count == 0 {
                 return Err(Refusal::Count);
             }
-            t = u.handed_down(heads, bytes, lent.size, lent.slots, c);
+            t = u.handed_down(heads, bytes, lent, c);
         }
         Ok(t)
     }
@@ -270,41 +239,32 @@ impl Tree {
         heads: &mut [u64],
         bytes: &mut [u8],
         lent: Lent,
-        way: &[usize],
-        kids: &[u64],
-        steps: usize,
-        i: u64,
-        at: usize,
+        way: &[Step],
+        f: Found,
     ) -> Result<Tree, Refusal>
-        requires ready { (Ready lent.size lent.slots self.used heads.old bytes.old) × (WayIn self.used way.now steps) }
-        requires steps { (1 ≤ steps) × (steps ≤ length kids.now) × (self.root < self.used) }
-        requires leaf { (i < (live (head_at heads.old (get_or way.now (steps - 1) 0))).count)
-            × (at ≡ records_length i (slot_bytes lent.size bytes.old (get_or way.now (steps - 1) 0))) }
-        requires room { DropRoom (taken_on i (steps_of way.now kids.now steps) (state_of lent.size self heads.old bytes.old))
-            way.now kids.now steps }
+        requires ready { (Ready lent.size lent.slots self.used heads.old bytes.old) × (WayIn self.used way.now) }
+        requires steps { (1 ≤ length way.now) × (self.root < self.used) }
+        requires leaf { (f.index < (live (head_at heads.old (nth_step way.now (length way.now - 1)).slot)).count)
+            × (f.at ≡ records_length f.index (slot_bytes lent.size bytes.old (nth_step way.now (length way.now - 1)).slot)) }
+        requires room { DropRoom (taken_on f.index (steps_in way.now) (state_of lent.size self heads.old bytes.old))
+            way.now }
         ensures answer { edited_of lent.size heads.new bytes.new result
-            ≡ shrunk_at i (record {
+            ≡ shrunk_at f.index (record {
               state = state_of lent.size self heads.old bytes.old;
-              steps = steps_of way.now kids.now steps;
+              steps = steps_in way.now;
             }) }
         ensures ready { (ReadyEdited lent.size lent.slots heads.new bytes.new result) × (SameUsed self.used result) }
         ensures follows { Follows lent.size lent.slots self.used heads.old bytes.old heads.new bytes.new }
     {
-        self.touch(heads, bytes, lent.size, lent.slots, way, steps);
-        let n = way[steps - 1];
-        writers::remove_at(
-            heads, bytes, lent.size, lent.slots, self.used, n, i, at, false,
-        );
-        let dropped = self.drop_emptied(heads, bytes, lent.size, lent.slots, way, kids, steps);
+        self.touch(heads, bytes, lent, way);
+        let n = way[way.len() - 1].slot;
+        writers::remove_at(heads, bytes, lent, self.used, n, f.index, f.at, false);
+        let dropped = self.drop_emptied(heads, bytes, lent, way);
         let info = self.info;
-        if info.key_count == 0 {
-            return Err(Refusal::Count);
-        }
-        if info.node_count < dropped {
-            return Err(Refusal::Count);
-        }
+        check(Refusal::Count, 0 < info.key_count)?;
+        check(Refusal::Count, dropped <= info.node_count)?;
         self.info = recounted(info, info.key_count - 1, info.node_count - dropped);
-        self.level_root(heads, bytes, lent.size, lent.slots);
+        self.level_root(heads, bytes, lent);
         Ok(self)
     }
 
@@ -315,34 +275,28 @@ impl Tree {
         heads: &mut [u64],
         bytes: &mut [u8],
         lent: Lent,
-        way: &[usize],
-        kids: &[u64],
-        steps: usize,
-        i: u64,
-        at: usize,
+        way: &[Step],
+        f: Found,
         scratch: &mut [u8],
     ) -> Result<Tree, Refusal>
-        requires ready { (Ready lent.size lent.slots self.used heads.old bytes.old) × (1 ≤ steps)
-            × (steps ≤ length way.now) × (steps ≤ length kids.now) }
+        requires ready { (Ready lent.size lent.slots self.used heads.old bytes.old) × (1 ≤ length way.now) }
         requires way { OnWay (lent_of image.now lent) (state_of lent.size self heads.old bytes.old)
-            (steps_of way.now kids.now steps) i }
-        requires leaf { (i < (live (head_at heads.old (get_or way.now (steps - 1) 0))).count)
-            × (at ≡ records_length i (slot_bytes lent.size bytes.old (get_or way.now (steps - 1) 0))) }
+            (steps_in way.now) f.index }
+        requires leaf { (f.index < (live (head_at heads.old (nth_step way.now (length way.now - 1)).slot)).count)
+            × (f.at ≡ records_length f.index (slot_bytes lent.size bytes.old (nth_step way.now (length way.now - 1)).slot)) }
         requires room { 2 * lent.size ≤ length scratch.old }
         ensures answer { edited_of lent.size heads.new bytes.new result
-            ≡ removed_at (lent_of image.now lent) i (record {
+            ≡ removed_at (lent_of image.now lent) f.index (record {
               state = state_of lent.size self heads.old bytes.old;
-              steps = steps_of way.now kids.now steps;
+              steps = steps_in way.now;
             }) }
         ensures ready { ReadyEdited lent.size lent.slots heads.new bytes.new result }
         ensures follows { Follows lent.size lent.slots self.used heads.old bytes.old heads.new bytes.new }
     {
-        let t = self.shrink(heads, bytes, lent, way, kids, steps, i, at)?;
-        t.index_keys(
-            heads, bytes, lent.size, lent.slots, way, kids, steps, scratch,
-        );
-        let u = t.cuts(heads, bytes, lent, way, kids, steps, scratch)?;
-        let level = u.level_at(heads, bytes, lent.size, lent.slots, u.root);
+        let t = self.shrink(heads, bytes, lent, way, f)?;
+        t.index_keys(heads, bytes, lent, way, scratch);
+        let u = t.cuts(heads, bytes, lent, way, scratch)?;
+        let level = view!(u, heads, bytes, lent).level_at(u.root);
         u.hand_down(image, heads, bytes, lent, level)
     }
 
@@ -364,17 +318,15 @@ impl Tree {
         ensures ready { ReadyRemoved lent.size lent.slots heads.new bytes.new result }
         ensures follows { Follows lent.size lent.slots self.used heads.old bytes.old heads.new bytes.new }
     {
-        let level = self.level_at(heads, bytes, lent.size, lent.slots, self.root);
+        let level = view!(self, heads, bytes, lent).level_at(self.root);
         let w = self.way(image, heads, bytes, lent, level, key)?;
         let t = w.tree;
-        let n = w.slots[w.steps - 1];
-        let f = t.found_at(heads, bytes, lent.size, lent.slots, n, key);
+        let n = w.steps[w.count - 1].slot;
+        let f = view!(t, heads, bytes, lent).found_at(n, key);
         if !f.found {
             return Ok((t, false));
         }
-        let u = t.remove_on(
-            image, heads, bytes, lent, &w.slots, &w.kids, w.steps, f.index, f.at, scratch,
-        )?;
+        let u = t.remove_on(image, heads, bytes, lent, &w.steps[..w.count], f, scratch)?;
         Ok((u, true))
     }
 
@@ -397,15 +349,13 @@ impl Tree {
             heads.new bytes.new result }
     {
         let order = Order { code: self.order };
-        if !order.keyed(key.len()) {
-            return Err(Refusal::Argument);
-        }
-        undo::clear_marks(heads, lent.slots, self.used);
-        let done = self.removed(image, heads, bytes, lent, key, scratch);
-        if done.is_err() {
-            undo::restore(heads, bytes, lent.size, lent.slots, self.used);
-        }
-        done
+        check(Refusal::Argument, order.keyed(key.len()))?;
+        self.undone(
+            heads,
+            bytes,
+            lent,
+            &mut |heads, bytes| self.removed(image, heads, bytes, lent, key, scratch),
+        )
     }
 
     // remove on slots that are trusted: 12; the edit. Refused, every slot is as it was.
@@ -448,9 +398,8 @@ impl Tree {
         ensures left { removed_leaves lent.size lent.slots self heads.old bytes.old
             heads.new bytes.new result }
     {
-        if !lent::edit_holds(self, image, heads, bytes, scratch, lent) {
-            return Err(Refusal::Lent);
-        }
+        let holds = lent::edit_holds(self, image, heads, bytes, scratch, lent);
+        check(Refusal::Lent, holds)?;
         // All slots were looked at, so that a short way would save nothing.
         self.remove_down(image, heads, bytes, lent, key, scratch)
     }

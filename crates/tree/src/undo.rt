@@ -3,13 +3,16 @@ ghost use Rattle.std.specs.Prelude.{◌≡◌, ◌+◌, ◌*◌, ◌≤◌, ◌<
 ghost use Rattle.node.specs.Bytes.{splice};
 ghost use Rattle.node.specs.Slot.{head_at};
 ghost use Rattle.tree.specs.Workspace.{slot_bytes};
-ghost use Rattle.tree.specs.Trusts.{live, Lies, Ready};
+ghost use Rattle.tree.specs.Trusts.{live, Lies, Ready, Stays};
 ghost use Rattle.tree.specs.internal.Bank.{node_in, Wrote};
-ghost use Rattle.tree.specs.internal.Undo.{Saved, Shadowed, Back, BackAt};
+ghost use Rattle.tree.specs.internal.Undo.{Follows, Saved, Shadowed, Back, BackAt, Undone};
 
 use crate::bank;
+use crate::editor::Tree;
+use crate::lent::Lent;
 use node::bytes;
 use node::head::Head;
+use node::refusal::Refusal;
 
 // Words before the marks: a slot's and its shadow's.
 const MARKS_AT: usize = 18;
@@ -24,7 +27,7 @@ fn clear_words(s: &mut [u64], a: usize, n: usize)
 }
 
 // No slot in use is saved.
-pub fn clear_marks(heads: &mut [u64], slots: usize, used: usize)
+fn clear_marks(heads: &mut [u64], slots: usize, used: usize)
     requires { (used ≤ slots) × (slots ≤ 4096) × (length heads.old ≡ slots * 19) }
     ensures { heads.new ≡ splice heads.old (slots * 18) (replicate used 0) }
 {
@@ -49,38 +52,64 @@ fn copy_slot(heads: &mut [u64], bytes: &mut [u8], size: usize, from: usize, to: 
 }
 
 // Slot n may be changed after this.
-pub fn save(heads: &mut [u64], bytes: &mut [u8], size: usize, slots: usize, used: usize, n: usize)
-    requires ready { Ready size slots used heads.old bytes.old }
+pub fn save(heads: &mut [u64], bytes: &mut [u8], lent: Lent, used: usize, n: usize)
+    requires ready { Ready lent.size lent.slots used heads.old bytes.old }
     requires n_lt_used { n < used }
-    ensures { Saved size slots used heads.old bytes.old heads.new bytes.new n }
+    ensures { Saved lent.size lent.slots used heads.old bytes.old heads.new bytes.new n }
 {
-    let at = slots * MARKS_AT + n;
+    let at = lent.slots * MARKS_AT + n;
     if heads[at] != 0 {
         return;
     }
-    copy_slot(heads, bytes, size, n, slots + n);
+    copy_slot(heads, bytes, lent.size, n, lent.slots + n);
     heads[at] = 1;
 }
 
 // Slot n is what it was when the call started.
-fn bring_back(heads: &mut [u64], bytes: &mut [u8], size: usize, slots: usize, used: usize, n: usize)
-    requires shadowed { Shadowed size slots used heads.old bytes.old }
+fn bring_back(heads: &mut [u64], bytes: &mut [u8], lent: Lent, used: usize, n: usize)
+    requires shadowed { Shadowed lent.size lent.slots used heads.old bytes.old }
     requires n_lt_used { n < used }
-    ensures { BackAt size slots used heads.old bytes.old heads.new bytes.new n }
+    ensures { BackAt lent.size lent.slots used heads.old bytes.old heads.new bytes.new n }
 {
-    let at = slots * MARKS_AT + n;
+    let at = lent.slots * MARKS_AT + n;
     if heads[at] != 0 {
-        copy_slot(heads, bytes, size, slots + n, n);
+        copy_slot(heads, bytes, lent.size, lent.slots + n, n);
         return;
     }
 }
 
 // Every slot in use when the call started is what it was then.
-pub fn restore(heads: &mut [u64], bytes: &mut [u8], size: usize, slots: usize, used: usize)
-    requires { Shadowed size slots used heads.old bytes.old }
-    ensures { Back size slots used used heads.old bytes.old heads.new bytes.new }
+fn restore(heads: &mut [u64], bytes: &mut [u8], lent: Lent, used: usize)
+    requires { Shadowed lent.size lent.slots used heads.old bytes.old }
+    ensures { Back lent.size lent.slots used used heads.old bytes.old heads.new bytes.new }
 {
     for n in 0..used {
-        bring_back(heads, bytes, size, slots, used, n);
+        bring_back(heads, bytes, lent, used, n);
+    }
+}
+
+impl Tree {
+    // A call on slots of which none is saved yet. Refused, the tree is as it was.
+    pub fn undone<T, F: FnMut(&mut [u64], &mut [u8]) -> Result<T, Refusal>>(
+        self,
+        heads: &mut [u64],
+        bytes: &mut [u8],
+        lent: Lent,
+        call: &mut F,
+    ) -> Result<T, Refusal>
+        requires ready { Ready lent.size lent.slots self.used heads.old bytes.old }
+        requires callable { (h b : _) → Stays lent self heads.old bytes.old h.now b.now → F.pre call.old h b }
+        requires follows { (h b r h' b' f : _) → Stays lent self heads.old bytes.old h.now b.now
+            → F.step call.old h b r h' b' f → Follows lent.size lent.slots self.used h.now b.now h'.now b'.now }
+        ensures { (h b h' b' : _) × Stays lent self heads.old bytes.old h.now b.now
+            × F.step call.old h b result h' b' call.new
+            × Undone lent self heads.old bytes.old h'.now b'.now heads.new bytes.new result }
+    {
+        clear_marks(heads, lent.slots, self.used);
+        let got = call(heads, bytes);
+        if got.is_err() {
+            restore(heads, bytes, lent, self.used);
+        }
+        got
     }
 }

@@ -1,9 +1,9 @@
 // Upsert: the entry of a key replaced, or inserted in its place.
-ghost use Rattle.std.specs.Prelude.{◌≡◌, List, [], true, false, cond, ◌||◌, ℕ, ◌+◌, ◌-◌, ◌*◌, ◌^◌, ◌≤◌, ◌<◌, length, get_or, ltb};
+ghost use Rattle.std.specs.Prelude.{◌≡◌, List, [], true, false, cond, ◌||◌, ℕ, ◌+◌, ◌-◌, ◌*◌, ◌^◌, ◌≤◌, ◌<◌, length, ltb};
 ghost use Rattle.node.specs.Fit.{greater};
-ghost use Rattle.node.specs.Entry.{value_bytes, value_length};
-ghost use Rattle.node.specs.Records.{mark_of, mark_length, value_of};
-ghost use Rattle.node.specs.Slot.{head_at};
+ghost use Rattle.node.specs.Entry.{value_length};
+ghost use Rattle.node.specs.Slot.{head_at, value_means};
+ghost use Rattle.node.specs.internal.Storable.{Held};
 ghost use Rattle.node.specs.declared.refusal.Refusal.TheVariants.{Single, NoCut};
 ghost use Rattle.tree.specs.Lent.{lent_of};
 ghost use Rattle.tree.specs.State.{node_at, with_counts, with_longest};
@@ -13,40 +13,31 @@ ghost use Rattle.tree.specs.Workspace.{state_of, edits};
 ghost use Rattle.tree.specs.Answers.{lent_value, edited_of, edited_leaves};
 ghost use Rattle.tree.specs.Trusts.{live, Ready, Trusts, EditedCalled};
 ghost use Rattle.tree.specs.internal.Undo.{Follows};
-ghost use Rattle.tree.specs.internal.Way.{steps_of};
+ghost use Rattle.tree.specs.internal.Way.{steps_in, nth_step};
 ghost use Rattle.tree.specs.internal.Found.{FoundAt};
 ghost use Rattle.tree.specs.internal.Edits.{ReadyEdited};
 ghost use Rattle.tree.specs.internal.Upserting.{Gone, way_gone};
 
 use crate::editor::Tree;
 use crate::lent::Lent;
-use crate::{bank, lent, undo, writers};
+use crate::view::{View, view};
+use crate::way::Step;
+use crate::{bank, lent, writers};
 use node::info::BTreeInfo;
 use node::order::Order;
-use node::refusal::Refusal;
+use node::refusal::{Refusal, check};
 use node::slot::Found;
-use node::{record, stands};
+use node::stands;
+use node::val::Val;
 
-// The greatest key count that a root stores.
-const MOST_KEYS: u64 = 0xFFFFFFFFFFFFFFFF;
-
-// The mark of what is put.
-fn value_mark(value: Option<&[u8]>) -> u64
-    ensures { result ≡ mark_of (lent_value value.entry) }
+// What is put: a ghost where there are no bytes.
+#[tactic(auto, using(crate::specs::laws::upsert::PutInLeaf::lent))]
+fn val_of(value: Option<&[u8]>) -> Val<'_>
+    ensures { value_means result ≡ lent_value value.entry }
 {
     match value {
-        Some(bytes) => bytes.len() as u64,
-        None => record::GHOST,
-    }
-}
-
-// The bytes of what is put: a ghost has none.
-fn value_bytes(value: Option<&[u8]>) -> &[u8]
-    ensures { result.now ≡ value_bytes (lent_value value.entry) }
-{
-    match value {
-        Some(bytes) => bytes,
-        None => &[],
+        Some(bytes) => Val::Leaf(bytes),
+        None => Val::Ghost,
     }
 }
 
@@ -82,7 +73,7 @@ fn grown_old(info: BTreeInfo, value: usize) -> BTreeInfo
 fn count_holds(found: bool, keys: u64) -> bool
     ensures { result ≡ (found || ltb keys (2 ^ 64 - 1)) }
 {
-    found || keys != MOST_KEYS
+    found || keys != u64::MAX
 }
 
 // Whether an entry is too large for any node: more than its data space beside the record's head.
@@ -127,39 +118,34 @@ impl Tree {
         mut self,
         heads: &mut [u64],
         bytes: &mut [u8],
-        size: usize,
-        slots: usize,
+        lent: Lent,
         n: usize,
         f: Found,
         key: &[u8],
-        mark: u64,
-        value: &[u8],
+        value: Val<'_>,
     ) -> Tree
-        requires ready { Ready size slots self.used heads.old bytes.old }
-        requires place { (n < self.used) × ((node_at (state_of size self heads.old bytes.old) n).dead ≡ false)
-            × (FoundAt size (state_of size self heads.old bytes.old) heads.old bytes.old n key.now f)
+        requires ready { Ready lent.size lent.slots self.used heads.old bytes.old }
+        requires place { (n < self.used) × ((node_at (state_of lent.size self heads.old bytes.old) n).dead ≡ false)
+            × (FoundAt lent.size (state_of lent.size self heads.old bytes.old) heads.old bytes.old n key.now f)
             × (f.found ≡ false → self.info.key_count < 2 ^ 64 - 1) }
-        requires room { ((live (head_at heads.old n)).used + (4 + length key.now + length value.now) ≤ 4 * size)
-            × (length key.now < 2 ^ 16) }
-        requires stored { (mark < 2 ^ 16) × (mark_length mark ≡ length value.now) }
-        ensures after { state_of size result heads.new bytes.new
-            ≡ put_in_leaf (state_of size self heads.old bytes.old) n key.now
-            (value_of mark value.now) }
-        ensures ready { (Ready size slots result.used heads.new bytes.new) × (result.used ≡ self.used) }
-        ensures follows { Follows size slots self.used heads.old bytes.old heads.new bytes.new }
+        requires room { (live (head_at heads.old n)).used + (4 + length key.now + value_length (value_means value)) ≤ 4 * lent.size }
+        requires stored { (length key.now < 2 ^ 16) × Held (value_means value) }
+        ensures after { state_of lent.size result heads.new bytes.new
+            ≡ put_in_leaf (state_of lent.size self heads.old bytes.old) n key.now (value_means value.entry) }
+        ensures ready { (Ready lent.size lent.slots result.used heads.new bytes.new) × (result.used ≡ self.used) }
+        ensures follows { Follows lent.size lent.slots self.used heads.old bytes.old heads.new bytes.new }
     {
-        let info = self.info;
         if f.found {
             writers::revalue_at(
-                heads, bytes, size, slots, self.used, n, f.index, f.at, mark, value, false,
+                heads, bytes, lent, self.used, n, f.index, f.at, value, false,
             );
-            self.info = grown_old(info, value.len());
+            self.info = grown_old(self.info, value.len());
             return self;
         }
         writers::insert_at(
-            heads, bytes, size, slots, self.used, n, f.index, f.at, key, mark, value, false,
+            heads, bytes, lent, self.used, n, f.index, f.at, key, value, false,
         );
-        self.info = grown_new(info, key.len(), value.len());
+        self.info = grown_new(self.info, key.len(), value.len());
         self
     }
 
@@ -169,37 +155,32 @@ impl Tree {
         heads: &mut [u64],
         bytes: &mut [u8],
         lent: Lent,
-        way: &[usize],
-        kids: &[u64],
-        steps: usize,
+        way: &[Step],
         n: usize,
         f: Found,
         key: &[u8],
-        value: Option<&[u8]>,
+        value: Val<'_>,
         scratch: &mut [u8],
     ) -> Result<Tree, Refusal>
-        requires gone { (Gone lent self heads.old bytes.old way.now kids.now steps key.now (lent_value value))
-            × (n ≡ get_or way.now (steps - 1) 0) }
+        requires gone { (Gone lent self heads.old bytes.old way.now key.now (value_means value))
+            × (n ≡ (nth_step way.now (length way.now - 1)).slot) }
         requires found { (FoundAt lent.size (state_of lent.size self heads.old bytes.old) heads.old bytes.old n key.now f)
             × (f.found ≡ false → self.info.key_count < 2 ^ 64 - 1) }
-        requires room { (4 + length key.now + value_length (lent_value value) + 56 ≤ lent.size) × (2 * lent.size ≤ length scratch.old) }
+        requires room { (4 + length key.now + value_length (value_means value) + 56 ≤ lent.size) × (2 * lent.size ≤ length scratch.old) }
+        requires stored { Held (value_means value) }
         ensures answer { edited_of lent.size heads.new bytes.new result
-            ≡ cuts (lent_of [] lent) [] (steps_of way.now kids.now steps)
-            (index_keys (steps_of way.now kids.now steps)
-            (put_in_leaf (touch (steps_of way.now kids.now steps)
+            ≡ cuts (lent_of [] lent) [] (steps_in way.now)
+            (index_keys (steps_in way.now)
+            (put_in_leaf (touch (steps_in way.now)
             (state_of lent.size self heads.old bytes.old)) n key.now
-            (lent_value value.entry))) }
+            (value_means value.entry))) }
         ensures ready { ReadyEdited lent.size lent.slots heads.new bytes.new result }
         ensures follows { Follows lent.size lent.slots self.used heads.old bytes.old heads.new bytes.new }
     {
-        self.touch(heads, bytes, lent.size, lent.slots, way, steps);
-        let mark = value_mark(value);
-        let part = value_bytes(value);
-        let t = self.put_in_leaf(heads, bytes, lent.size, lent.slots, n, f, key, mark, part);
-        t.index_keys(
-            heads, bytes, lent.size, lent.slots, way, kids, steps, scratch,
-        );
-        t.cuts(heads, bytes, lent, way, kids, steps, scratch)
+        self.touch(heads, bytes, lent, way);
+        let t = self.put_in_leaf(heads, bytes, lent, n, f, key, value);
+        t.index_keys(heads, bytes, lent, way, scratch);
+        t.cuts(heads, bytes, lent, way, scratch)
     }
 
     // The edit on a way that is loaded: 17; then cuts. What is too large for any node is refused before it is stored: the cut of its
@@ -209,34 +190,28 @@ impl Tree {
         heads: &mut [u64],
         bytes: &mut [u8],
         lent: Lent,
-        way: &[usize],
-        kids: &[u64],
-        steps: usize,
+        way: &[Step],
         key: &[u8],
         value: Option<&[u8]>,
         scratch: &mut [u8],
     ) -> Result<Tree, Refusal>
-        requires gone { Gone lent self heads.old bytes.old way.now kids.now steps key.now (lent_value value) }
+        requires gone { Gone lent self heads.old bytes.old way.now key.now (lent_value value) }
         requires room { 2 * lent.size ≤ length scratch.old }
         ensures answer { edited_of lent.size heads.new bytes.new result
             ≡ upsert_on (lent_of [] lent) key.now (lent_value value.entry)
-            (way_gone lent.size self heads.old bytes.old way.now kids.now steps) }
+            (way_gone lent.size self heads.old bytes.old way.now) }
         ensures ready { ReadyEdited lent.size lent.slots heads.new bytes.new result }
         ensures follows { Follows lent.size lent.slots self.used heads.old bytes.old heads.new bytes.new }
     {
-        let n = way[steps - 1];
-        let f = self.found_at(heads, bytes, lent.size, lent.slots, n, key);
-        let info = self.info;
-        if !count_holds(f.found, info.key_count) {
-            return Err(Refusal::Count);
-        }
-        if too_large(lent.size, key.len(), value_bytes(value).len()) {
+        let n = way[way.len() - 1].slot;
+        let f = view!(self, heads, bytes, lent).found_at(n, key);
+        check(Refusal::Count, count_holds(f.found, self.info.key_count))?;
+        let put = val_of(value);
+        if too_large(lent.size, key.len(), put.len()) {
             let h = bank::live_at(heads, n);
             return Err(large_refusal(h.count, f.found));
         }
-        self.put_on(
-            heads, bytes, lent, way, kids, steps, n, f, key, value, scratch,
-        )
+        self.put_on(heads, bytes, lent, way, n, f, key, put, scratch)
     }
 
     // Load; 17; cuts. Refused, it may leave slots changed.
@@ -259,39 +234,9 @@ impl Tree {
         ensures ready { ReadyEdited lent.size lent.slots heads.new bytes.new result }
         ensures follows { Follows lent.size lent.slots self.used heads.old bytes.old heads.new bytes.new }
     {
-        let level = self.level_at(heads, bytes, lent.size, lent.slots, self.root);
+        let level = view!(self, heads, bytes, lent).level_at(self.root);
         let w = self.way(image, heads, bytes, lent, level, key)?;
-        w.tree.upsert_on(
-            heads, bytes, lent, &w.slots, &w.kids, w.steps, key, value, scratch,
-        )
-    }
-
-    // The edit, brought back where it is refused.
-    fn upsert_undone(
-        self,
-        image: &[u8],
-        heads: &mut [u64],
-        bytes: &mut [u8],
-        lent: Lent,
-        key: &[u8],
-        value: Option<&[u8]>,
-        scratch: &mut [u8],
-    ) -> Result<Tree, Refusal>
-        requires trusts { Trusts image.now lent self heads.old bytes.old }
-        requires entry { (entry_fits (state_of lent.size self heads.old bytes.old) key.now (lent_value value) ≡ true)
-            × (2 * lent.size ≤ length scratch.old) }
-        ensures answer { edited_of lent.size heads.new bytes.new result
-            ≡ upserted (lent_of image.now lent) (state_of lent.size self heads.old bytes.old)
-            key.now (lent_value value.entry) }
-        ensures left { EditedCalled image.now lent self heads.old bytes.old
-            heads.new bytes.new result }
-    {
-        undo::clear_marks(heads, lent.slots, self.used);
-        let done = self.upserted(image, heads, bytes, lent, key, value, scratch);
-        if done.is_err() {
-            undo::restore(heads, bytes, lent.size, lent.slots, self.used);
-        }
-        done
+        w.tree.upsert_on(heads, bytes, lent, &w.steps[..w.count], key, value, scratch)
     }
 
     // upsert on slots that are trusted: 12; the edit. Refused, every slot is as it was.
@@ -313,10 +258,13 @@ impl Tree {
         ensures left { EditedCalled image.now lent self heads.old bytes.old
             heads.new bytes.new result }
     {
-        if !self.entry_fits(key, value) {
-            return Err(Refusal::Argument);
-        }
-        self.upsert_undone(image, heads, bytes, lent, key, value, scratch)
+        check(Refusal::Argument, self.entry_fits(key, value))?;
+        self.undone(
+            heads,
+            bytes,
+            lent,
+            &mut |heads, bytes| self.upserted(image, heads, bytes, lent, key, value, scratch),
+        )
     }
 
     // The entry of a key put: bytes, or a ghost where there are none.
@@ -336,9 +284,8 @@ impl Tree {
         ensures left { edited_leaves lent.size lent.slots self heads.old bytes.old
             heads.new bytes.new result }
     {
-        if !lent::edit_holds(self, image, heads, bytes, scratch, lent) {
-            return Err(Refusal::Lent);
-        }
+        let holds = lent::edit_holds(self, image, heads, bytes, scratch, lent);
+        check(Refusal::Lent, holds)?;
         self.upsert_in(image, heads, bytes, lent, key, value, scratch)
     }
 }

@@ -9,53 +9,62 @@ ghost use Rattle.tree.specs.Trusts.{Ready};
 ghost use Rattle.tree.specs.Workspace.{state_of};
 ghost use Rattle.tree.specs.internal.Undo.{Follows};
 ghost use Rattle.tree.specs.internal.Way.{way_of, WayReady};
+ghost use Rattle.tree.specs.internal.View.{seen};
 
 use crate::bank;
 use crate::editor::{Tree, UNBOUNDED};
 use crate::lent::Lent;
+use crate::view::{View, view};
 use node::order::Order;
 use node::refusal::Refusal;
 use node::slot::Records;
 
+// The highest level of a node.
+pub const MOST_LEVEL: u64 = 32;
+
 // The most nodes on a way: levels 32 to 0, and one more.
 pub const STEPS: usize = 34;
 
-// A way: the tree, what was loaded on it, and so many steps, each a slot and the entry that the key goes on by.
+// A step of a way: a slot, and the entry of it that the key goes on by.
+#[derive(Clone, Copy)]
+pub struct Step {
+    pub slot: usize,
+    pub child: u64,
+}
+
+// A step that is not taken yet.
+pub const NO_STEP: Step = Step { slot: 0, child: 0 };
+
+// A way: the tree, what was loaded on it, and so many steps.
 #[derive(Clone, Copy)]
 pub struct Way {
     pub tree: Tree,
-    pub steps: usize,
-    pub slots: [usize; STEPS],
-    pub kids: [u64; STEPS],
+    pub count: usize,
+    pub steps: [Step; STEPS],
 }
 
-impl Tree {
-    pub fn way_index(
-        self,
-        heads: &[u64],
-        bytes: &[u8],
-        size: usize,
-        slots: usize,
-        n: usize,
-        key: &[u8],
-    ) -> u64
-        requires { Ready size slots self.used heads.now bytes.now }
+impl<'h, 'b> View<'h, 'b> {
+    pub fn way_index(self, n: usize, key: &[u8]) -> u64
         ensures { result
-            ≡ way_index self.order key.now (node_at (state_of size self heads.now bytes.now) n).entries }
+            ≡ way_index self.entry.tree.order key.now (node_at (seen self.entry) n).entries }
     {
-        if self.used <= n {
+        if self.tree.used <= n {
             return 0;
         }
-        let h = bank::live_at(heads, n);
-        let order = Order { code: self.order };
+        let h = bank::live_at(self.heads, n);
+        let order = Order {
+            code: self.tree.order,
+        };
         let records = Records {
-            slot: bank::slot_of(bytes, size, n),
+            slot: bank::slot_of(self.bytes, self.lent.size, n),
             count: h.count,
         };
         let last = records.not_above(order, key);
         last.count.saturating_sub(1)
     }
+}
 
+impl Tree {
     // The way, whatever of it is loaded: children are loaded as they are met.
     fn way_down(
         self,
@@ -76,26 +85,22 @@ impl Tree {
         let mut b = UNBOUNDED;
         let mut t = self;
         let mut n = self.root;
-        let mut way = [0usize; STEPS];
-        let mut kids = [0u64; STEPS];
+        let mut steps = [NO_STEP; STEPS];
         let last = level as usize;
         for k in 0..last {
-            let i = t.way_index(heads, bytes, lent.size, lent.slots, n, key);
-            let inner = t.child_bounds(heads, bytes, lent.size, lent.slots, b, n, i);
-            way[k] = n;
-            kids[k] = i;
+            let i = view!(t, heads, bytes, lent).way_index(n, key);
+            let inner = view!(t, heads, bytes, lent).child_bounds(b, n, i);
+            steps[k] = Step { slot: n, child: i };
             let (u, c) = t.load_child(image, heads, bytes, lent, b, n, i)?;
             t = u;
             n = c;
             b = inner;
         }
-        way[last] = n;
-        kids[last] = 0;
+        steps[last] = Step { slot: n, child: 0 };
         Ok(Way {
             tree: t,
-            steps: last + 1,
-            slots: way,
-            kids,
+            count: last + 1,
+            steps,
         })
     }
 
@@ -116,7 +121,7 @@ impl Tree {
         ensures ready { WayReady lent.size lent.slots heads.new bytes.new result }
         ensures follows { Follows lent.size lent.slots self.used heads.old bytes.old heads.new bytes.new }
     {
-        match self.way_loaded(heads, bytes, lent.size, lent.slots, level, key) {
+        match view!(self, heads, bytes, lent).way_loaded(level, key) {
             Some(way) => Ok(way),
             None => self.way_down(image, heads, bytes, lent, level, key),
         }

@@ -1,35 +1,21 @@
--- A slot's node on its way to a block: its words, as they are and as they are left, and the block.
-use Rattle.std.specs.Prelude.{List, map, ℕ, eqb}
+-- A slot's node on its way to a block: its words as they are left, and the block.
+use Rattle.std.specs.Prelude.{List, map, ℕ, eqb, cond, Option, is_some, unwrap_or}
 use Rattle.node.specs.Pack.{pack_node, child_number, numbered}
 use Rattle.node.specs.declared.head.Head.{Head}
-use Rattle.tree.specs.internal.Bank.{node_in, live}
-use Rattle.tree.specs.declared.block.Words.{Words}
+use Rattle.tree.specs.internal.Bank.{node_in}
 use Rattle.tree.specs.declared.editor.Tree.{Tree}
 
--- a slot's words but for its level and the bytes in use
-unfoldable pub words_of : Head → Words
-words_of h =
-    record {
-      count = (live h).count;
-      placed = h.placed;
-      block = h.block;
-      named = h.named;
-      id = h.id;
-      dirty = h.dirty;
-      dead = h.dead;
-    }
-
 -- the words of a slot whose node was written: its new block, its id, clean
-unfoldable pub written_head : Head → ℕ → ℕ → ℕ → Head
-written_head h a named id =
+unfoldable pub written_head : Head → ℕ → Option ℕ → Head
+written_head h a id =
     record {
       level = h.level;
       count = h.count;
       used = h.used;
       placed = 1;
       block = a;
-      named = named;
-      id = id;
+      named = cond (is_some id) 1 0;
+      id = unwrap_or id 0;
       dirty = 0;
       dead = h.dead;
     }

@@ -19,15 +19,15 @@ use Rattle.tree.specs.internal.Index.{steps_from}
 use Rattle.tree.specs.internal.Edits.{above_of}
 use Rattle.tree.specs.declared.editor.Tree.{Tree}
 use Rattle.tree.specs.declared.lent.Lent.{Lent}
-use Rattle.tree.specs.declared.cuts.Up.{Up}
 use Rattle.node.specs.declared.refusal.Refusal.{Refusal}
 use Rattle.node.specs.declared.refusal.Refusal.TheVariants as is
+use Rattle.tree.specs.declared.way.Step as code
 
 -- the step above a node; none above the root
-abbrev pub step_of : Up → Step
+abbrev pub step_of : code.Step → Step
 step_of u = record { slot = u.slot; child = u.child }
 
-unfoldable pub up_of : Option Up → List Step
+unfoldable pub up_of : Option code.Step → List Step
 up_of u = option_to_list (option_map step_of u)
 
 -- 17 and 11: whether count and slots have room for n nodes made
@@ -101,8 +101,8 @@ pub record CutIs (size : ℕ) (t : Tree) (heads bytes : List ℕ) (n place at : 
   pub start : at ≡ records_length place (slot_bytes size bytes n)
 
 -- the cuts of a way are made from step j on
-pub record CutFrom (l : Lent) (t : Tree) (way kids : List ℕ) (steps j : ℕ) (heads bytes : List ℕ) (u : Tree) (heads' bytes' : List ℕ) : Type 0 where
-  pub state : cuts (lent_of [] l) (above_of way kids j) (steps_from way kids j (steps - j)) (state_of l.size t heads bytes)
+pub record CutFrom (l : Lent) (t : Tree) (way : List code.Step) (j : ℕ) (heads bytes : List ℕ) (u : Tree) (heads' bytes' : List ℕ) : Type 0 where
+  pub state : cuts (lent_of [] l) (above_of way j) (steps_from way j (length way - j)) (state_of l.size t heads bytes)
       ≡ ok (state_of l.size u heads' bytes')
   pub more : t.used ≤ u.used
   pub ready : Ready l.size l.slots u.used heads' bytes'

@@ -1,5 +1,5 @@
 -- Edits at work: what they leave, and the room that a cut finds.
-use Rattle.std.specs.Prelude.{◌≡◌, List, [], ◌∷◌, false, ℕ, zero, suc, ◌+◌, ◌-◌, ◌*◌, ◌≤◌, ◌<◌, length, get_or, Bool, Ok, Err}
+use Rattle.std.specs.Prelude.{◌≡◌, List, [], ◌∷◌, false, ℕ, zero, suc, ◌+◌, ◌-◌, ◌*◌, ◌≤◌, ◌<◌, length, Bool, Ok, Err}
 use Rattle.std.specs.Prelude as std
 use Rattle.node.specs.Result.{ok}
 use Rattle.node.specs.Find.{key_at}
@@ -14,6 +14,8 @@ use Rattle.tree.specs.Trusts.{Ready}
 pub use Rattle.tree.specs.Trusts.{Trusts, EditedCalled, RemovedCalled}
 use Rattle.tree.specs.internal.Index.{steps_from}
 use Rattle.tree.specs.declared.editor.Tree.{Tree}
+use Rattle.tree.specs.declared.way.Step as code
+use Rattle.tree.specs.internal.Way.{nth_step}
 
 -- an accepted edit leaves the workspace ready
 abbrev pub ReadyEdited : ℕ → ℕ → List ℕ → List ℕ → std.Result Tree Refusal → Type 0
@@ -28,12 +30,12 @@ ReadyRemoved size slots heads bytes (Ok (t, there)) = Ready size slots t.used he
 -- ---- room for cuts
 
 -- step j of a way, and the step above it, none above the root
-unfoldable pub step_at : List ℕ → List ℕ → ℕ → Step
-step_at way kids j = record { slot = get_or way j 0; child = get_or kids j 0 }
+unfoldable pub step_at : List code.Step → ℕ → Step
+step_at way j = record { slot = (nth_step way j).slot; child = (nth_step way j).child }
 
-unfoldable pub above_of : List ℕ → List ℕ → ℕ → List Step
-above_of way kids zero = []
-above_of way kids (suc j) = step_at way kids j ∷ []
+unfoldable pub above_of : List code.Step → ℕ → List Step
+above_of way zero = []
+above_of way (suc j) = step_at way j ∷ []
 
 -- the parent x of slot n holds it as a child, and has room for one entry more beside it if slot n is cut
 pub record ParentFits (size : ℕ) (s : State) (x : Step) (n : ℕ) : Type 0 where
@@ -51,6 +53,6 @@ pub record CutFits (size : ℕ) (s : State) (up : List Step) (n : ℕ) : Type 0 
   pub parent : (x : Step) → up ≡ x ∷ [] → (node_at s n).dead ≡ false → ParentFits size s x n
 
 -- the same at every cut of a way, of the state that the cuts below leave
-pub record CutsFit (l : lent.Lent) (s : State) (way kids : List ℕ) (steps : ℕ) : Type 0 where
-  pub turn : (j : ℕ) → j < steps → (u : State) → cuts l (step_at way kids j ∷ []) (steps_from way kids (suc j) (steps - suc j)) s ≡ ok u
-      → CutFits l.size u (above_of way kids j) (get_or way j 0)
+pub record CutsFit (l : lent.Lent) (s : State) (way : List code.Step) : Type 0 where
+  pub turn : (j : ℕ) → j < length way → (u : State) → cuts l (step_at way j ∷ []) (steps_from way (suc j) (length way - suc j)) s ≡ ok u
+      → CutFits l.size u (above_of way j) (nth_step way j).slot

@@ -44,6 +44,10 @@ pub record EntryReady (size slots : ℕ) (t : Tree) (heads bytes : List ℕ) (n 
   pub slot : n < t.used
   pub entry : i < (live (head_at heads n)).count
 
+-- the same of the entry that a lookup ended at
+abbrev pub AtEntry : ℕ → ℕ → Tree → List ℕ → List ℕ → Last → Type 0
+AtEntry size slots t heads bytes e = EntryReady size slots t heads bytes e.slot e.index
+
 -- an accepted lookup leaves the workspace ready, and what it found is an entry
 abbrev pub LastReady : ℕ → ℕ → List ℕ → List ℕ → std.Result (Tree × Option Last) Refusal → Type 0
 LastReady size slots heads bytes (Err x) = Unit {0}

@@ -29,16 +29,28 @@ abbrev pub LeadsTo : ℕ → State → List ℕ → ℕ → ℕ → Type 0
 LeadsTo zero s k m n = n ≡ m
 LeadsTo (suc d) s k m n = OnBy s k n (LeadsTo d s k m)
 
+-- a step from slot n that P holds of, and Q holds of the slot that it leads to
+pub record LedBy (P : ℕ → Taken → Type 0) (n : ℕ) (Q : ℕ → Type 0) : Type 0 where
+  pub taken : Taken
+  pub on : P n taken
+  pub below : Q taken.slot
+
+-- so many steps, each of which P holds of, lead from slot n to slot m
+abbrev pub LedTo : (ℕ → Taken → Type 0) → ℕ → ℕ → ℕ → Type 0
+LedTo P zero m n = n ≡ m
+LedTo P (suc d) m n = LedBy P n (LedTo P d m)
+
 -- a way that is d levels above its end: what slot n leads to, the root does
-pub record Leading (s : State) (level : ℕ) (k : List ℕ) (d n : ℕ) : Type 0 where
-  pub on : (m : ℕ) → LeadsTo d s k m n → LeadsTo level s k m s.root
+pub record Leading (P : ℕ → Taken → Type 0) (level root d n : ℕ) : Type 0 where
+  pub on : (m : ℕ) → LedTo P d m n → LedTo P level m root
 
--- a slot, if there is one, is in use, and the way from the root ends in it
-pub record LeadsIn (used level : ℕ) (s : State) (k : List ℕ) (r : Option ℕ) : Type 0 where
+-- a slot, if there is one, is in use, the way from the root ends in it, and the key is one of the tree's order
+pub record LedLeaf (P : ℕ → Taken → Type 0) (used : ℕ) (s : State) (k : List ℕ) (r : Option ℕ) : Type 0 where
   pub within : (m : ℕ) → r ≡ Some m → m < used
-  pub leads : (m : ℕ) → r ≡ Some m → LeadsTo level s k m s.root
+  pub keys : (m : ℕ) → r ≡ Some m → keyed s.order k ≡ true
+  pub leads : (m : ℕ) → r ≡ Some m → LedTo P (node_at s s.root).level m s.root
 
--- the same with the root's level, and the key is one of the tree's order
+-- the same of a way whose children are loaded
 pub record LeafIs (used : ℕ) (s : State) (k : List ℕ) (r : Option ℕ) : Type 0 where
   pub within : (m : ℕ) → r ≡ Some m → m < used
   pub keys : (m : ℕ) → r ≡ Some m → keyed s.order k ≡ true

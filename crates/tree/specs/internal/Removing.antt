@@ -1,5 +1,5 @@
 -- Remove at work: nodes dropped on a way, the leaf's entry taken out by its place, the root's place handed down.
-use Rattle.std.specs.Prelude.{◌≡◌, List, [], true, ◌&&◌, ℕ, ◌-◌, ◌*◌, ◌≤◌, ◌<◌, length, get_or, leb, ltb, Ok, Err}
+use Rattle.std.specs.Prelude.{◌≡◌, List, [], true, ◌&&◌, ℕ, ◌-◌, ◌*◌, ◌≤◌, ◌<◌, length, leb, ltb, Ok, Err}
 use Rattle.std.specs.Prelude as std
 use Rattle.node.specs.declared.refusal.Refusal.{Refusal}
 use Rattle.node.specs.Result.{Result, ok, ◌>>=◌, ◌>>◌, check}
@@ -20,6 +20,8 @@ use Rattle.tree.specs.internal.Room.{Roomy}
 use Rattle.tree.specs.internal.Index.{Rewritten, steps_from}
 use Rattle.tree.specs.declared.editor.Tree.{Tree}
 use Rattle.tree.specs.declared.lent.Lent.{Lent}
+use Rattle.tree.specs.declared.way.Step as code
+use Rattle.tree.specs.internal.Way.{nth_step}
 
 -- ---- nodes dropped
 
@@ -36,9 +38,10 @@ pub record DropFits (s : State) (n i c : ℕ) : Type 0 where
   pub child : i < length (node_at s n).entries
 
 -- the same at every step of a way, of the state that the drops below leave
-pub record DropRoom (s : State) (way kids : List ℕ) (steps : ℕ) : Type 0 where
-  pub turn : (j : ℕ) → 0 < j → j < steps
-      → DropFits (drop_emptied (steps_from way kids j (steps - j)) s).state (get_or way (j - 1) 0) (get_or kids (j - 1) 0) (get_or way j 0)
+pub record DropRoom (s : State) (way : List code.Step) : Type 0 where
+  pub turn : (j : ℕ) → 0 < j → j < length way
+      → DropFits (drop_emptied (steps_from way j (length way - j)) s).state (nth_step way (j - 1)).slot (nth_step way (j - 1)).child
+      (nth_step way j).slot
 
 -- the slots are what drops leave, and so many nodes were dropped
 pub record Emptied (size slots : ℕ) (t : Tree) (heads bytes heads' bytes' : List ℕ) (d : Dropped) (dropped : ℕ) : Type 0 where

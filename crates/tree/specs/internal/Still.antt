@@ -38,16 +38,7 @@ abbrev pub StillTo : ℕ → State → List ℕ → ℕ → ℕ → Type 0
 StillTo zero s k m n = n ≡ m
 StillTo (suc d) s k m n = StillBy s k n (StillTo d s k m)
 
--- a way that is d levels above its end: what slot n leads to, the root does
-pub record Stilling (s : State) (level : ℕ) (k : List ℕ) (d n : ℕ) : Type 0 where
-  pub on : (m : ℕ) → StillTo d s k m n → StillTo level s k m s.root
-
--- a slot, if there is one, is in use, and the way from the root ends in it
-pub record StillIn (used level : ℕ) (s : State) (k : List ℕ) (r : Option ℕ) : Type 0 where
-  pub within : (m : ℕ) → r ≡ Some m → m < used
-  pub leads : (m : ℕ) → r ≡ Some m → StillTo level s k m s.root
-
--- the same with the root's level, and the key is one of the tree's order
+-- a slot, if there is one, is in use, the way from the root ends in it, and the key is one of the tree's order
 pub record StillLeaf (used : ℕ) (s : State) (k : List ℕ) (r : Option ℕ) : Type 0 where
   pub within : (m : ℕ) → r ≡ Some m → m < used
   pub keys : (m : ℕ) → r ≡ Some m → keyed s.order k ≡ true

@@ -1,6 +1,7 @@
 -- What the values of the code mean, of a bank.
 use Rattle.std.specs.Prelude.{List, [], ◌∷◌, ℕ, ◌<◌, Option, Some, None, Ok, Err, IfSome}
 use Rattle.std.specs.Prelude as std
+use Rattle.std.specs.Borrow.{Bor}
 use Rattle.node.specs.Result.{Result, ok, refused, ◌>>=◌}
 use Rattle.node.specs.Entry.{Val, ghost, leaf, disk, mem}
 use Rattle.node.specs.Find.{key_at}
@@ -29,14 +30,22 @@ unfoldable pub bound_of : State → Option Bound → List (List ℕ)
 bound_of s None = []
 bound_of s (Some b) = key_at (node_at s b.slot).entries b.index ∷ []
 
-unfoldable pub bounds_of : State → Bounds → load.Bounds
+unfoldable pub bounds_of : State → Bounds Bound → load.Bounds
 bounds_of s b = record { lower = bound_of s b.lower; upper = bound_of s b.upper }
+
+-- the same of bounds whose keys are lent
+unfoldable pub edge_of : Option (Bor (List ℕ)) → List (List ℕ)
+edge_of None = []
+edge_of (Some k) = k.now ∷ []
+
+unfoldable pub edges_of : Bounds (Bor (List ℕ)) → load.Bounds
+edges_of b = record { lower = edge_of b.lower; upper = edge_of b.upper }
 
 -- a bound, if it is one, is of a slot in use
 abbrev pub BoundIn : ℕ → Option Bound → Type 0
 BoundIn used b = IfSome b (λ x. x.slot < used)
 
-pub record BoundsIn (used : ℕ) (b : Bounds) : Type 0 where
+pub record BoundsIn (used : ℕ) (b : Bounds Bound) : Type 0 where
   pub lower : BoundIn used b.lower
   pub upper : BoundIn used b.upper
 

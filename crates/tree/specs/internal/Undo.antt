@@ -1,8 +1,12 @@
 -- Undo: what a call can go back to. A slot that is to be changed is saved first, once a call, in its shadow, and marked.
-use Rattle.std.specs.Prelude.{◌≡◌, List, cond, ℕ, ◌+◌, ◌*◌, ◌≤◌, ◌<◌, length, get_or, eqb}
+use Rattle.std.specs.Prelude.{◌≡◌, List, cond, ℕ, ◌+◌, ◌*◌, ◌≤◌, ◌<◌, length, get_or, eqb, Result, Ok, Err}
+use Rattle.node.specs.declared.refusal.Refusal.{Refusal}
 use Rattle.node.specs.Slot.{MemNode, head_at}
 use Rattle.tree.specs.Workspace.{slot_bytes}
+use Rattle.tree.specs.Trusts.{Stays}
 use Rattle.tree.specs.internal.Bank.{node_in, live, Lies}
+use Rattle.tree.specs.declared.editor.Tree.{Tree}
+use Rattle.tree.specs.declared.lent.Lent.{Lent}
 
 -- the mark of slot n: 0 where it was not saved
 unfoldable pub saved_at : ℕ → List ℕ → ℕ → ℕ
@@ -53,3 +57,8 @@ pub record BackAt (size slots used : ℕ) (heads bytes heads' bytes' : List ℕ)
   pub lies : Lies size (live (head_at heads' n)) (slot_bytes size bytes' n)
   pub words : (k : ℕ) → k < slots → (k ≡ n → ⊥) → head_at heads' k ≡ head_at heads k
   pub parts : (k : ℕ) → k < slots → (k ≡ n → ⊥) → slot_bytes size bytes' k ≡ slot_bytes size bytes k
+
+-- an accepted call leaves the words and bytes h and b, a refused one the tree as it was
+abbrev pub Undone : {T : Type 0} → Lent → Tree → List ℕ → List ℕ → List ℕ → List ℕ → List ℕ → List ℕ → Result T Refusal → Type 0
+Undone l t heads bytes h b heads' bytes' (Ok x) = (heads' ≡ h) × (bytes' ≡ b)
+Undone l t heads bytes h b heads' bytes' (Err x) = Stays l t heads bytes heads' bytes'

@@ -1,5 +1,5 @@
 -- An upsert at work: the way that it has gone.
-use Rattle.std.specs.Prelude.{◌≡◌, List, true, ℕ, ◌*◌, ◌≤◌, length}
+use Rattle.std.specs.Prelude.{◌≡◌, List, true, ℕ, ◌*◌}
 use Rattle.node.specs.Result.{ok}
 use Rattle.node.specs.Entry.{Val}
 use Rattle.tree.specs.Lent.{lent_of}
@@ -10,22 +10,21 @@ use Rattle.tree.specs.Trust.{trusted}
 use Rattle.tree.specs.Workspace.{state_of}
 use Rattle.tree.specs.internal.Bank.{Ready}
 use Rattle.tree.specs.internal.Room.{Roomy}
-use Rattle.tree.specs.internal.Way.{steps_of}
+use Rattle.tree.specs.internal.Way.{steps_in}
 use Rattle.tree.specs.declared.editor.Tree.{Tree}
 use Rattle.tree.specs.declared.lent.Lent.{Lent}
+use Rattle.tree.specs.declared.way.Step as code
 
 -- the slots in use and the steps taken, as a way
-abbrev pub way_gone : ℕ → Tree → List ℕ → List ℕ → List ℕ → List ℕ → ℕ → lookup.Way
-way_gone size t heads bytes way kids steps = record { state = state_of size t heads bytes; steps = steps_of way kids steps }
+abbrev pub way_gone : ℕ → Tree → List ℕ → List ℕ → List code.Step → lookup.Way
+way_gone size t heads bytes way = record { state = state_of size t heads bytes; steps = steps_in way }
 
 -- the steps are the way to a key that was gone from slots to be trusted, into which the entry fits
-pub record Gone (l : Lent) (t : Tree) (heads bytes way kids : List ℕ) (steps : ℕ) (key : List ℕ) (v : Val) : Type 0 where
+pub record Gone (l : Lent) (t : Tree) (heads bytes : List ℕ) (way : List code.Step) (key : List ℕ) (v : Val) : Type 0 where
   pub image : List ℕ
   pub from : State
   pub trust : trusted (lent_of image l) from ≡ true
   pub roomy : Roomy (2 * l.size) from
   pub fits : entry_fits from key v ≡ true
-  pub went : lookup.way (lent_of image l) from key ≡ ok (way_gone l.size t heads bytes way kids steps)
+  pub went : lookup.way (lent_of image l) from key ≡ ok (way_gone l.size t heads bytes way)
   pub ready : Ready l.size l.slots t.used heads bytes
-  pub long : steps ≤ length way
-  pub wide : steps ≤ length kids

@@ -8,5 +8,6 @@ pub mod Tree
 pub mod Writers
 pub mod Kids
 pub mod Block
+pub mod Records
 pub mod FoundAt
 pub mod Touch

@@ -7,5 +7,5 @@ use Rattle.tree.proofs.hold.hold_slots.Given as goal
 
 abbrev pub invariant-loop-n : goal.invariant-loop-n
 invariant-loop-n l = (length l.marks ≡ length l.initial.marks)
-    × (hold_slots l.size l.heads l.bytes (state_of l.size l.t l.heads l.bytes) l.t.used (l.t.used - l.n) l.n l.marks
-    ≡ hold_slots l.size l.heads l.bytes (state_of l.size l.t l.heads l.bytes) l.t.used l.t.used 0 l.initial.marks)
+    × (hold_slots l.lent.size l.heads l.bytes (state_of l.lent.size l.t l.heads l.bytes) l.t.used (l.t.used - l.n) l.n l.marks
+    ≡ hold_slots l.lent.size l.heads l.bytes (state_of l.lent.size l.t l.heads l.bytes) l.t.used l.t.used 0 l.initial.marks)

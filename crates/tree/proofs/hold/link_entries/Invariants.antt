@@ -1,11 +1,13 @@
 use Rattle.std.specs.Prelude.{◌≡◌, length, drop}
-use Rattle.node.specs.Records.{records_length, entries_of}
+use Rattle.node.specs.Records.{entries_of}
 use Rattle.tree.specs.internal.Holding.{link_entries}
 use Rattle.tree.proofs.hold.link_entries.Given as goal
 
-abbrev pub invariant-loop-i : goal.invariant-loop-i
-invariant-loop-i l =
-    let n = l.records.count in
-    let s = l.records.slot.now in
-    (l.at ≡ records_length l._i s) × (length l.marks ≡ length l.initial.marks)
-    × (link_entries l.heads l.used l.level (drop l._i (entries_of n s)) l.marks ≡ link_entries l.heads l.used l.level (entries_of n s) l.initial.marks)
+abbrev pub invariant-loop-r : goal.invariant-loop-r
+invariant-loop-r l =
+    let es = entries_of l.records.count l.records.slot.now in
+    record {
+      same : l.r-iterator.records ≡ l.records;
+      long : length l.marks ≡ length l.initial.marks;
+      left : link_entries l.heads l.used l.level (drop l.r-iterator.index es) l.marks ≡ link_entries l.heads l.used l.level es l.initial.marks;
+    }

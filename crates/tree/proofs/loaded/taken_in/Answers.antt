@@ -4,8 +4,8 @@ use Rattle.tree.proofs.loaded.taken_in.Goals as goal
 
 ruleset laws = (rules, taken_none, taken_lies, taken_is)
 
-pub kid_of-kid-requires : goal.kid_of-kid-requires
-kid_of-kid-requires c = search laws
+pub invariant_of-r : goal.invariant_of-r
+invariant_of-r c = record { lies = search laws }
 
 pub returns : goal.returns
 returns c = search laws

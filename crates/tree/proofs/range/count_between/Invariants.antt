@@ -6,11 +6,14 @@ use Prim.Native.Nat.{◌+◌, ◌≤◌}
 use mathlib.Core.Path.{◌≡◌}
 use Rattle.tree.proofs.range.count_between.Given as goal
 
-abbrev pub invariant-loop-i : goal.invariant-loop-i
-invariant-loop-i l = record {
-  start : l.at ≡ records_length l._i l.records.slot.now;
-  few : l.count ≤ l._i;
-  short : l.length ≤ l.at;
-  counted : l.count + length (between l.order.code l.lo (end_of l.hi) (drop l._i (entries_of l.records.count l.records.slot.now))) ≡ length (between l.order.code l.lo (end_of l.hi) (entries_of l.records.count l.records.slot.now));
-  summed : l.length + length (records_of (between l.order.code l.lo (end_of l.hi) (drop l._i (entries_of l.records.count l.records.slot.now)))) ≡ length (records_of (between l.order.code l.lo (end_of l.hi) (entries_of l.records.count l.records.slot.now)));
-}
+abbrev pub invariant-loop-r : goal.invariant-loop-r
+invariant-loop-r l =
+    let w = l.r-iterator in
+    let es = entries_of l.records.count l.records.slot.now in
+    record {
+      same : w.records ≡ l.records;
+      few : l.count ≤ w.index;
+      short : l.length ≤ records_length w.index l.records.slot.now;
+      counted : l.count + length (between l.order.code l.lo (end_of l.hi) (drop w.index es)) ≡ length (between l.order.code l.lo (end_of l.hi) es);
+      summed : l.length + length (records_of (between l.order.code l.lo (end_of l.hi) (drop w.index es))) ≡ length (records_of (between l.order.code l.lo (end_of l.hi) es));
+    }

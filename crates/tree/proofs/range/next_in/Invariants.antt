@@ -1,4 +1,4 @@
-use Rattle.node.specs.Records.{records_length, entries_of}
+use Rattle.node.specs.Records.{entries_of}
 use Rattle.tree.specs.internal.Range.{end_of, next_entered}
 use Prim.Native.Nat.{◌-◌}
 use mathlib.Core.Path.{◌≡◌}
@@ -6,6 +6,9 @@ use Rattle.tree.proofs.range.next_in.Given as goal
 
 abbrev pub invariant-loop-i : goal.invariant-loop-i
 invariant-loop-i l =
-    (l.at ≡ records_length l.i l.records.slot.now)
-    × (next_entered l.order.code l.lo (end_of l.hi) (entries_of l.records.count l.records.slot.now) (l.records.count - l.i) l.i
-    ≡ next_entered l.order.code l.lo (end_of l.hi) (entries_of l.records.count l.records.slot.now) (l.records.count - l.from) l.from)
+    let i = l.i-iterator.index in
+    record {
+      same : l.i-iterator.records ≡ l.records;
+      goes : next_entered l.order.code l.lo (end_of l.hi) (entries_of l.records.count l.records.slot.now) (l.records.count - i) i
+          ≡ next_entered l.order.code l.lo (end_of l.hi) (entries_of l.records.count l.records.slot.now) (l.records.count - l.from) l.from;
+    }

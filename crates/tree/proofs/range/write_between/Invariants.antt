@@ -1,5 +1,5 @@
 use lib.ListN.{length, drop}
-use Rattle.node.specs.Records.{records_length, entries_of, records_of}
+use Rattle.node.specs.Records.{entries_of, records_of}
 use Rattle.tree.specs.Lookup.{between}
 use Rattle.tree.specs.internal.Range.{end_of}
 use Rattle.node.specs.Bytes.{splice}
@@ -7,10 +7,13 @@ use Prim.Native.Nat.{◌+◌}
 use mathlib.Core.Path.{◌≡◌}
 use Rattle.tree.proofs.range.write_between.Given as goal
 
-abbrev pub invariant-loop-i : goal.invariant-loop-i
-invariant-loop-i l = record {
-  start : l.at ≡ records_length l._i l.records.slot.now;
-  long : length l.out ≡ length l.initial.out;
-  ends : l.end + length (records_of (between l.order.code l.lo (end_of l.hi) (drop l._i (entries_of l.records.count l.records.slot.now)))) ≡ l.from + length (records_of (between l.order.code l.lo (end_of l.hi) (entries_of l.records.count l.records.slot.now)));
-  written : splice l.out l.end (records_of (between l.order.code l.lo (end_of l.hi) (drop l._i (entries_of l.records.count l.records.slot.now)))) ≡ splice l.initial.out l.from (records_of (between l.order.code l.lo (end_of l.hi) (entries_of l.records.count l.records.slot.now)));
-}
+abbrev pub invariant-loop-r : goal.invariant-loop-r
+invariant-loop-r l =
+    let i = l.r-iterator.index in
+    let es = entries_of l.records.count l.records.slot.now in
+    record {
+      same : l.r-iterator.records ≡ l.records;
+      long : length l.out ≡ length l.initial.out;
+      ends : l.end + length (records_of (between l.order.code l.lo (end_of l.hi) (drop i es))) ≡ l.from + length (records_of (between l.order.code l.lo (end_of l.hi) es));
+      written : splice l.out l.end (records_of (between l.order.code l.lo (end_of l.hi) (drop i es))) ≡ splice l.initial.out l.from (records_of (between l.order.code l.lo (end_of l.hi) es));
+    }

@@ -17,8 +17,8 @@ offset_bounds-heads-at c = search laws
 pub bounds-heads-at : goal.bounds-heads-at
 bounds-heads-at c = search laws
 
-pub overflow_add-slots : goal.overflow_add-slots
-overflow_add-slots c = search laws
+pub overflow_add-lent : goal.overflow_add-lent
+overflow_add-lent c = search laws
 
 pub copy_slot-requires : goal.copy_slot-requires
 copy_slot-requires c =

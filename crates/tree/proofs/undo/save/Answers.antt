@@ -21,9 +21,6 @@ bounds-heads-at c = search laws
 pub returns-then-heads-at-ne0 : goal.returns-then-heads-at-ne0
 returns-then-heads-at-ne0 c = save_before _ _ _ _ _ _ c.requires.ready c.requires.n_lt_used c.if-heads-at-ne0.true
 
-pub overflow_add-slots : goal.overflow_add-slots
-overflow_add-slots c = search laws
-
 pub copy_slot-requires : goal.copy_slot-requires
 copy_slot-requires c =
     let p = c.requires in

@@ -1,6 +1,6 @@
 use borrow.Author.Rules.{rules}
 use Prim.Native.Nat.{◌+◌, ◌-◌, ◌*◌}
-use mathlib.Core.Path.{◌≡◌, refl, sym, ◌∙◌}
+use mathlib.Core.Path.{◌≡◌, refl}
 use native.Mathlib.Omega.{arith}
 use Rattle.node.specs.Slot.{insert_at}
 use Rattle.tree.specs.laws.slots.Writers.{writer_words, writer_part, writer_end, writer_used, writer_at, writer_upto, writer_room, writer_most, writer_count, edit_put, edit_follows}
@@ -32,8 +32,8 @@ insert-more-requires c =
     let a = c.args in
     let p = c.requires in
     let s = c.save in
-    let k = a.n * (4 * a.size) + 4 * a.size - a.n * (4 * a.size) in
-    let ek : k ≡ 4 * a.size = omega arith in
+    let k = a.n * (4 * a.lent.size) + 4 * a.lent.size - a.n * (4 * a.lent.size) in
+    let ek : k ≡ 4 * a.lent.size = omega arith in
     record { place = (writer_used _ _ _ _ _ _ _ _ p.ready p.place.0 s.ensures s.auto.heads s.auto.bytes _ c.live_at-h.ensures k ek, writer_at _ _ _ _ _ _ _ _ p.ready p.place.0 s.ensures s.auto.heads s.auto.bytes _ c.live_at-h.ensures k ek _ _ p.place.2, writer_upto _ _ _ _ _ _ _ _ p.ready p.place.0 s.ensures s.auto.heads s.auto.bytes _ c.live_at-h.ensures k ek _ p.place.1); room = omega (arith, writer_room _ _ _ _ _ _ _ _ p.ready p.place.0 s.ensures s.auto.heads s.auto.bytes _ c.live_at-h.ensures k ek _ p.room); stored = p.stored }
 
 pub overflow_add-h : goal.overflow_add-h
@@ -41,8 +41,8 @@ overflow_add-h c =
     let a = c.args in
     let p = c.requires in
     let s = c.save in
-    let k = a.n * (4 * a.size) + 4 * a.size - a.n * (4 * a.size) in
-    let ek : k ≡ 4 * a.size = omega arith in
+    let k = a.n * (4 * a.lent.size) + 4 * a.lent.size - a.n * (4 * a.lent.size) in
+    let ek : k ≡ 4 * a.lent.size = omega arith in
     omega (arith, writer_count _ _ _ _ _ _ _ _ p.ready p.place.0 s.ensures s.auto.heads s.auto.bytes _ c.live_at-h.ensures k ek)
 
 pub recount-requires : goal.recount-requires
@@ -57,7 +57,7 @@ returns c =
     let a = c.args in
     let p = c.requires in
     let s = c.save in
-    let k = a.n * (4 * a.size) + 4 * a.size - a.n * (4 * a.size) in
-    let ek : k ≡ 4 * a.size = omega arith in
+    let k = a.n * (4 * a.lent.size) + 4 * a.lent.size - a.n * (4 * a.lent.size) in
+    let ek : k ≡ 4 * a.lent.size = omega arith in
     let q = c.insert-more.ensures in
-    record { put = edit_put _ _ _ _ _ _ _ _ p.ready p.place.0 s.ensures s.auto.heads s.auto.bytes _ c.live_at-h.ensures k ek _ _ _ (insert_at a.i _) _ _ _ p.place.3 (q.used.1 ∙ sym q.used.0) (omega (arith, q.used.0, writer_most _ _ _ _ _ _ _ _ p.ready p.place.0 s.ensures s.auto.heads s.auto.bytes _ c.live_at-h.ensures k ek _ p.room)) q.entries (search rules) refl c.recount.ensures; follows = edit_follows _ _ _ _ _ _ _ _ p.ready p.place.0 s.ensures s.auto.heads s.auto.bytes _ c.live_at-h.ensures k ek _ _ _ (insert_at a.i _) _ _ _ p.place.3 (q.used.1 ∙ sym q.used.0) (omega (arith, q.used.0, writer_most _ _ _ _ _ _ _ _ p.ready p.place.0 s.ensures s.auto.heads s.auto.bytes _ c.live_at-h.ensures k ek _ p.room)) q.entries (search rules) refl c.recount.ensures }
+    record { put = edit_put _ _ _ _ _ _ _ _ p.ready p.place.0 s.ensures s.auto.heads s.auto.bytes _ c.live_at-h.ensures k ek _ _ _ (insert_at a.i _) _ _ _ p.place.3 q.used.1 (omega (arith, q.used.0, writer_most _ _ _ _ _ _ _ _ p.ready p.place.0 s.ensures s.auto.heads s.auto.bytes _ c.live_at-h.ensures k ek _ p.room)) q.entries (search rules) refl c.recount.ensures; follows = edit_follows _ _ _ _ _ _ _ _ p.ready p.place.0 s.ensures s.auto.heads s.auto.bytes _ c.live_at-h.ensures k ek _ _ _ (insert_at a.i _) _ _ _ p.place.3 q.used.1 (omega (arith, q.used.0, writer_most _ _ _ _ _ _ _ _ p.ready p.place.0 s.ensures s.auto.heads s.auto.bytes _ c.live_at-h.ensures k ek _ p.room)) q.entries (search rules) refl c.recount.ensures }

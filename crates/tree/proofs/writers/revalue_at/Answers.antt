@@ -32,8 +32,8 @@ set_value-more-requires c =
     let a = c.args in
     let p = c.requires in
     let s = c.save in
-    let k = a.n * (4 * a.size) + 4 * a.size - a.n * (4 * a.size) in
-    let ek : k ≡ 4 * a.size = omega arith in
+    let k = a.n * (4 * a.lent.size) + 4 * a.lent.size - a.n * (4 * a.lent.size) in
+    let ek : k ≡ 4 * a.lent.size = omega arith in
     record { place = (writer_used _ _ _ _ _ _ _ _ p.ready p.place.0 s.ensures s.auto.heads s.auto.bytes _ c.live_at-h.ensures k ek, writer_at _ _ _ _ _ _ _ _ p.ready p.place.0 s.ensures s.auto.heads s.auto.bytes _ c.live_at-h.ensures k ek _ _ p.place.2, writer_index _ _ _ _ _ _ _ _ p.ready p.place.0 s.ensures s.auto.heads s.auto.bytes _ c.live_at-h.ensures k ek _ p.place.1); room = writer_room _ _ _ _ _ _ _ _ p.ready p.place.0 s.ensures s.auto.heads s.auto.bytes _ c.live_at-h.ensures k ek _ p.room; stored = p.stored }
 
 pub recount-requires : goal.recount-requires
@@ -48,7 +48,7 @@ returns c =
     let a = c.args in
     let p = c.requires in
     let s = c.save in
-    let k = a.n * (4 * a.size) + 4 * a.size - a.n * (4 * a.size) in
-    let ek : k ≡ 4 * a.size = omega arith in
+    let k = a.n * (4 * a.lent.size) + 4 * a.lent.size - a.n * (4 * a.lent.size) in
+    let ek : k ≡ 4 * a.lent.size = omega arith in
     let q = c.set_value-more.ensures in
     record { put = edit_put _ _ _ _ _ _ _ _ p.ready p.place.0 s.ensures s.auto.heads s.auto.bytes _ c.live_at-h.ensures k ek _ _ _ (with_value a.i _) _ _ _ (index_alive _ _ _ _ _ p.place.1) q.used.1 (omega (arith, q.used.0, writer_most _ _ _ _ _ _ _ _ p.ready p.place.0 s.ensures s.auto.heads s.auto.bytes _ c.live_at-h.ensures k ek _ p.room)) q.entries (search rules) refl c.recount.ensures; follows = edit_follows _ _ _ _ _ _ _ _ p.ready p.place.0 s.ensures s.auto.heads s.auto.bytes _ c.live_at-h.ensures k ek _ _ _ (with_value a.i _) _ _ _ (index_alive _ _ _ _ _ p.place.1) q.used.1 (omega (arith, q.used.0, writer_most _ _ _ _ _ _ _ _ p.ready p.place.0 s.ensures s.auto.heads s.auto.bytes _ c.live_at-h.ensures k ek _ p.room)) q.entries (search rules) refl c.recount.ensures }

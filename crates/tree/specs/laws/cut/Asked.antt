@@ -1,5 +1,5 @@
 -- Laws of what a cut asks first: the step above, room for nodes made, whether a slot fits. Assumes nothing.
-use Rattle.std.specs.Prelude.{◌≡◌, refl, List, [], Bool, true, length, get_or, eqb, ⊤, Some, None, Ok, Err}
+use Rattle.std.specs.Prelude.{◌≡◌, refl, List, [], Bool, true, length, eqb, ⊤, Some, None, Ok, Err}
 use Rattle.std.specs.Prelude as std
 use Rattle.std.proofs.Math.Path.{sym}
 use Rattle.std.proofs.Common.{ap, ◌∙◌, arith}
@@ -28,17 +28,19 @@ use Rattle.tree.specs.laws.slots.OneSlot.{slot_long, slot_room, slot_used}
 use Rattle.tree.specs.laws.slots.Tree.{node_in_lem, used_nodes}
 use Rattle.tree.specs.declared.editor.Tree.{Tree}
 use Rattle.tree.specs.declared.lent.Lent.{Lent}
+use Rattle.tree.specs.declared.way.Step as code
+use Rattle.tree.specs.internal.Way.{nth_step}
 
 -- ---- the step above
 
-module _ (way kids : List ℕ) (j : ℕ) where
-  pub above_none : j ≡ 0 → up_of None ≡ above_of way kids j
+module _ (way : List code.Step) (j : ℕ) where
+  pub above_none : j ≡ 0 → up_of None ≡ above_of way j
   unfolding up_of above_of
   above_none e = rw e
 
-  pub above_some : (j ≡ 0 → ⊥) → up_of (Some (record { slot = get_or way (j - 1) 0; child = get_or kids (j - 1) 0 })) ≡ above_of way kids j
+  pub above_some : (j ≡ 0 → ⊥) → up_of (Some (record { slot = (nth_step way (j - 1)).slot; child = (nth_step way (j - 1)).child })) ≡ above_of way j
   unfolding up_of above_of step_at
-  above_some d = let z : j ≡ suc (j - 1) = omega (arith, d) in sym (ap (above_of way kids) z)
+  above_some d = let z : j ≡ suc (j - 1) = omega (arith, d) in sym (ap (above_of way) z)
 
 -- ---- room for nodes made
 

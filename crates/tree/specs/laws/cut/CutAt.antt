@@ -31,7 +31,7 @@ use Rattle.tree.specs.laws.load.Fetch.{count_is, count_few}
 use Rattle.tree.specs.laws.cut.Asked.{room_none, room_found, room_count, counted_state}
 use Rattle.tree.specs.declared.editor.Tree.{Tree}
 use Rattle.tree.specs.declared.lent.Lent.{Lent}
-use Rattle.tree.specs.declared.cuts.Up.{Up}
+use Rattle.tree.specs.declared.way.Step as code
 use Rattle.node.specs.declared.refusal.Refusal.{Refusal}
 use Rattle.node.specs.declared.refusal.Refusal.TheVariants as is
 
@@ -186,11 +186,11 @@ top_count l t t' v heads bytes h1 b1 h2 b2 n place u e a g =
 
 -- ---- a child cut
 
-up_is : (up : Up) → up_of (Some up) ≡ step_of up ∷ []
+up_is : (up : code.Step) → up_of (Some up) ≡ step_of up ∷ []
 unfolding up_of
 up_is up = refl
 
-module _ (l : Lent) (t : Tree) (heads bytes : List ℕ) (up : Up) (n place at : ℕ) where
+module _ (l : Lent) (t : Tree) (heads bytes : List ℕ) (up : code.Step) (n place at : ℕ) where
   -- its parent
   pub child_parent : CutFits l.size (state_of l.size t heads bytes) (up_of (Some up)) n → CutIs l.size t heads bytes n place at
       → ParentFits l.size (state_of l.size t heads bytes) (step_of up) n

@@ -1,5 +1,5 @@
 -- Laws of the cuts on a way, made bottom up. Assumes nothing.
-use Rattle.std.specs.Prelude.{◌≡◌, refl, length, get_or}
+use Rattle.std.specs.Prelude.{◌≡◌, refl, length}
 use Rattle.std.proofs.Math.Path.{sym, ap, subst}
 use Rattle.std.proofs.Common.{◌∙◌}
 use mathlib.Core.List.{List, [], ◌∷◌}
@@ -17,6 +17,7 @@ use Rattle.tree.specs.Answers.{edited_of}
 use Rattle.tree.specs.internal.Bank.{Ready}
 use Rattle.tree.specs.internal.Undo.{Follows}
 use Rattle.tree.specs.internal.Index.{steps_from}
+use Rattle.tree.specs.laws.cut.IndexKeys.{from_start}
 use Rattle.tree.specs.internal.Edits.{step_at, above_of, CutFits, CutsFit, ReadyEdited}
 use Rattle.tree.specs.internal.Cutting.{step_of, up_of, CutFrom}
 use Rattle.tree.specs.laws.state.State.{put_count, add_count}
@@ -26,11 +27,12 @@ use Rattle.tree.specs.laws.slots.Undo.{follows_same, follows_on}
 use Rattle.tree.specs.laws.slots.Tree.{used_nodes}
 use Rattle.tree.specs.declared.editor.Tree.{Tree}
 use Rattle.tree.specs.declared.lent.Lent.{Lent}
-use Rattle.tree.specs.declared.cuts.Up.{Up}
 use Rattle.std.specs.Prelude as std
 use Rattle.std.specs.Prelude.{Option, Some, None, Ok, Err}
 use Rattle.node.specs.Refusals.{number_of}
 use Rattle.node.specs.declared.refusal.Refusal.{Refusal}
+use Rattle.tree.specs.declared.way.Step as code
+use Rattle.tree.specs.internal.Way.{nth_step, steps_in}
 
 -- ---- a cut takes no slot away
 
@@ -46,7 +48,7 @@ grow_count : (s : State) (n r : ℕ) → length (grow_root s n r).nodes ≡ suc 
 unfolding grow_root with_root
 grow_count s n r = add_count _ _ ∙ ap suc (put_count s n _)
 
-longer : (l : lent.Lent) (up : Option Up) (n : ℕ) (s : State) → n < length s.nodes
+longer : (l : lent.Lent) (up : Option code.Step) (n : ℕ) (s : State) → n < length s.nodes
     → Holds (λ (u : State). length s.nodes ≤ length u.nodes) (cut_node l (up_of up) n s)
 unfolding up_of
 longer l (Some up) n s h =
@@ -60,85 +62,88 @@ longer l None n s h =
 
 -- ---- the definition, from step j on
 
-module _ (l : lent.Lent) (way kids : List ℕ) (steps : ℕ) (s : State) where
-  cuts_cons : (up : List Step) (j : ℕ) → j < steps
-      → cuts l up (steps_from way kids j (steps - j)) s
-      ≡ (cuts l (step_at way kids j ∷ []) (steps_from way kids (suc j) (steps - suc j)) s >>= cut_node l up (get_or way j 0))
+module _ (l : lent.Lent) (way : List code.Step) (s : State) where
+  cuts_cons : (up : List Step) (j : ℕ) → j < length way
+      → cuts l up (steps_from way j (length way - j)) s
+      ≡ (cuts l (step_at way j ∷ []) (steps_from way (suc j) (length way - suc j)) s >>= cut_node l up (nth_step way j).slot)
   unfolding cuts steps_from step_at
-  cuts_cons up j h = let z : steps - j ≡ suc (steps - suc j) = omega arith in rw z
+  cuts_cons up j h = let z : length way - j ≡ suc (length way - suc j) = omega arith in rw z
 
   -- a refusal below is the answer
-  cuts_refused : (j x : ℕ) → j ≤ steps → cuts l (above_of way kids j) (steps_from way kids j (steps - j)) s ≡ refused x
-      → cuts l [] (steps_from way kids 0 steps) s ≡ refused x
+  cuts_refused : (j x : ℕ) → j ≤ length way → cuts l (above_of way j) (steps_from way j (length way - j)) s ≡ refused x
+      → cuts l [] (steps_from way 0 (length way)) s ≡ refused x
   unfolding above_of
-  cuts_refused zero x h e = let z : steps - 0 ≡ steps = omega arith in sym (ap (λ (m : ℕ). cuts l [] (steps_from way kids 0 m) s) z) ∙ e
+  cuts_refused zero x h e = let z : length way - 0 ≡ length way = omega arith in sym (ap (λ (m : ℕ). cuts l [] (steps_from way 0 m) s) z) ∙ e
   cuts_refused (suc j) x h e =
       cuts_refused j x (omega arith)
-      (cuts_cons (above_of way kids j) j (omega arith) ∙ ap (λ (r : Result State). r >>= cut_node l (above_of way kids j) (get_or way j 0)) e)
+      (cuts_cons (above_of way j) j (omega arith) ∙ ap (λ (r : Result State). r >>= cut_node l (above_of way j) (nth_step way j).slot) e)
 
 -- ---- the loop
 
-module _ (l : Lent) (t : Tree) (way kids : List ℕ) (steps : ℕ) (h0 b0 : List ℕ) where
+module _ (l : Lent) (t : Tree) (way : List code.Step) (h0 b0 : List ℕ) where
   abbrev s : State
   s = state_of l.size t h0 b0
 
-  pub from_none : Ready l.size l.slots t.used h0 b0 → CutFrom l t way kids steps steps h0 b0 t h0 b0
+  pub from_none : Ready l.size l.slots t.used h0 b0 → CutFrom l t way (length way) h0 b0 t h0 b0
   unfolding cuts steps_from
   from_none r =
-      let z : steps - steps ≡ 0 = omega arith in
+      let z : length way - length way ≡ 0 = omega arith in
       record { state = rw z; more = omega arith; ready = r; follows = follows_same l.size l.slots t.used h0 b0 }
 
-  module _ (j : ℕ) (u : Tree) (h b : List ℕ) (d : CutFrom l t way kids steps j h0 b0 u h b) where
-    pub from_all : j ≤ 0 → edited_of l.size h b (Ok u) ≡ cuts (lent_of [] l) [] (steps_from way kids 0 steps) (state_of l.size t h0 b0)
+  module _ (j : ℕ) (u : Tree) (h b : List ℕ) (d : CutFrom l t way j h0 b0 u h b) where
+    pub from_all : j ≤ 0 → edited_of l.size h b (Ok u) ≡ cuts (lent_of [] l) [] (steps_in way) (state_of l.size t h0 b0)
     unfolding edited_of above_of
     from_all q =
         let z : j ≡ 0 = omega arith in
-        let y : steps - 0 ≡ steps = omega arith in
-        sym d.state ∙ ap (λ (i : ℕ). cuts (lent_of [] l) (above_of way kids i) (steps_from way kids i (steps - i)) s) z
-        ∙ ap (λ (m : ℕ). cuts (lent_of [] l) [] (steps_from way kids 0 m) s) y
+        let y : length way - 0 ≡ length way = omega arith in
+        sym d.state ∙ ap (λ (i : ℕ). cuts (lent_of [] l) (above_of way i) (steps_from way i (length way - i)) s) z
+        ∙ ap (λ (m : ℕ). cuts (lent_of [] l) [] (steps_from way 0 m) s) y
+        ∙ ap (λ (ps : List Step). cuts (lent_of [] l) [] ps s) (sym (from_start way (length way)))
 
-    module _ (lo : 0 < j) (hi : j ≤ steps) where
+    module _ (lo : 0 < j) (hi : j ≤ length way) where
       again : suc (j - 1) ≡ j
       again = omega arith
 
       -- what is cut below the next slot
-      below : cuts (lent_of [] l) (step_at way kids (j - 1) ∷ []) (steps_from way kids (suc (j - 1)) (steps - suc (j - 1))) (state_of l.size t h0 b0)
+      below : cuts (lent_of [] l) (step_at way (j - 1) ∷ []) (steps_from way (suc (j - 1)) (length way - suc (j - 1))) (state_of l.size t h0 b0)
           ≡ ok (state_of l.size u h b)
       unfolding above_of
-      below = ap (λ (i : ℕ). cuts (lent_of [] l) (above_of way kids i) (steps_from way kids i (steps - i)) s) again ∙ d.state
+      below = ap (λ (i : ℕ). cuts (lent_of [] l) (above_of way i) (steps_from way i (length way - i)) s) again ∙ d.state
 
-      module _ (up : Option Up) (eu : up_of up ≡ above_of way kids (j - 1)) where
-        pub from_fits : CutsFit (lent_of [] l) (state_of l.size t h0 b0) way kids steps
-            → CutFits l.size (state_of l.size u h b) (up_of up) (get_or way (j - 1) 0)
+      module _ (up : Option code.Step) (eu : up_of up ≡ above_of way (j - 1)) where
+        pub from_fits : CutsFit (lent_of [] l) (state_of l.size t h0 b0) way
+            → CutFits l.size (state_of l.size u h b) (up_of up) (nth_step way (j - 1)).slot
         unfolding lent_of
         from_fits f = rw eu (f.turn (j - 1) (omega arith) (state_of l.size u h b) below)
 
         module _ (h' b' : List ℕ) (y : std.Result Tree Refusal)
-            (ey : edited_of l.size h' b' y ≡ cut_node (lent_of [] l) (up_of up) (get_or way (j - 1) 0) (state_of l.size u h b)) where
-          next : cuts (lent_of [] l) (above_of way kids (j - 1)) (steps_from way kids (j - 1) (steps - (j - 1))) (state_of l.size t h0 b0)
+            (ey : edited_of l.size h' b' y ≡ cut_node (lent_of [] l) (up_of up) (nth_step way (j - 1)).slot (state_of l.size u h b)) where
+          next : cuts (lent_of [] l) (above_of way (j - 1)) (steps_from way (j - 1) (length way - (j - 1))) (state_of l.size t h0 b0)
               ≡ edited_of l.size h' b' y
           next =
-              cuts_cons (lent_of [] l) way kids steps s (above_of way kids (j - 1)) (j - 1) (omega arith)
-              ∙ ap (λ (r : Result State). r >>= cut_node (lent_of [] l) (above_of way kids (j - 1)) (get_or way (j - 1) 0)) below
-              ∙ ap (λ (x : List Step). cut_node (lent_of [] l) x (get_or way (j - 1) 0) (state_of l.size u h b)) (sym eu) ∙ sym ey
+              cuts_cons (lent_of [] l) way s (above_of way (j - 1)) (j - 1) (omega arith)
+              ∙ ap (λ (r : Result State). r >>= cut_node (lent_of [] l) (above_of way (j - 1)) (nth_step way (j - 1)).slot) below
+              ∙ ap (λ (x : List Step). cut_node (lent_of [] l) x (nth_step way (j - 1)).slot (state_of l.size u h b)) (sym eu) ∙ sym ey
 
           pub from_refused : (x : Refusal) → y ≡ Err x
-              → edited_of l.size h' b' (Err x) ≡ cuts (lent_of [] l) [] (steps_from way kids 0 steps) (state_of l.size t h0 b0)
+              → edited_of l.size h' b' (Err x) ≡ cuts (lent_of [] l) [] (steps_in way) (state_of l.size t h0 b0)
           unfolding edited_of
-          from_refused x e = sym (cuts_refused (lent_of [] l) way kids steps s (j - 1) (number_of x) (omega arith)
+          from_refused x e = sym (cuts_refused (lent_of [] l) way s (j - 1) (number_of x) (omega arith)
               (next ∙ ap (edited_of l.size h' b') e))
+              ∙ ap (λ (ps : List Step). cuts (lent_of [] l) [] ps s) (sym (from_start way (length way)))
 
           pub from_behind : Follows l.size l.slots u.used h b h' b' → Follows l.size l.slots t.used h0 b0 h' b'
           from_behind g = follows_on l.size l.slots t.used u.used h0 b0 h b h' b' d.follows g d.more
 
-          pub from_next : (v : Tree) → y ≡ Ok v → CutsFit (lent_of [] l) (state_of l.size t h0 b0) way kids steps
+          pub from_next : (v : Tree) → y ≡ Ok v → CutsFit (lent_of [] l) (state_of l.size t h0 b0) way
               → ReadyEdited l.size l.slots h' b' y → Follows l.size l.slots u.used h b h' b'
-              → CutFrom l t way kids steps (j - 1) h0 b0 v h' b'
+              → CutFrom l t way (j - 1) h0 b0 v h' b'
           unfolding edited_of
           from_next v e f r g =
-              let c : cut_node (lent_of [] l) (up_of up) (get_or way (j - 1) 0) (state_of l.size u h b) ≡ ok (state_of l.size v h' b') =
+              let c : cut_node (lent_of [] l) (up_of up) (nth_step way (j - 1)).slot (state_of l.size u h b) ≡ ok (state_of l.size v h' b') =
               sym ey ∙ ap (edited_of l.size h' b') e in
-              let w = (longer (lent_of [] l) up (get_or way (j - 1) 0) (state_of l.size u h b) (from_fits f).used).at (state_of l.size v h' b') c in
+              let w = (longer (lent_of [] l) up (nth_step way (j - 1)).slot (state_of l.size u h b) (from_fits f).used).at
+              (state_of l.size v h' b') c in
               record {
                 state = next ∙ ap (edited_of l.size h' b') e;
                 more = omega (arith, d.more, used_nodes l.size u h b, used_nodes l.size v h' b');

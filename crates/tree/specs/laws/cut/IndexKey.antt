@@ -39,9 +39,9 @@ module _ (s : State) (n i c kids : ℕ) (ek : kids ≡ length (node_at s c).entr
   differs_past count d e h = rw (← ek, ← e, ne_eqb kids 0 d, le-leb count i h)
 
   pub differs_keys : (count : ℕ) (k f : List ℕ) (b : Bool) → (kids ≡ 0 → ⊥) → count ≡ length (node_at s n).entries → i < count
-      → f ≡ key_at (node_at s c).entries 0 → k ≡ key_at (node_at s n).entries i → b ≡ same_key k f → not b ≡ key_differs s n i c
+      → f ≡ key_at (node_at s c).entries 0 → k ≡ key_at (node_at s n).entries i → b ≡ not (same_key k f) → b ≡ key_differs s n i c
   unfolding key_differs
-  differs_keys count k f b d e h ef ek' eb = rw (← ek, ← e, ← ef, ← ek', ← eb, ne_eqb kids 0 d, lt-leb count i h)
+  differs_keys count k f b d e h ef ek' eb = rw (← ek, ← e, ← ef, ← ek', ne_eqb kids 0 d, lt-leb count i h) eb
 
 -- ---- a key copied out
 

@@ -1,5 +1,5 @@
 -- Laws of the index keys on a way, set bottom up. Assumes nothing.
-use Rattle.std.specs.Prelude.{◌≡◌, length, get_or}
+use Rattle.std.specs.Prelude.{◌≡◌, length}
 use Rattle.std.proofs.Math.Path.{refl, ap, ap₂}
 use Rattle.std.proofs.Common.{sym, ◌∙◌}
 use mathlib.Core.List.{List, [], ◌∷◌, ◌++◌}
@@ -15,7 +15,7 @@ use Rattle.tree.specs.State.{State, node_at}
 use Rattle.tree.specs.Lookup.{Step}
 use Rattle.tree.specs.Edit.{set_index_key, index_keys}
 use Rattle.tree.specs.internal.Bank.{node_in, live, Lies, Ready}
-use Rattle.tree.specs.internal.Way.{steps_of, WayIn}
+use Rattle.tree.specs.internal.Way.{nth_step, steps_of, steps_in, WayIn}
 use Rattle.tree.specs.internal.Index.{Rewritten, KeyRoom, KeyFits, steps_from, IndexRoom, Indexed}
 use Rattle.tree.specs.laws.slots.Bank.{live_entries}
 use Rattle.tree.specs.laws.slots.OneSlot.{ready_part, part_long}
@@ -23,24 +23,25 @@ use Rattle.tree.specs.laws.slots.Undo.{follows_same, follows_on}
 use Rattle.tree.specs.laws.slots.Tree.{node_in_lem}
 use Rattle.tree.specs.laws.load.Fetch.{count_is}
 use Rattle.tree.specs.declared.editor.Tree.{Tree}
+use Rattle.tree.specs.declared.way.Step as code
 
 -- ---- steps from one on
 
-module _ (way kids : List ℕ) where
+module _ (way : List code.Step) where
   abbrev step : ℕ → Step
-  step j = record { slot = get_or way j 0; child = get_or kids j 0 }
+  step j = record { slot = (nth_step way j).slot; child = (nth_step way j).child }
 
-  from_cons : (steps j : ℕ) → j < steps → steps_from way kids j (steps - j) ≡ step j ∷ steps_from way kids (suc j) (steps - suc j)
+  from_cons : (j : ℕ) → j < length way → steps_from way j (length way - j) ≡ step j ∷ steps_from way (suc j) (length way - suc j)
   unfolding steps_from
-  from_cons steps j h = let z : steps - j ≡ suc (steps - suc j) = omega arith in rw z
+  from_cons j h = let z : length way - j ≡ suc (length way - suc j) = omega arith in rw z
 
-  from_snoc : (m j : ℕ) → steps_from way kids j m ++ step (j + m) ∷ [] ≡ steps_from way kids j (suc m)
+  from_snoc : (m j : ℕ) → steps_from way j m ++ step (j + m) ∷ [] ≡ steps_from way j (suc m)
   unfolding steps_from
   from_snoc zero j = let z : j + 0 ≡ j = omega arith in ap (λ (x : ℕ). step x ∷ []) z
   from_snoc (suc m) j = let z : j + suc m ≡ suc j + m = omega arith in ap (λ (l : List Step). step j ∷ l)
-      (ap (λ (x : ℕ). steps_from way kids (suc j) m ++ step x ∷ []) z ∙ from_snoc m (suc j))
+      (ap (λ (x : ℕ). steps_from way (suc j) m ++ step x ∷ []) z ∙ from_snoc m (suc j))
 
-  pub from_start : (k : ℕ) → steps_of way kids k ≡ steps_from way kids 0 k
+  pub from_start : (k : ℕ) → steps_of way k ≡ steps_from way 0 k
   unfolding steps_of steps_from
   from_start zero = refl
   from_start (suc k) = let z : k ≡ 0 + k = omega arith in ap₂ (λ (l : List Step) (x : ℕ). l ++ step x ∷ []) (from_start k) z ∙ from_snoc k 0
@@ -77,57 +78,57 @@ module _ (size slots n c room : ℕ) (t : Tree) (h b : List ℕ) (r : Ready size
 
 -- ---- the loop
 
-module _ (size slots steps : ℕ) (t : Tree) (way kids h0 b0 : List ℕ) where
-  pub indexed_none : Ready size slots t.used h0 b0 → 1 ≤ steps → Indexed size slots t way kids steps (steps - 1) h0 b0 h0 b0
+module _ (size slots : ℕ) (t : Tree) (way : List code.Step) (h0 b0 : List ℕ) where
+  pub indexed_none : Ready size slots t.used h0 b0 → 1 ≤ length way → Indexed size slots t way (length way - 1) h0 b0 h0 b0
   unfolding steps_from
   indexed_none r u =
-      let z : steps - (steps - 1) ≡ 1 = omega arith in
+      let z : length way - (length way - 1) ≡ 1 = omega arith in
       record {
         rest = record {
-          state = rw z (sym (index_one (step way kids (steps - 1)) (state_of size t h0 b0)));
+          state = rw z (sym (index_one (step way (length way - 1)) (state_of size t h0 b0)));
           ready = r;
           follows = follows_same size slots t.used h0 b0;
         };
       }
 
-  module _ (j : ℕ) (h b : List ℕ) (d : Indexed size slots t way kids steps j h0 b0 h b) where
+  module _ (j : ℕ) (h b : List ℕ) (d : Indexed size slots t way j h0 b0 h b) where
     pub indexed_ready : Ready size slots t.used h b
     indexed_ready = d.rest.ready
 
-    pub indexed_all : j ≤ 0 → Rewritten size slots t h0 b0 h b (index_keys (steps_of way kids steps) (state_of size t h0 b0))
+    pub indexed_all : j ≤ 0 → Rewritten size slots t h0 b0 h b (index_keys (steps_in way) (state_of size t h0 b0))
     indexed_all u =
         let z : j ≡ 0 = omega arith in
-        let y : steps - 0 ≡ steps = omega arith in
+        let y : length way - 0 ≡ length way = omega arith in
         record {
-          state = d.rest.state ∙ ap (λ (x : ℕ). index_keys (steps_from way kids x (steps - x)) (state_of size t h0 b0)) z
-              ∙ ap (λ (x : ℕ). index_keys (steps_from way kids 0 x) (state_of size t h0 b0)) y
-              ∙ ap (λ (l : List Step). index_keys l (state_of size t h0 b0)) (sym (from_start way kids steps));
+          state = d.rest.state ∙ ap (λ (x : ℕ). index_keys (steps_from way x (length way - x)) (state_of size t h0 b0)) z
+              ∙ ap (λ (x : ℕ). index_keys (steps_from way 0 x) (state_of size t h0 b0)) y
+              ∙ ap (λ (l : List Step). index_keys l (state_of size t h0 b0)) (sym (from_start way (length way)));
           ready = d.rest.ready;
           follows = d.rest.follows;
         }
 
-    module _ (u : 0 < j) (v : j < steps) where
-      pub index_turn : (room more : ℕ) → WayIn t.used way steps → IndexRoom size t h0 b0 way kids steps room → more ≡ room
-          → KeyRoom size t h b (get_or way (j - 1) 0) (get_or way j 0) more
+    module _ (u : 0 < j) (v : j < length way) where
+      pub index_turn : (room more : ℕ) → WayIn t.used way → IndexRoom size t h0 b0 way room → more ≡ room
+          → KeyRoom size t h b (nth_step way (j - 1)).slot (nth_step way j).slot more
       index_turn room more w i e =
-          rw e (key_room size slots (get_or way (j - 1) 0) (get_or way j 0) room t h b d.rest.ready (w.slot (j - 1) (omega arith))
+          rw e (key_room size slots (nth_step way (j - 1)).slot (nth_step way j).slot room t h b d.rest.ready (w.slot (j - 1) (omega arith))
           (rw d.rest.state (i.turn j u v)))
 
       pub indexed_next : (h' b' : List ℕ) → Rewritten size slots t h b h' b'
-          (set_index_key (state_of size t h b) (get_or way (j - 1) 0) (get_or kids (j - 1) 0) (get_or way j 0))
-          → Indexed size slots t way kids steps (j - 1) h0 b0 h' b'
+          (set_index_key (state_of size t h b) (nth_step way (j - 1)).slot (nth_step way (j - 1)).child (nth_step way j).slot)
+          → Indexed size slots t way (j - 1) h0 b0 h' b'
       indexed_next h' b' w =
           let s : State = state_of size t h0 b0 in
           let z : suc (j - 1) ≡ j = omega arith in
-          let k : j - 1 < steps = omega arith in
+          let k : j - 1 < length way = omega arith in
           record {
             rest = record {
               state = w.state
-                  ∙ ap (λ (x : State). set_index_key x (get_or way (j - 1) 0) (get_or kids (j - 1) 0) (get_or way j 0)) d.rest.state
-                  ∙ sym (index_cons (step way kids (j - 1)) (step way kids j) (steps_from way kids j (steps - j))
-                  (steps_from way kids (suc j) (steps - suc j)) s (from_cons way kids steps j v))
+                  ∙ ap (λ (x : State). set_index_key x (nth_step way (j - 1)).slot (nth_step way (j - 1)).child (nth_step way j).slot) d.rest.state
+                  ∙ sym (index_cons (step way (j - 1)) (step way j) (steps_from way j (length way - j))
+                  (steps_from way (suc j) (length way - suc j)) s (from_cons way j v))
                   ∙ sym (ap (λ (l : List Step). index_keys l s)
-                  (from_cons way kids steps (j - 1) k ∙ ap (λ (x : ℕ). step way kids (j - 1) ∷ steps_from way kids x (steps - x)) z));
+                  (from_cons way (j - 1) k ∙ ap (λ (x : ℕ). step way (j - 1) ∷ steps_from way x (length way - x)) z));
               ready = w.ready;
               follows = follows_on size slots t.used t.used h0 b0 h b h' b' d.rest.follows w.follows (omega arith);
             };

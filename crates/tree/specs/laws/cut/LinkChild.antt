@@ -1,14 +1,14 @@
 -- Laws of a child linked under its first key: the room that it finds, and the slot after. Assumes nothing.
 use Rattle.std.specs.Prelude.{◌≡◌, refl, List, true, false, ℕ, ◌+◌, ◌*◌, ◌^◌, ◌≤◌, ◌<◌, length}
 use Rattle.std.proofs.Math.Path.{sym, ap}
-use Rattle.std.proofs.Common.{ap₂, ◌∙◌, arith, take_all}
+use Rattle.std.proofs.Common.{◌∙◌, arith}
 use Rattle.std.proofs.Math.ListN.{set}
-use Rattle.node.specs.Bytes.{splice, window, bytes_of}
-use Rattle.node.specs.laws.base.Seal.{length_splice, window_splice_same, length_bytes_of, le_bytes_of}
-use Rattle.node.specs.Entry.{Entry, Val, mem}
+use Rattle.node.specs.Entry.{Entry, Val, mem, value_length}
 use Rattle.node.specs.Find.{key_at}
-use Rattle.node.specs.Records.{mark_length, value_of}
-use Rattle.node.specs.Slot.{MemNode, head_at, insert_at}
+use Rattle.node.specs.Slot.{MemNode, head_at, insert_at, child_means, value_means}
+use Rattle.node.specs.internal.Storable.{Held}
+use Rattle.node.specs.declared.val.Child.TheVariants as child
+use Rattle.node.specs.declared.val.Val.TheVariants as held
 use Rattle.tree.specs.Workspace.{nodes_of, state_of}
 use Rattle.tree.specs.State.{node_at, put_node, with_nodes, changed}
 use Rattle.tree.specs.internal.Bank.{node_in, live, Ready, Put}
@@ -21,20 +21,6 @@ use Rattle.tree.specs.laws.slots.Tree.{used_nodes, node_in_lem}
 use Rattle.tree.specs.laws.load.Fetch.{count_is}
 use Rattle.tree.specs.laws.refusal1.Roomy.{node_weight}
 use Rattle.tree.specs.declared.editor.Tree.{Tree}
-
--- ---- a slot's number as a value
-
--- eight bytes over eight
-eight : (zeros value : List ℕ) (c : ℕ) → length zeros ≡ 8 → value ≡ splice zeros 0 (bytes_of 8 c) → value ≡ bytes_of 8 c
-unfolding window
-eight zeros value c l e =
-    let b : length (bytes_of 8 c) ≡ 8 = length_bytes_of 8 c in
-    let f : length (splice zeros 0 (bytes_of 8 c)) ≡ length zeros = length_splice zeros 0 (bytes_of 8 c) (omega arith) in
-    e ∙ sym (take_all (length (bytes_of 8 c)) (splice zeros 0 (bytes_of 8 c)) (omega arith)) ∙ window_splice_same zeros 0 (bytes_of 8 c) (omega arith)
-
-number_back : (c : ℕ) → c < 4096 → value_of 0xFFFD (bytes_of 8 c) ≡ mem c
-unfolding value_of
-number_back c h = ap mem (le_bytes_of 8 c (omega arith))
 
 -- ---- the slot
 
@@ -52,36 +38,35 @@ module _ (size slots n i c room : ℕ) (t : Tree) (h0 b0 : List ℕ) (r : Ready 
   few : c < 4096
   few = omega (arith, f.child, used_nodes size t h0 b0, r.within, r.many)
 
-  module _ (key zeros value : List ℕ) (ek : key ≡ key_at (node_at (state_of size t h0 b0) c).entries 0) (ez : length zeros ≡ 8)
-      (ev : value ≡ splice zeros 0 (bytes_of 8 c)) where
-    long : length value ≡ 8
-    long = ap length (eight zeros value c ez ev) ∙ length_bytes_of 8 c
+  module _ (key : List ℕ) (ek : key ≡ key_at (node_at (state_of size t h0 b0) c).entries 0) where
+    abbrev value : Val
+    value = value_means (held.Child (child.Mem c))
 
-    pub child_room : (live (head_at h0 n)).used + (4 + length key + length value) ≤ 4 * size
+    pub child_room : (live (head_at h0 n)).used + (4 + length key + value_length value) ≤ 4 * size
+    unfolding value_means child_means value_length
     child_room = let z : length key ≡ length (key_at (node_at (state_of size t h0 b0) c).entries 0) = ap length ek in
-        omega (arith, f.room, node_weight size slots t h0 b0 r n child_slot, long)
+        omega (arith, f.room, node_weight size slots t h0 b0 r n child_slot)
 
     pub child_short : length key < 2 ^ 16
     child_short = rw ek f.short
 
-    pub child_mark : mark_length 0xFFFD ≡ length value
-    unfolding mark_length
-    child_mark = sym long
+    pub child_held : Held value
+    unfolding value_means child_means
+    child_held = omega (arith, few)
 
     abbrev given : Entry
-    given = record { key = key; value = value_of 0xFFFD value }
+    given = record { key = key; value = value }
 
     abbrev meant : Entry
     meant = record { key = key_at (node_at (state_of size t h0 b0) c).entries 0; value = mem c }
 
     child_entry : given ≡ meant
-    child_entry =
-        let v : value_of 0xFFFD value ≡ mem c = ap (value_of 0xFFFD) (eight zeros value c ez ev) ∙ number_back c few in
-        ap₂ (λ (k : List ℕ) (x : Val). record { key = k; value = x }) ek v
+    unfolding value_means child_means
+    child_entry = ap (λ (k : List ℕ). record { key = k; value = mem c }) ek
 
     pub child_linked : (h1 b1 : List ℕ) → length h1 ≡ length h0 → length b1 ≡ length b0
         → Put size slots h0 b0 h1 b1 n (edited true (node_in size h0 b0 n)
-        (insert_at i (record { key = key; value = value_of 0xFFFD value }) (node_in size h0 b0 n).entries))
+        (insert_at i given (node_in size h0 b0 n).entries))
         → Follows size slots t.used h0 b0 h1 b1 → Rewritten size slots t h0 b0 h1 b1 (child_put (state_of size t h0 b0) n i c)
     unfolding state_of put_node with_nodes
     child_linked h1 b1 e g p q =

@@ -1,13 +1,17 @@
 -- Laws of a child read and brought. Assumes nothing.
+use Rattle.node.specs.laws.read.LoadLine.{node_read, node_refused}
+use Rattle.tree.specs.laws.base.Refused.{handed_on}
+use Rattle.std.proofs.lemmas.Result.{IfOk-at_ok}
 use Rattle.std.proofs.Math.Path.{◌≡◌, refl, sym, ap}
 use Rattle.std.proofs.Common.{◌∙◌}
-use Rattle.std.specs.Prelude.{List, [], Bool, eqb}
+use Rattle.std.specs.Borrow.{Bor}
+use Rattle.std.specs.Prelude.{List, Bool, not}
 use Rattle.std.proofs.Math.Bool.{true, false}
-use Prim.Native.Nat.{ℕ, suc, ◌+◌, ◌*◌, ◌/◌, ◌^◌, ◌≤◌, ◌<◌}
+use Prim.Native.Nat.{ℕ, suc, ◌+◌, ◌-◌, ◌*◌, ◌/◌, ◌^◌, ◌≤◌, ◌<◌}
 use native.Mathlib.Omega.{arith}
 use Rattle.std.proofs.Math.ListN.{length}
 use Rattle.std.proofs.Math.Dec.{ltb}
-use borrow.Author.Tests.{le-ltb, lt-ltb}
+use borrow.Author.Tests.{le-ltb, lt-ltb, not-true, not-false}
 use Rattle.node.specs.Bytes.{window}
 use Rattle.node.specs.Result.{Result, ok, ◌>>=◌}
 use Rattle.node.specs.laws.base.Tests.{never}
@@ -16,13 +20,12 @@ use Rattle.node.specs.Entry.{Val, ghost, leaf, disk, mem}
 use Rattle.node.specs.Find.{key_at, val_at}
 use Rattle.node.specs.laws.slot.Records.{length_entries, records_least}
 use Rattle.node.specs.Read.{OnDisk, on_disk, read_of, spans_length}
-use Rattle.node.specs.internal.ReadSteps.{Sound}
 use Rattle.node.specs.Fit.{data_space}
 use Rattle.node.specs.laws.read.Accepted.{Accepted}
 use Rattle.node.specs.Slot.{head_at, node_of, is_child}
 use Rattle.node.specs.declared.head.Head.{Head}
 use Rattle.node.specs.declared.read.Node.{Node}
-use Rattle.node.specs.declared.read.Place.{Place}
+use Rattle.node.specs.Place.{Place, lent_key}
 use Rattle.tree.specs.Lent as lent
 use Rattle.tree.specs.Lent.{lent_of}
 use Rattle.tree.specs.Workspace.{slot_bytes, state_of}
@@ -34,9 +37,9 @@ use Rattle.tree.specs.laws.state.Load.{brought, load_there}
 use Rattle.tree.specs.internal.Bank.{node_in, live, Lies, Ready}
 use Rattle.tree.specs.laws.slots.Bank.{live_entries}
 use Rattle.tree.specs.internal.Map.{load_at, address_at}
-use Rattle.tree.specs.laws.load.MapNode.{block_long, block_at_lem}
+use Rattle.tree.specs.laws.load.MapNode.{block_long, block_at_lem, edge_key, edge_bounded}
 use Rattle.tree.specs.laws.load.MapFloor.{load_inside, load_accepts}
-use Rattle.tree.specs.internal.Tree.{child_of, bound_of, bounds_of, read_child, fetched_at, loaded_of}
+use Rattle.tree.specs.internal.Tree.{child_of, bound_of, edge_of, bounds_of, read_child, fetched_at, loaded_of}
 use Rattle.tree.specs.laws.slots.Tree.{node_in_lem, node_out, used_nodes}
 use Rattle.tree.specs.declared.editor.Tree.{Tree}
 use Rattle.tree.specs.declared.editor.Bound.{Bound}
@@ -79,63 +82,55 @@ module _ (size : ℕ) (t : Tree) (heads bytes : List ℕ) where
 -- ---- bounds
 
 module _ (s : State) (b : Option Bound) where
-  pub bound_none : b ≡ None → [] ≡ bound_key (bound_of s b)
-  unfolding bound_key bound_of
+  pub bound_none : b ≡ None → edge_of None ≡ bound_of s b
+  unfolding edge_of bound_of
   bound_none h = rw h
 
-  pub bound_some : (x : Bound) (k : List ℕ) → b ≡ Some x → k ≡ key_at (node_at s x.slot).entries x.index → k ≡ bound_key (bound_of s b)
-  unfolding bound_key bound_of
-  bound_some x k h e = rw h e
+  pub bound_some : (x : Bound) (k : Bor (List ℕ)) → b ≡ Some x → k.now ≡ key_at (node_at s x.slot).entries x.index → edge_of (Some k) ≡ bound_of s b
+  unfolding edge_of bound_of
+  bound_some x k h e = rw (h, e)
 
-  module _ (o n i : ℕ) where
-    pub tighter_first : b ≡ None → bound_of s (Some (record { slot = n; index = i }))
-        ≡ tighter_lower o (bound_of s b) (key_at (node_at s n).entries i)
-    unfolding bound_of tighter_lower
-    tighter_first h = rw h
+pub ruleset bound_keys = (bound_none, bound_some)
 
-    pub upper_first : b ≡ None → bound_of s (Some (record { slot = n; index = i })) ≡ tighter_upper o (bound_of s b) (key_at (node_at s n).entries i)
-    unfolding bound_of tighter_upper
-    upper_first h = rw h
+module _ (s : State) (b : Option Bound) (q : Option (Bor (List ℕ))) (eq : edge_of q ≡ bound_of s b) (o n i : ℕ) where
+  pub lower_first : q ≡ None → bound_of s (Some (record { slot = n; index = i })) ≡ tighter_lower o (bound_of s b) (key_at (node_at s n).entries i)
+  unfolding edge_of bound_of tighter_lower
+  lower_first h = rw (← eq, h)
 
-    module _ (x : Bound) (h : b ≡ Some x) (old key : List ℕ) (t : Bool) (eo : old ≡ key_at (node_at s x.slot).entries x.index)
-        (ek : key ≡ key_at (node_at s n).entries i) where
-      pub tighter_new : t ≡ less o old key → t ≡ true → bound_of s (Some (record { slot = n; index = i })) ≡ tighter_lower o (bound_of s b)
-          (key_at (node_at s n).entries i)
-      unfolding bound_of tighter_lower
-      tighter_new et q =
-          let z : less o (key_at (node_at s x.slot).entries x.index) (key_at (node_at s n).entries i) ≡ true = rw (← eo, ← ek) (sym et ∙ q) in
-          rw (h, z)
+  pub upper_first : q ≡ None → bound_of s (Some (record { slot = n; index = i })) ≡ tighter_upper o (bound_of s b) (key_at (node_at s n).entries i)
+  unfolding edge_of bound_of tighter_upper
+  upper_first h = rw (← eq, h)
 
-      pub tighter_old : t ≡ less o old key → t ≡ false → bound_of s b ≡ tighter_lower o (bound_of s b) (key_at (node_at s n).entries i)
-      unfolding bound_of tighter_lower
-      tighter_old et q =
-          let z : less o (key_at (node_at s x.slot).entries x.index) (key_at (node_at s n).entries i) ≡ false = rw (← eo, ← ek) (sym et ∙ q) in
-          rw (h, z)
+  module _ (x : Bor (List ℕ)) (h : q ≡ Some x) (key : List ℕ) (t : Bool) (ek : key ≡ key_at (node_at s n).entries i) where
+    pub lower_new : t ≡ less o x.now key → not t ≡ false → bound_of s (Some (record { slot = n; index = i })) ≡ tighter_lower o (bound_of s b)
+        (key_at (node_at s n).entries i)
+    unfolding edge_of bound_of tighter_lower
+    lower_new et g = let z : less o x.now key ≡ true = sym et ∙ not-false t g in rw (← eq, h, ← ek, z)
 
-      pub upper_new : t ≡ less o key old → t ≡ true → bound_of s (Some (record { slot = n; index = i })) ≡ tighter_upper o (bound_of s b)
-          (key_at (node_at s n).entries i)
-      unfolding bound_of tighter_upper
-      upper_new et q =
-          let z : less o (key_at (node_at s n).entries i) (key_at (node_at s x.slot).entries x.index) ≡ true = rw (← eo, ← ek) (sym et ∙ q) in
-          rw (h, z)
+    pub lower_old : t ≡ less o x.now key → not t ≡ true → bound_of s b ≡ tighter_lower o (bound_of s b) (key_at (node_at s n).entries i)
+    unfolding edge_of bound_of tighter_lower
+    lower_old et g = let z : less o x.now key ≡ false = sym et ∙ not-true t g in rw (← eq, h, ← ek, z)
 
-      pub upper_old : t ≡ less o key old → t ≡ false → bound_of s b ≡ tighter_upper o (bound_of s b) (key_at (node_at s n).entries i)
-      unfolding bound_of tighter_upper
-      upper_old et q =
-          let z : less o (key_at (node_at s n).entries i) (key_at (node_at s x.slot).entries x.index) ≡ false = rw (← eo, ← ek) (sym et ∙ q) in
-          rw (h, z)
+    pub upper_new : t ≡ less o key x.now → not t ≡ false → bound_of s (Some (record { slot = n; index = i })) ≡ tighter_upper o (bound_of s b)
+        (key_at (node_at s n).entries i)
+    unfolding edge_of bound_of tighter_upper
+    upper_new et g = let z : less o key x.now ≡ true = sym et ∙ not-false t g in rw (← eq, h, ← ek, z)
 
-module _ (s : State) (b : Bounds) (o n i count : ℕ) (lower : Option Bound) (ec : count ≡ length (node_at s n).entries)
+    pub upper_old : t ≡ less o key x.now → not t ≡ true → bound_of s b ≡ tighter_upper o (bound_of s b) (key_at (node_at s n).entries i)
+    unfolding edge_of bound_of tighter_upper
+    upper_old et g = let z : less o key x.now ≡ false = sym et ∙ not-true t g in rw (← eq, h, ← ek, z)
+
+pub ruleset tighter = (lower_first, lower_new, lower_old, upper_first, upper_new, upper_old)
+
+module _ (s : State) (b : Bounds Bound) (o n i count : ℕ) (lower : Option Bound) (ec : count ≡ length (node_at s n).entries)
     (el : bound_of s lower ≡ tighter_lower o (bound_of s b.lower) (key_at (node_at s n).entries i)) where
-  pub bounds_past : count ≤ i → bounds_of s (record { lower = lower; upper = b.upper }) ≡ child_bounds o (bounds_of s b) (node_at s n).entries i
+  pub bounds_last : count - 1 ≤ i → bounds_of s (record { lower = lower; upper = b.upper }) ≡ child_bounds o (bounds_of s b) (node_at s n).entries i
   unfolding bounds_of child_bounds
-  bounds_past h = rw (el, le-ltb (suc i) (length (node_at s n).entries) (omega arith))
+  bounds_last h =
+      let t : ltb (suc i) (length (node_at s n).entries) ≡ false = le-ltb (suc i) (length (node_at s n).entries) (omega arith) in
+      rw (el, t)
 
-  pub bounds_last : count ≤ i + 1 → bounds_of s (record { lower = lower; upper = b.upper }) ≡ child_bounds o (bounds_of s b) (node_at s n).entries i
-  unfolding bounds_of child_bounds
-  bounds_last h = rw (el, le-ltb (suc i) (length (node_at s n).entries) (omega arith))
-
-  pub bounds_inner : (upper : Option Bound) → i + 1 < count → bound_of s upper
+  pub bounds_inner : (upper : Option Bound) → (count - 1 ≤ i → ⊥) → bound_of s upper
       ≡ tighter_upper o (bound_of s b.upper) (key_at (node_at s n).entries (i + 1))
       → bounds_of s (record { lower = lower; upper = upper }) ≡ child_bounds o (bounds_of s b) (node_at s n).entries i
   unfolding bounds_of child_bounds
@@ -143,27 +138,15 @@ module _ (s : State) (b : Bounds) (o n i count : ℕ) (lower : Option Bound) (ec
       let z : i + 1 ≡ suc i = omega arith in
       rw (el, eu, z, lt-ltb (suc i) (length (node_at s n).entries) (omega arith))
 
+pub ruleset inner_bounds = (bounds_last, bounds_inner)
+
 -- ---- a block read
 
-bounded_is : (s : State) (b : Option Bound) → is_some b ≡ eqb (length (bound_of s b)) 1
-unfolding bound_of
-bounded_is s None = refl
-bounded_is s (Some x) = refl
-
-abbrev placed : State → ℕ → ℕ → Bool → Place
-placed s r level z = record { root = false; oid = r; parent = level; ksize = s.info.key_size; vsize = s.info.val_size; bounded = z }
-
-pub place_is : (s : State) (b : Bounds) (r level : ℕ) (bounded : Bool) → bounded ≡ is_some b.upper
-    → record { root = false; oid = r; parent = level; ksize = s.info.key_size; vsize = s.info.val_size; bounded = bounded }
-    ≡ child_place s.info.key_size s.info.val_size (bounds_of s b) level r
-unfolding child_place bounds_of
-place_is s b r level bounded e = ap (placed s r level) (e ∙ bounded_is s b.upper)
-
-module _ (image : List ℕ) (l : Lent) (t : Tree) (heads bytes : List ℕ) (b : Bounds) (n r a level : ℕ) (bounded : Bool) (x : std.Result Node Refusal)
-    (lo up : List ℕ)
+module _ (image : List ℕ) (l : Lent) (t : Tree) (heads bytes : List ℕ) (b : Bounds Bound) (n r a level : ℕ) (x : std.Result Node Refusal)
+    (lo up : Option (Bor (List ℕ)))
     (ev : level ≡ (node_at (state_of l.size t heads bytes) n).level)
-    (el : lo ≡ bound_key (bound_of (state_of l.size t heads bytes) b.lower))
-    (eu : up ≡ bound_key (bound_of (state_of l.size t heads bytes) b.upper)) (eo : bounded ≡ is_some b.upper)
+    (el : edge_of lo ≡ bound_of (state_of l.size t heads bytes) b.lower)
+    (eu : edge_of up ≡ bound_of (state_of l.size t heads bytes) b.upper)
     (e : read_of (lent.block_at (lent_of image l) a) x ≡ load_at (lent_of image l) t.order
     (record {
       root = false;
@@ -171,14 +154,12 @@ module _ (image : List ℕ) (l : Lent) (t : Tree) (heads bytes : List ℕ) (b : 
       parent = level;
       ksize = t.info.key_size;
       vsize = t.info.val_size;
-      bounded = bounded;
-    }) lo up a) where
+      bounded = is_some up;
+    }) (lent_key lo) (lent_key up) a) where
   pub read_child_lem : read_of (lent.block_at (lent_of image l) a) x ≡ read_child (lent_of image l) (state_of l.size t heads bytes)
       (bounds_of (state_of l.size t heads bytes) b) n r a
-  unfolding read_child load_block load_at bounds_of state_of
-  read_child_lem =
-      rw (← ev, ← el, ← eu) (e ∙ ap (λ (p : Place). load_at (lent_of image l) t.order p lo up a)
-      (place_is (state_of l.size t heads bytes) b r level bounded eo))
+  unfolding read_child load_block load_at child_place bounds_of state_of
+  read_child_lem = rw (← ev, ← el, ← eu, ← edge_key lo, ← edge_key up, ← edge_bounded up) e
 
 -- ---- a child that is on disk
 
@@ -213,7 +194,7 @@ module _ (size : ℕ) (t : Tree) (heads bytes : List ℕ) (n i r : ℕ)
 
 -- ---- read, then brought
 
-module _ (image : List ℕ) (l : Lent) (t : Tree) (heads bytes : List ℕ) (b : Bounds) (n i r a : ℕ) (x : std.Result Node Refusal)
+module _ (image : List ℕ) (l : Lent) (t : Tree) (heads bytes : List ℕ) (b : Bounds Bound) (n i r a : ℕ) (x : std.Result Node Refusal)
     (e : read_of (lent.block_at (lent_of image l) a) x ≡ read_child (lent_of image l) (state_of l.size t heads bytes)
     (bounds_of (state_of l.size t heads bytes) b) n r a) where
   abbrev s : State
@@ -239,7 +220,7 @@ module _ (image : List ℕ) (l : Lent) (t : Tree) (heads bytes : List ℕ) (b : 
     unfolding read_child load_block load_at
     at_load = e
 
-    pub fetch_in : a < length image / l.size
+    fetch_in : a < length image / l.size
     fetch_in = load_inside image l s.order a place (bound_key cs.lower) (bound_key cs.upper) x v at_load ex
 
     module _ (m : l.size ≤ 65536) (block : List ℕ) (eb : block ≡ window (a * l.size) l.size image) where
@@ -248,9 +229,6 @@ module _ (image : List ℕ) (l : Lent) (t : Tree) (heads bytes : List ℕ) (b : 
 
       pub fetch_long : length block ≡ l.size
       fetch_long = block_long image l.size a fetch_in block eb
-
-      pub fetch_sound : Sound v block
-      fetch_sound = rw eb accepts.sound
 
       pub fetch_space : spans_length v block 0 v.nkeys ≤ 65532
       unfolding data_space child_place
@@ -268,7 +246,7 @@ module _ (image : List ℕ) (l : Lent) (t : Tree) (heads bytes : List ℕ) (b : 
 
 -- ---- a child loaded
 
-module _ (image : List ℕ) (l : Lent) (t : Tree) (heads bytes : List ℕ) (b : Bounds) (n i : ℕ) (x : Option Child)
+module _ (image : List ℕ) (l : Lent) (t : Tree) (heads bytes : List ℕ) (b : Bounds Bound) (n i : ℕ) (x : Option Child)
     (e : x ≡ child_of (val_at (node_at (state_of l.size t heads bytes) n).entries i)) where
   abbrev st : State
   st = state_of l.size t heads bytes
@@ -330,7 +308,7 @@ module _ (image : List ℕ) (l : Lent) (t : Tree) (heads bytes : List ℕ) (b : 
       unfolding state_of
       found = sym ef
 
-      order_is : (inner : Bounds) → bounds_of st inner ≡ child_bounds t.order bs (node_at st n).entries i → bounds_of st inner ≡ child_bounds
+      order_is : (inner : Bounds Bound) → bounds_of st inner ≡ child_bounds t.order bs (node_at st n).entries i → bounds_of st inner ≡ child_bounds
           st.order bs (node_at st n).entries i
       unfolding state_of
       order_is inner ei = ei
@@ -340,7 +318,7 @@ module _ (image : List ℕ) (l : Lent) (t : Tree) (heads bytes : List ℕ) (b : 
       unfolding load_child loaded_of address_at
       load_unmapped k g = sym (rw (is_there_lem, free, found, g))
 
-      pub load_fetched : (a : ℕ) (inner : Bounds) → f ≡ Ok a → bounds_of (state_of l.size t heads bytes) inner ≡ child_bounds t.order
+      pub load_fetched : (a : ℕ) (inner : Bounds Bound) → f ≡ Ok a → bounds_of (state_of l.size t heads bytes) inner ≡ child_bounds t.order
           (bounds_of (state_of l.size t heads bytes) b) (node_at (state_of l.size t heads bytes) n).entries i
           → (y : Result At) → y ≡ fetched_at (lent_of image l) (state_of l.size t heads bytes)
           (bounds_of (state_of l.size t heads bytes) inner) n i r a
@@ -349,3 +327,11 @@ module _ (image : List ℕ) (l : Lent) (t : Tree) (heads bytes : List ℕ) (b : 
       load_fetched a inner g ei y ey =
           let w : bounds_of st inner ≡ child_bounds st.order bs (node_at st n).entries i = order_is inner ei in
           sym (rw (is_there_lem, free, found, g, ← w) (sym ey))
+
+-- ---- what the code takes of these
+
+pub ruleset fetching =
+    (node_read, node_refused, handed_on, IfOk-at_ok, disk_slot, disk_entry, disk_child, fetch_refused, fetch_long, fetch_space, fetch_loaded)
+
+pub ruleset loading =
+    (handed_on, load_none, load_mem, load_disk, load_full, load_unmapped, load_fetched)

@@ -1,41 +1,36 @@
 -- Laws of a way whose children are loaded: where it ends, and that load leaves the state as it was on it. Assumes nothing.
-use Rattle.std.specs.Prelude.{◌≡◌, Bool, false, not, length, set, drop}
+use Rattle.std.specs.Prelude.{◌≡◌, Bool, length, set, drop}
 use Rattle.std.proofs.Math.Path.{refl, sym, ap}
+use Rattle.std.proofs.Math.Bool.{true}
 use Rattle.std.proofs.Common.{subst, ◌∙◌, get_or-drop}
 use mathlib.Core.List.{List, [], ◌∷◌}
 use Prim.Native.Nat.{ℕ, zero, suc, ◌+◌, ◌-◌, ◌≤◌, ◌<◌}
 use native.Mathlib.Omega.{arith}
 use Rattle.std.proofs.Math.ListN.{get_or}
-use borrow.Author.Tests.{not-false}
 use Rattle.node.specs.Result.{Result, ok, ◌>>=◌}
 use Rattle.node.specs.Order.{keyed_length, keyed}
 use Rattle.node.specs.Entry.{Entry, Val, ghost, leaf, disk, mem}
 use Rattle.node.specs.Find.{val_at, way_index, last_not_above}
 use Rattle.node.specs.Records.{record_length, records_length, entry_of, entries_of}
-use Rattle.node.specs.Slot.{head_at}
 use Rattle.node.specs.internal.SlotSteps.{last_in}
 use Rattle.node.specs.laws.order.Found.{above_le}
 use Rattle.node.specs.laws.slot.Records.{entries_head, length_entries}
 use Rattle.node.specs.laws.slot.Slot.{at_lies}
-use Rattle.node.specs.declared.head.Head.{Head}
 use Rattle.node.specs.declared.slot.Last.{Last}
 use Rattle.tree.specs.Lent.{Lent}
 use Rattle.tree.specs.State.{State, node_at}
-use Rattle.tree.specs.Workspace.{slot_bytes, state_of}
+use Rattle.tree.specs.Workspace.{state_of}
 use Rattle.tree.specs.Load as load
 use Rattle.tree.specs.Lookup as lookup
-use Rattle.tree.specs.internal.Bank.{node_in, live}
 use Rattle.tree.specs.internal.Kids.{slots_of, kid_means}
 use Rattle.tree.specs.internal.Way.{steps_of, onto, way_of}
-use Rattle.tree.specs.internal.Loaded.{TakenOf, LeadsTo, Leading, LeadsIn, LeafIs, Onward, Walked}
-use Rattle.tree.specs.laws.slots.Bank.{live_entries}
-use Rattle.tree.specs.laws.slots.Tree.{node_in_lem}
+use Rattle.tree.specs.internal.Loaded.{TakenOf, LeadsTo, LedTo, Leading, LedLeaf, LeafIs, Onward, Walked}
 use Rattle.tree.specs.laws.load.Way.{onto_above, onto_none, steps_next, way_end}
 use Rattle.tree.specs.declared.editor.Tree.{Tree}
-use Rattle.tree.specs.declared.kids.Kid.{Kid}
 use Rattle.tree.specs.declared.loaded.Taken.{Taken}
 use Rattle.std.specs.Prelude.{Ok, Some, None, Option}
 use Rattle.tree.specs.declared.way.Way.{Way}
+use Rattle.tree.specs.declared.way.Step as code
 
 -- ---- the entry taken
 
@@ -46,7 +41,7 @@ one_slot (leaf v) c e = let y : ◌≡◌ {A = ℕ} 1 0 = ap length e in absurd 
 one_slot (disk r) c e = let y : ◌≡◌ {A = ℕ} 1 0 = ap length e in absurd (omega arith)
 one_slot (mem x) c e = ap mem (sym (ap (λ (y : List ℕ). get_or y 0 0) e))
 
-kid_slot : (kid : Kid) (c : ℕ) (v : Val) → kid_means kid ≡ slots_of v → kid.slot ≡ Some c → v ≡ mem c
+kid_slot : (kid : Option ℕ) (c : ℕ) (v : Val) → kid_means kid ≡ slots_of v → kid ≡ Some c → v ≡ mem c
 unfolding kid_means
 kid_slot kid c v e h = one_slot v c (sym (rw h) ∙ e)
 
@@ -83,68 +78,47 @@ module _ (o : ℕ) (k l : List ℕ) (n : ℕ) where
         (sym (ap (λ (j : ℕ). get_or (entries_of n l) j b) w) ∙ sym (get_or-drop i (entries_of n l) 0 b)
         ∙ ap (λ (y : List Entry). get_or y 0 b) (entries_head i n x.at l inside taken_at))
 
-    pub taken_is : (i : ℕ) → i ≡ x.count - 1 → (kid : Kid) → kid_means kid ≡ slots_of (entry_of (drop x.at l)).value
-        → (c : ℕ) → kid.slot ≡ Some c → TakenOf o k (entries_of n l) (Some (record { index = i; slot = c }))
+    pub taken_is : (i : ℕ) → i ≡ x.count - 1 → (v : Val) → v ≡ (entry_of (drop x.at l)).value → (kid : Option ℕ)
+        → kid_means kid ≡ slots_of v → (c : ℕ) → kid ≡ Some c → TakenOf o k (entries_of n l) (Some (record { index = i; slot = c }))
     unfolding last_in way_index
-    taken_is i ei kid ek c ec =
+    taken_is i ei v ev kid ek c ec =
         record {
           index = λ t q. ap (λ (y : Taken). y.index) (sym (one_value _ _ q)) ∙ ei ∙ rw ex;
-          child = λ t q. value_is ∙ kid_slot kid c (entry_of (drop x.at l)).value ek ec ∙ ap (λ (y : Taken). mem y.slot) (one_value _ _ q);
+          child = λ t q. value_is ∙ sym ev ∙ kid_slot kid c v ek ec ∙ ap (λ (y : Taken). mem y.slot) (one_value _ _ q);
         }
-
-module _ (size : ℕ) (t : Tree) (heads bytes key : List ℕ) (n : ℕ) where
-  pub taken_out : TakenOf t.order key (node_at (state_of size t heads bytes) n).entries None
-  taken_out = record { index = λ u q. absurd (no_value u q); child = λ u q. absurd (no_value u q) }
-
-  pub taken_of : n < t.used → (h : Head) → h ≡ live (head_at heads n) → (l : List ℕ) → l ≡ slot_bytes size bytes n → (r : Option Taken)
-      → TakenOf t.order key (entries_of h.count l) r → TakenOf t.order key (node_at (state_of size t heads bytes) n).entries r
-  unfolding node_in
-  taken_of hn h eh l el r q =
-      rw (node_in_lem size t heads bytes n hn, live_entries (head_at heads n) (slot_bytes size bytes n), ← eh, ← el) q
 
 -- ---- the leaf
 
-module _ (size : ℕ) (t : Tree) (heads bytes : List ℕ) (level : ℕ) (key : List ℕ) where
-  abbrev s : State
-  s = state_of size t heads bytes
-
-  pub leading_start : Leading (state_of size t heads bytes) level key (level - 0) t.root
-  unfolding state_of
-  leading_start =
-      let e : level - 0 ≡ level = omega arith in
-      record { on = λ m h. subst (λ (j : ℕ). LeadsTo j s key m s.root) e h }
-
-  pub leading_turn : (i n : ℕ) → i < level → Leading (state_of size t heads bytes) level key (level - i) n → (r : Option Taken)
-      → TakenOf t.order key (node_at (state_of size t heads bytes) n).entries r → (x : Taken) → r ≡ Some x
-      → Leading (state_of size t heads bytes) level key (level - (i + 1)) x.slot
-  unfolding state_of
-  leading_turn i n hi g r q x u =
+module _ (P : ℕ → Taken → Type 0) (level root : ℕ) where
+  pub leading_turn : (i n : ℕ) → i < level → Leading P level root (level - i) n → (x : Taken) → P n x
+      → Leading P level root (level - (i + 1)) x.slot
+  leading_turn i n hi g x p =
       let e : suc (level - (i + 1)) ≡ level - i = omega arith in
-      record {
-        on = λ m h. g.on m (subst (λ (j : ℕ). LeadsTo j s key m n) e (record { slot = x.slot; child = q.child x u; below = h }));
-      }
+      record { on = λ m h. g.on m (subst (λ (j : ℕ). LedTo P j m n) e (record { taken = x; on = p; below = h })) }
 
-  pub leads_none : LeadsIn t.used level (state_of size t heads bytes) key None
-  leads_none = record { within = λ m q. absurd (no_value m q); leads = λ m q. absurd (no_value m q) }
-
-  pub leads_end : (i n : ℕ) → level ≤ i → Leading (state_of size t heads bytes) level key (level - i) n → n < t.used
-      → LeadsIn t.used level (state_of size t heads bytes) key (Some n)
-  leads_end i n hi g hn =
+module _ (P : ℕ → Taken → Type 0) (size : ℕ) (t : Tree) (heads bytes key : List ℕ) where
+  pub led_end : (k : Bool) → k ≡ keyed_length t.order (length key) → k ≡ true → (level : ℕ)
+      → level ≡ (node_at (state_of size t heads bytes) t.root).level → (i n : ℕ) → level ≤ i → Leading P level t.root (level - i) n → n < t.used
+      → LedLeaf P t.used (state_of size t heads bytes) key (Some n)
+  unfolding state_of keyed
+  led_end k ek u level ev i n hi g hn =
       let e : 0 ≡ level - i = omega arith in
-      let on : LeadsTo level s key n s.root = g.on n (subst (λ (j : ℕ). LeadsTo j s key n n) e refl) in
+      let on : LedTo P level n t.root = g.on n (subst (λ (j : ℕ). LedTo P j n n) e refl) in
       record {
         within = λ m q. let z : n ≡ m = one_value n m q in omega arith;
-        leads = λ m q. subst (λ (j : ℕ). LeadsTo level s key j s.root) (one_value n m q) on;
+        keys = λ m q. sym ek ∙ u;
+        leads = λ m q. rw (← ev) (subst (λ (j : ℕ). LedTo P level j t.root) (one_value n m q) on);
       }
 
-module _ (size : ℕ) (t : Tree) (heads bytes key : List ℕ) (k : Bool) (ek : k ≡ keyed_length t.order (length key)) where
-  pub leaf_none : LeafIs t.used (state_of size t heads bytes) key None
-  leaf_none = record { within = λ m q. absurd (no_value m q); keys = λ m q. absurd (no_value m q); leads = λ m q. absurd (no_value m q) }
+module _ (P : ℕ → Taken → Type 0) (used : ℕ) (s : State) (key : List ℕ)
+    (f : (n : ℕ) (x : Taken) → P n x → TakenOf s.order key (node_at s n).entries (Some x)) where
+  led_loaded : (d m n : ℕ) → LedTo P d m n → LeadsTo d s key m n
+  led_loaded zero m n h = h
+  led_loaded (suc d) m n h =
+      record { slot = h.taken.slot; child = (f n h.taken h.on).child h.taken refl; below = led_loaded d m h.taken.slot h.below }
 
-  pub leaf_is : not k ≡ false → (level : ℕ) → level ≡ (node_at (state_of size t heads bytes) t.root).level → (r : Option ℕ)
-      → LeadsIn t.used level (state_of size t heads bytes) key r → LeafIs t.used (state_of size t heads bytes) key r
-  unfolding state_of keyed
-  leaf_is u level ev r q = record { within = q.within; keys = λ m h. sym ek ∙ not-false k u; leads = λ m h. rw (← ev) (q.leads m h) }
+  pub leaf_is : (r : Option ℕ) → LedLeaf P used s key r → LeafIs used s key r
+  leaf_is r q = record { within = q.within; keys = q.keys; leads = λ m h. led_loaded (node_at s s.root).level m s.root (q.leads m h) }
 
 -- ---- load on it
 
@@ -197,9 +171,9 @@ leads_floor (suc d) l s bs k m n e h q =
 -- ---- the way
 
 module _ (size : ℕ) (t : Tree) (heads bytes : List ℕ) (level : ℕ) (key : List ℕ) where
-  pub onward_start : (way kids : List ℕ) → Onward (state_of size t heads bytes) level key (steps_of way kids 0) (level - 0) t.root
+  pub onward_start : (way : List code.Step) → Onward (state_of size t heads bytes) level key (steps_of way 0) (level - 0) t.root
   unfolding steps_of state_of
-  onward_start way kids =
+  onward_start way =
       let e : level - 0 ≡ level = omega arith in
       record {
         bounds = load.unbounded;
@@ -207,11 +181,12 @@ module _ (size : ℕ) (t : Tree) (heads bytes : List ℕ) (level : ℕ) (key : L
             t.root key));
       }
 
-  module _ (way kids : List ℕ) (j n : ℕ) (g : Onward (state_of size t heads bytes) level key (steps_of way kids j) (level - j) n)
-      (hw : j < length way) (hk : j < length kids) where
+  module _ (way : List code.Step) (j n : ℕ) (g : Onward (state_of size t heads bytes) level key (steps_of way j) (level - j) n)
+      (hw : j < length way) where
     pub onward_turn : j < level → (r : Option Taken) → TakenOf t.order key (node_at (state_of size t heads bytes) n).entries r
         → (x : Taken) → r ≡ Some x
-        → Onward (state_of size t heads bytes) level key (steps_of (set way j n) (set kids j x.index) (j + 1)) (level - (j + 1)) x.slot
+        → Onward (state_of size t heads bytes) level key (steps_of (set way j (record { slot = n; child = x.index })) (j + 1))
+        (level - (j + 1)) x.slot
     unfolding state_of
     onward_turn hj r q x u =
         let s : State = state_of size t heads bytes in
@@ -221,25 +196,25 @@ module _ (size : ℕ) (t : Tree) (heads bytes : List ℕ) (level : ℕ) (key : L
         let cs : load.Bounds = load.child_bounds s.order g.bounds (node_at s n).entries i in
         record {
           bounds = cs;
-          whole = λ l. rw (steps_next way kids j n x.index hw hk, q.index x u)
-              (sym (onto_above (steps_of way kids j) n i (lookup.way_from d l s cs x.slot key))
-              ∙ ap (onto (steps_of way kids j)) (sym (loaded_down d l s g.bounds n x.slot key (q.child x u)))
-              ∙ ap (λ (m : ℕ). onto (steps_of way kids j) (lookup.way_from m l s g.bounds n key)) (sym e) ∙ g.whole l);
+          whole = λ l. rw (steps_next way j n x.index hw, q.index x u)
+              (sym (onto_above (steps_of way j) n i (lookup.way_from d l s cs x.slot key))
+              ∙ ap (onto (steps_of way j)) (sym (loaded_down d l s g.bounds n x.slot key (q.child x u)))
+              ∙ ap (λ (m : ℕ). onto (steps_of way j) (lookup.way_from m l s g.bounds n key)) (sym e) ∙ g.whole l);
         }
 
-  pub walked_end : (way kids : List ℕ) (j n : ℕ) → j ≡ level
-      → Onward (state_of size t heads bytes) level key (steps_of way kids j) (level - j) n → level < length way → level < length kids
+  pub walked_end : (way : List code.Step) (j n : ℕ) → j ≡ level
+      → Onward (state_of size t heads bytes) level key (steps_of way j) (level - j) n → level < length way
       → Walked size t heads bytes level key
-      (Some (record { tree = t; steps = level + 1; slots = set way level n; kids = set kids level 0 }))
+      (Some (record { tree = t; count = level + 1; steps = set way level (record { slot = n; child = 0 }) }))
   unfolding state_of
-  walked_end way kids j n z g₀ hw hk =
-      let g : Onward (state_of size t heads bytes) level key (steps_of way kids level) (level - level) n = rw z at g₀ in
+  walked_end way j n z g₀ hw =
+      let g : Onward (state_of size t heads bytes) level key (steps_of way level) (level - level) n = rw z at g₀ in
       let hd : level - level ≤ 0 = omega arith in
-      let w : Way = record { tree = t; steps = level + 1; slots = set way level n; kids = set kids level 0 } in
+      let w : Way = record { tree = t; count = level + 1; steps = set way level (record { slot = n; child = 0 }) } in
       let arrived : (l : Lent) → way_of size heads bytes (Ok w)
       ≡ lookup.way_from level l (state_of size t heads bytes) load.unbounded t.root key =
-      λ l. way_end l size t heads bytes g.bounds n (level - level) level key way kids
-      (lookup.way_from level l (state_of size t heads bytes) load.unbounded t.root key) hd hw hk (g.whole l) in
+      λ l. way_end l size t heads bytes g.bounds n (level - level) level key way
+      (lookup.way_from level l (state_of size t heads bytes) load.unbounded t.root key) hd hw (g.whole l) in
       record {
         same = λ v q. ap (λ (y : Way). y.tree) (sym (one_value _ _ q));
         arrives = λ v q l. subst (λ (y : Way). way_of size heads bytes (Ok y) ≡ lookup.way_from level l (state_of size t heads bytes)

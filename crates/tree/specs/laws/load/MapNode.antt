@@ -1,44 +1,47 @@
--- Laws of the object map's nodes, read in the image: keys, numbers, bounds. Assumes nothing.
+-- Laws of the object map's nodes: keys, numbers, entries, bounds. Assumes nothing.
+use Rattle.std.specs.Borrow.{Bor}
 use Rattle.node.specs.laws.base.Bytes.{Bytes, bytes_window}
-use Rattle.std.specs.Prelude.{◌≡◌, refl, Bool, cond, length, get_or, take, drop}
+use Rattle.std.specs.Prelude.{◌≡◌, refl, Bool, cond, ltb, length, get_or, take, drop}
 use Rattle.std.proofs.Math.Path.{sym, ap}
-use Rattle.std.proofs.Common.{subst, ◌∙◌, zero-add, mul-le-mul_right, mul_comm}
+use Rattle.std.proofs.Common.{◌∙◌, zero-add, drop-cons, mul-le-mul_right, mul_comm}
 use mathlib.Core.List.{List, [], ◌∷◌}
 use Rattle.std.proofs.Math.Bool.{true, false}
 use Prim.Native.Nat.{ℕ, suc, ◌+◌, ◌-◌, ◌*◌, ◌/◌, ◌%◌, ◌≤◌, ◌<◌}
 use native.Mathlib.Omega.{arith}
 use Rattle.std.proofs.Math.Nat.{mod-add-div}
-use Rattle.std.proofs.Math.ListN.{get_or-eq_default}
+use Rattle.std.proofs.Math.ListN.{get_or-eq_default, length-take, drop_of_length-le}
+use Rattle.std.proofs.Math.Seq.{get_or-take}
+use Rattle.std.proofs.Math.Dec.{eqb}
 use borrow.Author.Tests.{le-ltb, lt-ltb}
-use Rattle.node.specs.Bytes.{window}
-use Rattle.node.specs.laws.base.Seal.{length_window, window_window}
+use Rattle.node.specs.Bytes.{window, u64_at}
+use Rattle.node.specs.laws.base.Seal.{length_window}
 use Rattle.node.specs.Order.{pair, less}
-use Rattle.node.specs.Entry.{Entry, ghost}
-use Rattle.node.specs.Find.{key_at, val_at, not_above}
-use Rattle.node.specs.Read.{read_node, read_of, span_at, entry_at, entries_from}
-use Rattle.node.specs.internal.ReadSteps.{Laid, Sound}
-use Rattle.node.specs.Slot.{value_means, child_means}
-use Rattle.node.specs.laws.read.Read.{part_window}
-use Rattle.node.specs.laws.read.Keys.{sound_key, key_of as span_key}
+use Rattle.node.specs.Entry.{Entry, ghost, leaf, disk, value_length}
+use Rattle.node.specs.Find.{key_at, val_at}
+use Rattle.node.specs.Read.{read_node, read_of, is_fixed, is_ghost, span_at, value_at, on_disk, entry_at, entries_from}
+use Rattle.node.specs.Slot.{value_means}
+use Rattle.node.specs.laws.base.Tests.{by_test, never}
+use Rattle.node.specs.laws.read.Read.{part_window, is_fixed_true, value_counts}
+use Rattle.node.specs.laws.read.Keys.{sound_key, sound_span, value_of_lem, key_of as span_key}
 use Rattle.node.specs.laws.read.Accepted.{at_from}
 use Rattle.node.specs.declared.read.Node.{Node}
 use Rattle.node.specs.declared.read.Span.{Span}
-use Rattle.node.specs.declared.read.Place.{Place}
+use Rattle.node.specs.Place.{Place, lent_key}
 use Rattle.node.specs.declared.val.Val as Held
 use Rattle.node.specs.declared.val.Val.TheVariants as held
-use Rattle.node.specs.declared.val.Child as Child
-use Rattle.node.specs.declared.val.Child.TheVariants as child
 use Rattle.node.specs.laws.read.Loaded.{entries_length}
 use Rattle.tree.specs.Lent as lent
 use Rattle.tree.specs.Lent.{lent_of}
 use Rattle.tree.specs.Load.{bound_key, disk_number, tighter_lower, tighter_upper, child_bounds}
-use Rattle.tree.specs.internal.Map.{load_at, edge_of, edges_of, key_of, KeyIn, EdgeIn, MapSound, map_entries}
+use Rattle.tree.specs.internal.Tree.{edge_of, edges_of}
+use Rattle.tree.specs.internal.Mapped.{leaf_length}
+use Rattle.tree.specs.internal.Map.{load_at, map_read, found_of}
+use Rattle.tree.specs.declared.editor.Bounds.{Bounds}
 use Rattle.tree.specs.declared.lent.Lent.{Lent}
-use Rattle.tree.specs.declared.map.MapNode.{MapNode}
-use Rattle.tree.specs.declared.map.Edge.{Edge}
-use Rattle.tree.specs.declared.map.Edges.{Edges}
+use Rattle.tree.specs.declared.mapped.MapNode.{MapNode}
+use Rattle.tree.specs.declared.mapped.Mapped.{Mapped}
 use Rattle.std.specs.Prelude as std
-use Rattle.std.specs.Prelude.{Err, Some, None, Option}
+use Rattle.std.specs.Prelude.{Ok, Err, OnOk, Some, None, Option, IsTrue, MatchOption, is_some}
 use Rattle.node.specs.declared.refusal.Refusal.{Refusal}
 use Rattle.node.specs.declared.refusal.Refusal.TheVariants as is
 
@@ -73,6 +76,10 @@ module _ (image : List ℕ) (size a : ℕ) (h : a < length image / size) (b : Li
   pub block_most : size ≤ 65536 → length b ≤ 65536
   block_most m = omega (arith, block_long)
 
+pub at_each : {R P : Type 0} (x : std.Result R Refusal) → P → OnOk x P
+at_each (Ok r) h = h
+at_each (Err k) h = tt
+
 module _ (image : List ℕ) (l : Lent) (o a : ℕ) (p : Place) (lower upper : List ℕ) where
   pub load_out : length image / l.size ≤ a → read_of (lent.block_at (lent_of image l) a) (Err is.Address)
       ≡ load_at (lent_of image l) o p lower upper a
@@ -85,194 +92,196 @@ module _ (image : List ℕ) (l : Lent) (o a : ℕ) (p : Place) (lower upper : Li
   unfolding load_at lent.in_image lent.blocks lent.block_at lent_of
   load_in x b h eb e = rw (lt-ltb a (length image / l.size) h, ← eb) e
 
--- ---- the key of a bound
-
-module _ (image : List ℕ) (b : Option Edge) where
-  pub edge_none : b ≡ None → [] ≡ bound_key (edge_of image b)
-  unfolding bound_key edge_of
-  edge_none h = rw h
-
-  module _ (e : Edge) (h : b ≡ Some e) where
-    pub edge_some : (k : List ℕ) → k ≡ key_of image e → k ≡ bound_key (edge_of image b)
-    unfolding bound_key edge_of
-    edge_some k q = q ∙ sym (rw h)
-
-    pub edge_some_in : EdgeIn image b → KeyIn image e
-    edge_some_in q = subst (EdgeIn image) h q
-
-pub key_part : (image : List ℕ) (e : Edge) → take (e.at + e.len - e.at) (drop e.at image) ≡ key_of image e
-key_part image e = part_window image e.at e.len
-
 -- ---- an entry
 
-module _ (image : List ℕ) (size : ℕ) (d : MapNode) (i : ℕ) where
-  past : d.node.nkeys ≤ i → record { key = []; value = ghost } ≡ get_or (map_entries image size d) i (record { key = []; value = ghost })
-  unfolding map_entries
+module _ (d : MapNode) (i : ℕ) where
+  past : d.read.node.nkeys ≤ i → record { key = []; value = ghost } ≡ get_or (map_read d).entries i (record { key = []; value = ghost })
+  unfolding map_read on_disk
   past h =
-      sym (get_or-eq_default (entries_from d.node (window (d.at * size) size image) 0 d.node.nkeys) (record { key = []; value = ghost })
-      (omega (arith, entries_length d.node (window (d.at * size) size image) 0 d.node.nkeys)))
+      sym (get_or-eq_default (entries_from d.read.node d.read.block.now 0 d.read.node.nkeys) (record { key = []; value = ghost })
+      (omega (arith, entries_length d.read.node d.read.block.now 0 d.read.node.nkeys)))
 
-  pub edge_past : d.node.nkeys ≤ i → key_of image (record { at = 0; len = 0 }) ≡ key_at (map_entries image size d) i
-  unfolding window key_at
-  edge_past h = ap (λ (x : Entry). x.key) (past h)
+  pub key_past : d.read.node.nkeys ≤ i → [] ≡ key_at (map_read d).entries i
+  unfolding key_at
+  key_past h = ap (λ (x : Entry). x.key) (past h)
 
-  pub edge_past_in : KeyIn image (record { at = 0; len = 0 })
-  edge_past_in = omega arith
-
-  pub number_past : d.node.nkeys ≤ i → 0 ≡ disk_number (val_at (map_entries image size d) i)
+  pub number_past : d.read.node.nkeys ≤ i → 0 ≡ disk_number (val_at (map_read d).entries i)
   unfolding val_at disk_number
   number_past h = ap (λ (x : Entry). disk_number x.value) (past h)
 
-  module _ (m : MapSound image size d) (b : List ℕ) (eb : b ≡ window (d.at * size) size image) where
-    pub map_sound : Sound d.node b
-    map_sound = rw eb m.sound
+  module _ (hi : i < d.read.node.nkeys) where
+    pub entry_is : get_or (map_read d).entries i (record { key = []; value = ghost }) ≡ entry_at d.read.node d.read.block.now i
+    unfolding map_read on_disk
+    entry_is = at_from d.read.node d.read.block.now 0 d.read.node.nkeys i (record { key = []; value = ghost }) hi
+        ∙ ap (entry_at d.read.node d.read.block.now) (zero-add i)
 
-    pub map_laid : Laid d.node (length b)
-    map_laid = map_sound.laid
+    pub entry_key : (k : List ℕ) → k ≡ (entry_at d.read.node d.read.block.now i).key → k ≡ key_at (map_read d).entries i
+    unfolding key_at
+    entry_key k e = e ∙ sym (ap (λ (x : Entry). x.key) entry_is)
 
-    map_room : d.at * size + size ≤ length image
-    map_room = block_room (length image) size d.at m.inside
+    number_of : disk_number (entry_at d.read.node d.read.block.now i).value ≡ disk_number (val_at (map_read d).entries i)
+    unfolding val_at
+    number_of = ap (λ (y : Entry). disk_number y.value) (sym entry_is)
 
-    module _ (hi : i < d.node.nkeys) where
-      entry_is : get_or (map_entries image size d) i (record { key = []; value = ghost }) ≡ entry_at d.node b i
-      unfolding map_entries
-      entry_is = rw eb (at_from d.node (window (d.at * size) size image) 0 d.node.nkeys i (record { key = []; value = ghost }) hi
-          ∙ ap (entry_at d.node (window (d.at * size) size image)) (zero-add i))
+    pub number_leaf : d.read.node.level ≡ 0 → 0 ≡ disk_number (val_at (map_read d).entries i)
+    unfolding entry_at value_at disk_number
+    number_leaf z =
+        let s : Span = span_at d.read.node d.read.block.now i in
+        by_test (is_ghost s) (λ t. rw t) (λ t. rw (t, z)) ∙ number_of
 
-      pub entry_key : (entry_at d.node b i).key ≡ key_at (map_entries image size d) i
-      unfolding key_at
-      entry_key = sym (ap (λ (x : Entry). x.key) entry_is)
+    pub number_disk : (r : ℕ) → (entry_at d.read.node d.read.block.now i).value ≡ disk r → r ≡ disk_number (val_at (map_read d).entries i)
+    unfolding disk_number
+    number_disk r e = ap disk_number (sym e) ∙ number_of
 
-      pub entry_value : (entry_at d.node b i).value ≡ val_at (map_entries image size d) i
-      unfolding val_at
-      entry_value = sym (ap (λ (x : Entry). x.value) entry_is)
+-- ---- the last of the first n entries
 
-      module _ (s : Span) (es : s ≡ span_at d.node b i) where
-        key_inside : s.key + s.klen ≤ size
-        key_inside = omega (arith, sound_key d.node b i s map_sound hi es, block_long image size d.at m.inside b eb)
+pub one_of : (es : List Entry) (i : ℕ) (d : Entry) → i < length es → length es ≤ suc i → drop i es ≡ get_or es i d ∷ []
+one_of es i d h g = drop-cons es i d h ∙ ap (λ (x : List Entry). get_or es i d ∷ x) (drop_of_length-le es g)
 
-        pub edge_room : d.at * size + s.key + s.klen ≤ length image
-        edge_room = omega (arith, key_inside, map_room)
+pub counts : (d : MapNode) → length (map_read d).entries ≡ d.read.node.nkeys
+unfolding map_read on_disk
+counts d = entries_length d.read.node d.read.block.now 0 d.read.node.nkeys
 
-        pub edge_found : key_of image (record { at = d.at * size + s.key; len = s.klen }) ≡ key_at (map_entries image size d) i
-        edge_found =
-            let w : window s.key s.klen b ≡ window (d.at * size + s.key) s.klen image = rw eb
-            (window_window (d.at * size) size image s.key s.klen key_inside) in
-            sym w ∙ span_key d.node b i s es ∙ entry_key
+module _ (d : MapNode) (n : ℕ) where
+  pub none_found : n ≡ 0 → found_of None ≡ drop (n - 1) (take n (map_read d).entries)
+  unfolding found_of
+  none_found z = sym (rw z)
 
-        pub edge_found_in : KeyIn image (record { at = d.at * size + s.key; len = s.klen })
-        edge_found_in = edge_room
+  pub entry_found : n ≤ d.read.node.nkeys → (n ≡ 0 → ⊥) → (m : Mapped) → m.key.now ≡ (entry_at d.read.node d.read.block.now (n - 1)).key
+      → value_means m.value ≡ (entry_at d.read.node d.read.block.now (n - 1)).value
+      → found_of (Some m) ≡ drop (n - 1) (take n (map_read d).entries)
+  unfolding found_of
+  entry_found few h m ek ev =
+      let es : List Entry = (map_read d).entries in
+      let none : Entry = record { key = []; value = ghost } in
+      let c : length (map_read d).entries ≡ d.read.node.nkeys = counts d in
+      let t : length (take n es) ≡ n = length-take n es ∙ omega arith in
+      let g : drop (n - 1) (take n es) ≡ get_or (take n es) (n - 1) none ∷ [] = one_of (take n es) (n - 1) none (omega arith) (omega arith) in
+      let y : get_or (take n es) (n - 1) none ≡ get_or es (n - 1) none = get_or-take n es (n - 1) none (omega arith) in
+      rw (g, y, entry_is d (n - 1) (omega arith), ek, ev)
 
-      module _ (x : Held.Val) (ev : value_means b x ≡ (entry_at d.node b i).value) where
-        pub number_ghost : x ≡ held.Ghost → 0 ≡ disk_number (val_at (map_entries image size d) i)
-        unfolding value_means disk_number
-        number_ghost e = ap (λ (y : Held.Val). disk_number (value_means b y)) (sym e) ∙ ap disk_number (ev ∙ entry_value)
+-- ---- keys and values of fixed lengths: a key has 16 bytes, and a leaf's value
 
-        pub number_leaf : (a n : ℕ) → x ≡ held.Leaf a n → 0 ≡ disk_number (val_at (map_entries image size d) i)
-        unfolding value_means disk_number
-        number_leaf a n e = ap (λ (y : Held.Val). disk_number (value_means b y)) (sym e) ∙ ap disk_number (ev ∙ entry_value)
+module _ (d : MapNode) (i : ℕ) (hi : i < d.read.node.nkeys) where
+  abbrev at_i : Span
+  at_i = span_at d.read.node d.read.block.now i
 
-        pub number_disk : (c : Child.Child) (r : ℕ) → x ≡ held.Child c → c ≡ child.Disk r → r ≡ disk_number (val_at (map_entries image size d) i)
-        unfolding value_means child_means disk_number
-        number_disk c r e f = ap (λ (y : Child.Child). disk_number (child_means y)) (sym f) ∙ ap (λ (y : Held.Val). disk_number (value_means b y))
-            (sym e) ∙ ap disk_number (ev ∙ entry_value)
+  fixed : is_fixed d.read.node ≡ true
+  fixed = is_fixed_true d.read.node (λ z. omega (arith, d.ksize))
 
-        pub number_mem : (c : Child.Child) (r : ℕ) → x ≡ held.Child c → c ≡ child.Mem r → 0 ≡ disk_number (val_at (map_entries image size d) i)
-        unfolding value_means child_means disk_number
-        number_mem c r e f = ap (λ (y : Child.Child). disk_number (child_means y)) (sym f)
-            ∙ ap (λ (y : Held.Val). disk_number (value_means b y)) (sym e)
-            ∙ ap disk_number (ev ∙ entry_value)
+  klen_fixed : at_i.klen ≡ 16
+  unfolding span_at
+  klen_fixed = rw fixed d.ksize
 
--- ---- keys that are not above a key: i of them passed
+  vlen_fixed : eqb d.read.node.level 0 ≡ true → at_i.vlen ≡ 16
+  unfolding span_at
+  vlen_fixed t = rw (fixed, t) d.vsize
 
-module _ (v : Node) (b key : List ℕ) (n i : ℕ) where
-  module _ (inv : i + not_above pair key (entries_from v b i (n - i)) ≡ not_above pair key (entries_from v b 0 n)) where
-    pub above_end : n ≤ i → i ≤ n → n ≡ not_above pair key (entries_from v b 0 n)
-    unfolding entries_from not_above
-    above_end h g =
-        let z : n - i ≡ 0 = omega arith in
-        let y : i + not_above pair key (entries_from v b i 0) ≡ not_above pair key (entries_from v b 0 n) = rw z at inv in
-        omega arith
+  pub key_fixed : (k : List ℕ) → k ≡ (entry_at d.read.node d.read.block.now i).key → length k ≡ 16
+  key_fixed k e =
+      ap length (e ∙ sym (span_key d.read.node d.read.block.now i at_i refl))
+      ∙ length_window at_i.key at_i.klen d.read.block.now (sound_key d.read.node d.read.block.now i at_i d.read.sound hi refl)
+      ∙ klen_fixed
 
-    module _ (hi : i < n) (s : Span) (k : List ℕ) (t : Bool) (es : s ≡ span_at v b i) (ek : k ≡ window s.key s.klen b)
-        (et : t ≡ less pair key k) where
-      one : not_above pair key (entries_from v b i (n - i)) ≡ cond t 0 (suc (not_above pair key (entries_from v b (suc i) (n - suc i))))
-      unfolding entries_from not_above
-      one =
-          let z : n - i ≡ suc (n - suc i) = omega arith in
-          let y : t ≡ less pair key (entry_at v b i).key = et ∙ ap (less pair key) (ek ∙ span_key v b i s es) in
-          rw (z, ← y)
+  module _ (u : List ℕ) (is_leaf : (entry_at d.read.node d.read.block.now i).value ≡ leaf u) where
+    held_leaf : value_at d.read.node d.read.block.now at_i ≡ leaf u
+    held_leaf = value_of_lem d.read.node d.read.block.now i at_i refl ∙ is_leaf
 
-      pub above_here : t ≡ true → i ≡ not_above pair key (entries_from v b 0 n)
-      above_here q = let z : not_above pair key (entries_from v b i (n - i)) ≡ 0 = one ∙ rw q in omega (arith, inv)
+    no_ghost : is_ghost at_i ≡ false
+    unfolding value_at
+    no_ghost = by_test (is_ghost at_i) (λ t. let z : ghost ≡ leaf u = rw t at held_leaf in let y : ◌≡◌ {A = ℕ} 0 1 = cc in absurd
+        (omega arith)) (λ t. t)
 
-      pub above_turn : t ≡ false → i + 1 + not_above pair key (entries_from v b (i + 1) (n - (i + 1))) ≡ not_above pair key (entries_from v b 0 n)
-      above_turn q =
-          let z : not_above pair key (entries_from v b i (n - i)) ≡ suc (not_above pair key (entries_from v b (suc i) (n - suc i))) = one ∙ rw q in
-          let y : i + 1 ≡ suc i = omega arith in
-          rw y (omega (arith, inv, z))
+    at_leaf : eqb d.read.node.level 0 ≡ true
+    unfolding value_at
+    at_leaf =
+        by_test (eqb d.read.node.level 0) (λ t. t)
+        (λ t. let z : disk (u64_at d.read.block.now (d.read.node.vals - at_i.voff)) ≡ leaf u = rw
+        (no_ghost, t) at held_leaf in let y : ◌≡◌ {A = ℕ} 0 1 = cc in absurd (omega arith))
+
+    leaf_long : length u ≡ 16
+    unfolding value_length
+    leaf_long =
+        let z : value_length (value_at d.read.node d.read.block.now at_i) ≡ cond (is_ghost at_i) 0 at_i.vlen = value_counts d.read.node
+        d.read.block.now at_i (sound_span d.read.node d.read.block.now i at_i d.read.sound hi refl) in
+        sym (ap value_length held_leaf) ∙ z ∙ rw no_ghost (vlen_fixed at_leaf)
+
+  pub value_fixed : (x : Held.Val) → value_means x ≡ (entry_at d.read.node d.read.block.now i).value → leaf_length x ≡ 16
+  unfolding leaf_length value_means
+  value_fixed held.Ghost e = refl
+  value_fixed (held.Leaf u) e = leaf_long u.now (sym e)
+  value_fixed (held.Child c) e = refl
 
 -- ---- bounds
 
-module _ (image : List ℕ) (old : Option Edge) (key : Edge) where
-  pub lower_first : old ≡ None → edge_of image (Some key) ≡ tighter_lower pair (edge_of image old) (key_of image key)
+pub edge_key : (b : Option (Bor (List ℕ))) → lent_key b ≡ bound_key (edge_of b)
+unfolding edge_of bound_key
+edge_key None = refl
+edge_key (Some k) = refl
+
+pub edge_bounded : (b : Option (Bor (List ℕ))) → is_some b ≡ eqb (length (edge_of b)) 1
+unfolding edge_of
+edge_bounded None = refl
+edge_bounded (Some k) = refl
+
+module _ (o : ℕ) (k : Bor (List ℕ)) (t : Bool) where
+  pub raised : (b : Option (Bor (List ℕ))) → MatchOption b (IsTrue t) (λ x. t ≡ less o x.now k.now) → t ≡ true
+      → edge_of (Some k) ≡ tighter_lower o (edge_of b) k.now
   unfolding edge_of tighter_lower
-  lower_first h = sym (rw h)
+  raised None m h = refl
+  raised (Some x) m h = rw (← m, h)
 
-  pub upper_first : old ≡ None → edge_of image (Some key) ≡ tighter_upper pair (edge_of image old) (key_of image key)
+  pub kept_lower : (b : Option (Bor (List ℕ))) → MatchOption b (IsTrue t) (λ x. t ≡ less o x.now k.now) → t ≡ false
+      → edge_of b ≡ tighter_lower o (edge_of b) k.now
+  unfolding edge_of tighter_lower
+  kept_lower None m h = never m h
+  kept_lower (Some x) m h = rw (← m, h)
+
+  pub lowered : (b : Option (Bor (List ℕ))) → MatchOption b (IsTrue t) (λ x. t ≡ less o k.now x.now) → t ≡ true
+      → edge_of (Some k) ≡ tighter_upper o (edge_of b) k.now
   unfolding edge_of tighter_upper
-  upper_first h = sym (rw h)
+  lowered None m h = refl
+  lowered (Some x) m h = rw (← m, h)
 
-  module _ (e : Edge) (h : old ≡ Some e) (x y : List ℕ) (t : Bool) (ex : x ≡ key_of image e) (ey : y ≡ key_of image key) where
-    old_is : edge_of image old ≡ x ∷ []
-    unfolding edge_of
-    old_is = rw h (ap (λ (z : List ℕ). z ∷ []) (sym ex))
+  pub kept_upper : (b : Option (Bor (List ℕ))) → MatchOption b (IsTrue t) (λ x. t ≡ less o k.now x.now) → t ≡ false
+      → edge_of b ≡ tighter_upper o (edge_of b) k.now
+  unfolding edge_of tighter_upper
+  kept_upper None m h = never m h
+  kept_upper (Some x) m h = rw (← m, h)
 
-    pub lower_new : t ≡ less pair x y → t ≡ true → edge_of image (Some key) ≡ tighter_lower pair (edge_of image old) (key_of image key)
-    unfolding edge_of tighter_lower
-    lower_new et q = let z : less pair x (key_of image key) ≡ true = rw (← ey) (sym et ∙ q) in sym (rw (old_is, z))
+module _ (d : MapNode) (b : Bounds (Bor (List ℕ))) (i : ℕ) (first : List ℕ) (lower : Option (Bor (List ℕ)))
+    (ef : first ≡ key_at (map_read d).entries i)
+    (el : edge_of lower ≡ tighter_lower pair (edge_of b.lower) first) where
+  lowers : edge_of lower ≡ tighter_lower pair (edge_of b.lower) (key_at (map_read d).entries i)
+  lowers = el ∙ ap (tighter_lower pair (edge_of b.lower)) ef
 
-    pub lower_old : t ≡ less pair x y → t ≡ false → edge_of image old ≡ tighter_lower pair (edge_of image old) (key_of image key)
-    unfolding tighter_lower
-    lower_old et q = let z : less pair x (key_of image key) ≡ false = rw (← ey) (sym et ∙ q) in rw (old_is, z)
-
-    pub upper_new : t ≡ less pair y x → t ≡ true → edge_of image (Some key) ≡ tighter_upper pair (edge_of image old) (key_of image key)
-    unfolding edge_of tighter_upper
-    upper_new et q = let z : less pair (key_of image key) x ≡ true = rw (← ey) (sym et ∙ q) in sym (rw (old_is, z))
-
-    pub upper_old : t ≡ less pair y x → t ≡ false → edge_of image old ≡ tighter_upper pair (edge_of image old) (key_of image key)
-    unfolding tighter_upper
-    upper_old et q = let z : less pair (key_of image key) x ≡ false = rw (← ey) (sym et ∙ q) in rw (old_is, z)
-
-module _ (image : List ℕ) (size : ℕ) (d : MapNode) (b : Edges) (i : ℕ) (first : Edge) (lower : Option Edge)
-    (ef : key_of image first ≡ key_at (map_entries image size d) i)
-    (el : edge_of image lower ≡ tighter_lower pair (edge_of image b.lower) (key_of image first)) where
-  counts : length (map_entries image size d) ≡ d.node.nkeys
-  unfolding map_entries
-  counts = entries_length d.node (window (d.at * size) size image) 0 d.node.nkeys
-
-  lowers : edge_of image lower ≡ tighter_lower pair (edge_of image b.lower) (key_at (map_entries image size d) i)
-  lowers = el ∙ ap (tighter_lower pair (edge_of image b.lower)) ef
-
-  last : length (map_entries image size d) ≤ suc i → edges_of image (record { lower = lower; upper = b.upper }) ≡ child_bounds pair (edges_of image b)
-      (map_entries image size d) i
+  pub bounds_last : d.read.node.nkeys - 1 ≤ i → edges_of (record { lower = lower; upper = b.upper }) ≡ child_bounds pair (edges_of b)
+      (map_read d).entries i
   unfolding edges_of child_bounds
-  last h = rw (lowers, le-ltb (suc i) (length (map_entries image size d)) h)
+  bounds_last h =
+      let t : ltb (suc i) (length (map_read d).entries) ≡ false = le-ltb (suc i) (length (map_read d).entries) (omega (arith, counts d)) in
+      rw (lowers, t)
 
-  pub bounds_past : d.node.nkeys ≤ i → edges_of image (record { lower = lower; upper = b.upper }) ≡ child_bounds pair (edges_of image b)
-      (map_entries image size d) i
-  bounds_past h = last (omega (arith, counts))
-
-  pub bounds_last : d.node.nkeys ≤ i + 1 → edges_of image (record { lower = lower; upper = b.upper }) ≡ child_bounds pair (edges_of image b)
-      (map_entries image size d) i
-  bounds_last h = last (omega (arith, counts))
-
-  pub bounds_inner : (next : Edge) (upper : Option Edge) → i + 1 < d.node.nkeys → key_of image next ≡ key_at (map_entries image size d) (i + 1)
-      → edge_of image upper ≡ tighter_upper pair (edge_of image b.upper) (key_of image next)
-      → edges_of image (record { lower = lower; upper = upper }) ≡ child_bounds pair (edges_of image b) (map_entries image size d) i
+  pub bounds_inner : (next : List ℕ) (upper : Option (Bor (List ℕ))) → (d.read.node.nkeys - 1 ≤ i → ⊥)
+      → next ≡ key_at (map_read d).entries (i + 1) → edge_of upper ≡ tighter_upper pair (edge_of b.upper) next
+      → edges_of (record { lower = lower; upper = upper }) ≡ child_bounds pair (edges_of b) (map_read d).entries i
   unfolding edges_of child_bounds
   bounds_inner next upper h en eu =
       let z : i + 1 ≡ suc i = omega arith in
-      let y : edge_of image upper ≡ tighter_upper pair (edge_of image b.upper) (key_at (map_entries image size d) (i + 1)) =
-      eu ∙ ap (tighter_upper pair (edge_of image b.upper)) en in
-      rw (lowers, y, z, lt-ltb (suc i) (length (map_entries image size d)) (omega (arith, counts)))
+      let y : edge_of upper ≡ tighter_upper pair (edge_of b.upper) (key_at (map_read d).entries (i + 1)) =
+      eu ∙ ap (tighter_upper pair (edge_of b.upper)) en in
+      rw (lowers, y, z, lt-ltb (suc i) (length (map_read d).entries) (omega (arith, counts d)))
+
+pub ruleset in_image = (block_room, part_window)
+
+pub ruleset loads = (block_least, block_most, load_out, load_in, at_each)
+
+pub ruleset tighter = (raised, kept_lower, lowered, kept_upper)
+
+pub ruleset keys = (key_past, entry_key)
+
+pub ruleset numbers = (number_past, number_leaf, number_disk)
+
+pub ruleset entries = (none_found, entry_found, key_fixed, value_fixed)
+
+pub ruleset bounds = (bounds_last, bounds_inner)

@@ -1,24 +1,26 @@
 -- Laws of a tree opened in slots: one for each way out. Assumes nothing.
-use Rattle.std.specs.Prelude.{◌≡◌, List, [], ◌∷◌, not, ◌&&◌, ℕ, ◌+◌, ◌*◌, ◌/◌, ◌%◌, ◌^◌, ◌≤◌, ◌<◌}
+use Rattle.node.specs.laws.read.LoadLine.{node_read, node_refused}
+use Rattle.tree.specs.laws.base.Refused.{handed_on}
+use Rattle.std.proofs.lemmas.Result.{IfOk-at_ok}
+use Rattle.std.specs.Prelude.{◌≡◌, List, [], ◌∷◌, ◌&&◌, ℕ, ◌+◌, ◌*◌, ◌/◌, ◌%◌, ◌^◌, ◌≤◌, ◌<◌}
 use Rattle.std.proofs.Math.Path.{sym, ap}
 use Rattle.std.proofs.Common.{◌∙◌, arith}
 use Rattle.std.proofs.Math.Bool.{Bool, true, false}
 use Rattle.std.proofs.Math.ListN.{length}
 use Rattle.std.proofs.Math.Dec.{leb, eqb}
-use borrow.Author.Tests.{leb-true, eqb-true, not-true, not-false}
+use borrow.Author.Tests.{leb-true, eqb-true}
 use Rattle.node.specs.Bytes.{window}
 use Rattle.node.specs.laws.base.Tests.{by_test, and_split}
 use Rattle.node.specs.Result.{Result, ok, ◌>>=◌, ◌>>◌, check}
 use Rattle.node.specs.Order.{known}
 use Rattle.node.specs.Fit.{data_space}
 use Rattle.node.specs.Read.{on_disk, info_at, read_of, spans_length}
-use Rattle.node.specs.internal.ReadSteps.{Sound}
 use Rattle.node.specs.laws.read.Accepted.{Accepted}
 use Rattle.node.specs.laws.base.Bytes.{Bytes}
 use Rattle.node.specs.Slot.{MemNode}
 use Rattle.node.specs.declared.info.BTreeInfo.{BTreeInfo}
 use Rattle.node.specs.declared.read.Node.{Node}
-use Rattle.node.specs.declared.read.Place.{Place}
+use Rattle.node.specs.Place.{Place}
 use Rattle.tree.specs.Lent as lent
 use Rattle.tree.specs.Lent.{is_size, blocks, sizes_hold, lent_of}
 use Rattle.tree.specs.State.{State}
@@ -36,7 +38,7 @@ use Rattle.tree.specs.laws.refusal1.Sizes.{size_bounds}
 use Rattle.tree.specs.laws.trust.Loads.{trusted_open}
 use Rattle.tree.specs.laws.room.Way.{roomy_open}
 use Rattle.tree.specs.laws.refusal1.Calls.{trusts_hold}
-use Rattle.tree.specs.laws.load.MapNode.{block_long, block_at_lem}
+use Rattle.tree.specs.laws.load.MapNode.{block_info, block_long, block_at_lem}
 use Rattle.tree.specs.laws.load.MapFloor.{load_inside, load_accepts}
 use Rattle.tree.specs.declared.editor.Tree.{Tree}
 use Rattle.tree.specs.declared.lent.Lent.{Lent}
@@ -95,11 +97,11 @@ module _ (image : List ℕ) (l : Lent) (r order xid a : ℕ) (x : std.Result Nod
 
     module _ (by_id t : Bool) (eb : by_id ≡ is_some l.map)
         (et : t ≡ root_holds (lent_of image l) a by_id (on_disk v (lent.block_at (lent_of image l) a))) where
-      pub open_root : (heads bytes : List ℕ) → not t ≡ true → opened_of l.size heads bytes (Err is.Root) ≡ opened_root
+      pub open_root : (heads bytes : List ℕ) → t ≡ false → opened_of l.size heads bytes (Err is.Root) ≡ opened_root
           (lent_of image l) r order xid a
       unfolding opened_of read_of
       open_root heads bytes h =
-          let z : root_holds (lent_of image l) a by_id (on_disk v (lent.block_at (lent_of image l) a)) ≡ false = sym et ∙ not-true t h in
+          let z : root_holds (lent_of image l) a by_id (on_disk v (lent.block_at (lent_of image l) a)) ≡ false = sym et ∙ h in
           sym (root_is ∙ rw (ex, mapped_is image l by_id eb, z))
 
     module _ (m : l.size ≤ 65536) (block : List ℕ) (eb : block ≡ window (a * l.size) l.size image) where
@@ -109,15 +111,12 @@ module _ (image : List ℕ) (l : Lent) (r order xid a : ℕ) (x : std.Result Nod
       pub open_long : length block ≡ l.size
       open_long = block_long image l.size a open_inside block eb
 
-      pub open_sound : Sound v block
-      open_sound = rw eb accepts.sound
-
       pub open_space : spans_length v block 0 v.nkeys ≤ 65532
       unfolding data_space
       open_space = rw eb (omega (arith, accepts.space, open_long, ap length eb))
 
       module _ (by_id t : Bool) (ed : by_id ≡ is_some l.map)
-          (et : t ≡ root_holds (lent_of image l) a by_id (on_disk v (lent.block_at (lent_of image l) a))) (h : not t ≡ false)
+          (et : t ≡ root_holds (lent_of image l) a by_id (on_disk v (lent.block_at (lent_of image l) a))) (h : t ≡ true)
           (info : BTreeInfo) (ei : info ≡ info_at block) (heads bytes heads' bytes' : List ℕ)
           (p : Wrote l.size heads bytes heads' bytes' 0 (adopted by_id a (on_disk v block))) where
         abbrev tree : Tree
@@ -138,7 +137,7 @@ module _ (image : List ℕ) (l : Lent) (r order xid a : ℕ) (x : std.Result Nod
             ≡ opened_root (lent_of image l) r order xid a
         unfolding opened_of read_of
         open_done =
-            let z : root_holds (lent_of image l) a by_id (on_disk v (lent.block_at (lent_of image l) a)) ≡ true = sym et ∙ not-false t h in
+            let z : root_holds (lent_of image l) a by_id (on_disk v (lent.block_at (lent_of image l) a)) ≡ true = sym et ∙ h in
             let w : on_disk v block ≡ on_disk v (lent.block_at (lent_of image l) a) = ap (on_disk v) (eb ∙ block_at_lem image l a) in
             sym (root_is ∙ rw (ex, mapped_is image l by_id ed, z, ← w, state_is))
 
@@ -161,13 +160,13 @@ module _ (image : List ℕ) (l : Lent) (r order xid a : ℕ) (x : std.Result Nod
 -- ---- from 1 on
 
 module _ (image : List ℕ) (l : Lent) (r order xid : ℕ) (heads bytes : List ℕ) (t : Bool) (et : t ≡ sizes_hold (lent_of image l)) where
-  pub open_sizes : not t ≡ true → opened_of l.size heads bytes (Err is.Lent) ≡ opened (lent_of image l) r order xid
+  pub open_sizes : t ≡ false → opened_of l.size heads bytes (Err is.Lent) ≡ opened (lent_of image l) r order xid
   unfolding opened_of opened
-  open_sizes h = sym (rw (← et, not-true t h))
+  open_sizes h = sym (rw (← et, h))
 
-  module _ (h : not t ≡ false) where
+  module _ (h : t ≡ true) where
     holds : sizes_hold (lent_of image l) ≡ true
-    holds = sym et ∙ not-false t h
+    holds = sym et ∙ h
 
     split : (is_size l.size ≡ true) × (1 ≤ l.slots) × (l.slots ≤ 4096)
     unfolding sizes_hold lent_of
@@ -197,14 +196,14 @@ module _ (image : List ℕ) (l : Lent) (r order xid : ℕ) (heads bytes : List �
     open_many = split.2
 
     module _ (u : Bool) (eu : u ≡ known order) where
-      pub open_order : not u ≡ true → opened_of l.size heads bytes (Err is.Lent) ≡ opened (lent_of image l) r order xid
+      pub open_order : u ≡ false → opened_of l.size heads bytes (Err is.Lent) ≡ opened (lent_of image l) r order xid
       unfolding opened_of opened
-      open_order n = sym (rw (holds, ← eu, not-true u n))
+      open_order n = sym (rw (holds, ← eu, n))
 
-      module _ (n : not u ≡ false) (f : std.Result ℕ Refusal) (ef : address_at f ≡ address_of (lent_of image l) xid r) where
+      module _ (n : u ≡ true) (f : std.Result ℕ Refusal) (ef : address_at f ≡ address_of (lent_of image l) xid r) where
         opened_is : opened (lent_of image l) r order xid ≡ (address_at f >>= opened_root (lent_of image l) r order xid)
         unfolding opened opened_root
-        opened_is = rw (holds, ← eu, not-false u n, map_few image l, ← ef)
+        opened_is = rw (holds, ← eu, n, map_few image l, ← ef)
 
         pub open_unmapped : (k : Refusal) → f ≡ Err k → opened_of l.size heads bytes (Err k) ≡ opened (lent_of image l) r order xid
         unfolding opened_of address_at
@@ -218,28 +217,28 @@ module _ (image : List ℕ) (l : Lent) (r order xid : ℕ) (heads bytes : List �
 -- ---- 1 of the workspace
 
 module _ (size slots : ℕ) (heads bytes : List ℕ) (t : Bool) (et : t ≡ room_holds size slots 0 heads bytes) where
-  room_split : not t ≡ false → (length heads ≡ slots * 19) × (length bytes ≡ (slots + slots) * (4 * size))
+  room_split : t ≡ true → (length heads ≡ slots * 19) × (length bytes ≡ (slots + slots) * (4 * size))
   unfolding room_holds
   room_split n =
       let a : Bool = eqb (length heads) (slots * 19) in
       let b : Bool = eqb (length bytes) ((slots + slots) * (4 * size)) in
-      let (p, q) = and_split (a && b) (leb 0 slots) (sym et ∙ not-false t n) in
+      let (p, q) = and_split (a && b) (leb 0 slots) (sym et ∙ n) in
       let (u, v) = and_split a b p in
       (eqb-true (length heads) (slots * 19) u, eqb-true (length bytes) ((slots + slots) * (4 * size)) v)
 
-  pub room_words : not t ≡ false → length heads ≡ slots * 19
+  pub room_words : t ≡ true → length heads ≡ slots * 19
   room_words n = (room_split n).0
 
-  pub room_bytes : not t ≡ false → length bytes ≡ (slots + slots) * (4 * size)
+  pub room_bytes : t ≡ true → length bytes ≡ (slots + slots) * (4 * size)
   room_bytes n = (room_split n).1
 
 module _ (image : List ℕ) (l : Lent) (r order xid : ℕ) (heads bytes : List ℕ) where
-  pub checked_sizes : (t : Bool) → t ≡ sizes_hold (lent_of image l) → not t ≡ true → (h b : List ℕ)
+  pub checked_sizes : (t : Bool) → t ≡ sizes_hold (lent_of image l) → t ≡ false → (h b : List ℕ)
       → opened_of l.size h b (Err is.Lent) ≡ opened_in (lent_of image l) heads bytes r order xid
   unfolding opened_of opened_in opened
   checked_sizes t et n h b =
       by_test (workspace_holds (lent_of image l).size (lent_of image l).slots 0 heads bytes)
-      (λ u. sym (rw (u, ← et, not-true t n)))
+      (λ u. sym (rw (u, ← et, n)))
       (λ u. sym (rw u))
 
   module _ (t : Bool) (et : t ≡ room_holds l.size l.slots 0 heads bytes) where
@@ -247,14 +246,14 @@ module _ (image : List ℕ) (l : Lent) (r order xid : ℕ) (heads bytes : List �
     unfolding lent_of workspace_holds slots_hold room_holds
     room_is = by_test t (λ u. rw (← et, u)) (λ u. rw (← et, u))
 
-    pub checked_room : not t ≡ true → (h b : List ℕ) → opened_of l.size h b (Err is.Lent) ≡ opened_in (lent_of image l) heads bytes r order xid
+    pub checked_room : t ≡ false → (h b : List ℕ) → opened_of l.size h b (Err is.Lent) ≡ opened_in (lent_of image l) heads bytes r order xid
     unfolding opened_of opened_in
-    checked_room n h b = sym (rw (room_is, not-true t n))
+    checked_room n h b = sym (rw (room_is, n))
 
-    pub checked_open : not t ≡ false → (y : Result State) → y ≡ opened (lent_of image l) r order xid
+    pub checked_open : t ≡ true → (y : Result State) → y ≡ opened (lent_of image l) r order xid
         → y ≡ opened_in (lent_of image l) heads bytes r order xid
     unfolding opened_in
-    checked_open n y e = sym (rw (room_is, not-false t n) (sym e))
+    checked_open n y e = sym (rw (room_is, n) (sym e))
 
 -- a tree that is open is one to be trusted, and leaves a workspace that the next call accepts
 pub opened_trusts : (image : List ℕ) (l : Lent) (r order xid : ℕ) (heads bytes : List ℕ) (x : std.Result Tree Refusal) → Bytes image
@@ -273,3 +272,8 @@ pub opened_holds : (image : List ℕ) (l : Lent) (heads bytes : List ℕ) (x : s
     → opened_leaves l.size l.slots heads bytes x
 opened_holds image l heads bytes (Err k) c = tt
 opened_holds image l heads bytes (Ok t) c = trusts_hold image l t heads bytes c
+
+-- ---- what the code takes of these
+
+pub ruleset opening =
+    (node_read, node_refused, handed_on, IfOk-at_ok, block_info, open_words, open_bytes, open_refused, open_inside, open_long, open_space, open_ready)

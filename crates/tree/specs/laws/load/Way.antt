@@ -1,6 +1,7 @@
 -- Laws of the way: one for each turn and each way out. Assumes nothing.
-use Rattle.std.specs.Prelude.{◌≡◌, List, [], ◌∷◌, ◌++◌, get_or, set}
+use Rattle.std.specs.Prelude.{◌≡◌, List, [], ◌∷◌, ◌++◌, get_or, set, take}
 use Rattle.std.proofs.Math.Path.{refl, sym, ap}
+use Rattle.std.proofs.lemmas.List.{get_or-take, length-take-le}
 use Rattle.std.proofs.Common.{subst, ◌∙◌, append_assoc, add-one, get_or-set_same, get_or-set_other}
 use Prim.Native.Nat.{ℕ, zero, suc, ◌+◌, ◌-◌, ◌≤◌, ◌<◌}
 use native.Mathlib.Omega.{arith}
@@ -23,8 +24,9 @@ use Rattle.tree.specs.internal.Bank.{node_in, live, Ready}
 use Rattle.tree.specs.laws.slots.Bank.{live_entries}
 use Rattle.tree.specs.internal.Tree.{loaded_of, ReadyAfter, bound_of, bounds_of, BoundIn, BoundsIn}
 use Rattle.tree.specs.laws.slots.Tree.{node_in_lem, node_out, used_nodes}
-use Rattle.tree.specs.internal.Way.{steps_of, onto, walked_of, way_of}
+use Rattle.tree.specs.internal.Way.{nth_step, steps_of, steps_in, onto, walked_of, way_of}
 use Rattle.tree.specs.declared.editor.Tree.{Tree}
+use Rattle.tree.specs.declared.way.Step as code
 use Rattle.tree.specs.declared.editor.Bound.{Bound}
 use Rattle.tree.specs.declared.editor.Bounds.{Bounds}
 use Rattle.std.specs.Prelude as std
@@ -66,7 +68,7 @@ bound_kept l s bs n i a e (Some b) h =
     ap (λ (k : List ℕ). k ∷ []) (same_keys (node_at a.state b.slot).entries (node_at s b.slot).entries b.index
     ((load_keeps l s bs n i a e).keys b.slot h))
 
-bounds_kept : (l : Lent) (s : State) (bs : load.Bounds) (n i : ℕ) (a : load.At) → load.load_child l s bs n i ≡ ok a → (b : Bounds)
+bounds_kept : (l : Lent) (s : State) (bs : load.Bounds) (n i : ℕ) (a : load.At) → load.load_child l s bs n i ≡ ok a → (b : Bounds Bound)
     → BoundsIn (length s.nodes) b → bounds_of a.state b ≡ bounds_of s b
 unfolding bounds_of
 bounds_kept l s bs n i a e b h = rw (bound_kept l s bs n i a e b.lower h.lower, bound_kept l s bs n i a e b.upper h.upper)
@@ -80,19 +82,36 @@ loaded_used l s bs n i a e =
 
 -- ---- steps
 
-steps_set : (slots kids : List ℕ) (k j x y : ℕ) → k ≤ j → steps_of (set slots j x) (set kids j y) k ≡ steps_of slots kids k
+steps_set : (way : List code.Step) (k j : ℕ) (x : code.Step) → k ≤ j → steps_of (set way j x) k ≡ steps_of way k
 unfolding steps_of
-steps_set slots kids zero j x y h = refl
-steps_set slots kids (suc k) j x y h =
+steps_set way zero j x h = refl
+steps_set way (suc k) j x h =
     let d : k ≡ j → ⊥ = λ e. omega arith in
-    rw (steps_set slots kids k j x y (omega arith), get_or-set_other slots j k x 0 d, get_or-set_other kids j k y 0 d)
+    rw (steps_set way k j x (omega arith), get_or-set_other way j k x (record { slot = 0; child = 0 }) d)
 
-pub steps_next : (slots kids : List ℕ) (k n i : ℕ) → k < length slots → k < length kids → steps_of (set slots k n) (set kids k i)
-    (k + 1) ≡ steps_of slots kids k ++ record { slot = n; child = i } ∷ []
+pub steps_next : (way : List code.Step) (k n i : ℕ) → k < length way → steps_of (set way k (record { slot = n; child = i })) (k + 1)
+    ≡ steps_of way k ++ record { slot = n; child = i } ∷ []
 unfolding steps_of
-steps_next slots kids k n i h g =
+steps_next way k n i h =
     let d : k ≤ k = omega arith in
-    rw (add-one, steps_set slots kids k k n i d, get_or-set_same slots k n 0 h, get_or-set_same kids k i 0 g)
+    let x : code.Step = record { slot = n; child = i } in
+    rw (add-one, steps_set way k k x d, get_or-set_same way k x (record { slot = 0; child = 0 }) h)
+
+-- the steps that are taken, as a slice
+steps_take : (way : List code.Step) (k j : ℕ) → j ≤ k → k ≤ length way → steps_of (take k way) j ≡ steps_of way j
+unfolding steps_of
+steps_take way k zero h g = refl
+steps_take way k (suc j) h g =
+    rw (steps_take way k j (omega arith) g, get_or-take k way j (record { slot = 0; child = 0 }) (omega arith))
+
+pub steps_taken : (way : List code.Step) (k : ℕ) → k ≤ length way → steps_in (take k way) ≡ steps_of way k
+steps_taken way k h = ap (steps_of (take k way)) (length-take-le k way h) ∙ steps_take way k k (omega arith) h
+
+pub last_taken : (way : List code.Step) (k : ℕ) → 1 ≤ k → k ≤ length way
+    → nth_step (take k way) (length (take k way) - 1) ≡ nth_step way (k - 1)
+last_taken way k u h =
+    ap (λ (m : ℕ). nth_step (take k way) (m - 1)) (length-take-le k way h)
+    ∙ get_or-take k way (k - 1) (record { slot = 0; child = 0 }) (omega arith)
 
 -- steps put before a step and a way
 pub onto_above : (xs : List lookup.Step) (n i : ℕ) (r : Result lookup.Way)
@@ -119,7 +138,7 @@ module _ (l : Lent) (s : State) (bs : load.Bounds) (n i d : ℕ) (key : List ℕ
   way_refused x e = sym (sym inv ∙ ap (onto xs) one_down ∙ rw (← e))
 
   module _ (a : load.At) (e : ok a ≡ load.load_child l s bs n i) where
-    pub way_down : (b inner : Bounds) → bs ≡ bounds_of s b → BoundsIn (length s.nodes) b → bounds_of s inner ≡ load.child_bounds s.order bs
+    pub way_down : (b inner : Bounds Bound) → bs ≡ bounds_of s b → BoundsIn (length s.nodes) b → bounds_of s inner ≡ load.child_bounds s.order bs
         (node_at s n).entries i
         → (BoundsIn (length s.nodes) b → n < length s.nodes → BoundsIn (length s.nodes) inner)
         → onto (xs ++ record { slot = n; child = i } ∷ []) (lookup.way_from (d - 1) l a.state (bounds_of a.state inner) a.slot key) ≡ whole
@@ -133,7 +152,7 @@ module _ (l : Lent) (s : State) (bs : load.Bounds) (n i d : ℕ) (key : List ℕ
         rw k (sym (onto_above xs n i (lookup.way_from (d - 1) l a.state (load.child_bounds s.order bs (node_at s n).entries i) a.slot key))
         ∙ sym (ap (onto xs) z) ∙ inv)
 
-    pub down_in : (b inner : Bounds) → BoundsIn (length s.nodes) b
+    pub down_in : (b inner : Bounds Bound) → BoundsIn (length s.nodes) b
         → (BoundsIn (length s.nodes) b → n < length s.nodes → BoundsIn (length s.nodes) inner) → BoundsIn (length a.state.nodes) inner
     down_in b inner hb f =
         let u : n < length s.nodes = loaded_used l s bs n i a (sym e) in
@@ -151,24 +170,25 @@ unfolding onto
 onto_none (refused k) = refl
 onto_none (ok w) = refl
 
-pub way_start : (l : Lent) (s : State) (level n : ℕ) (key slots kids : List ℕ)
-    → onto (steps_of slots kids 0) (lookup.way_from level l s (bounds_of s (record { lower = None; upper = None })) n key)
+pub way_start : (l : Lent) (s : State) (level n : ℕ) (key : List ℕ) (way : List code.Step)
+    → onto (steps_of way 0) (lookup.way_from level l s (bounds_of s (record { lower = None; upper = None })) n key)
     ≡ lookup.way_from level l s load.unbounded n key
 unfolding steps_of bounds_of bound_of load.unbounded
-way_start l s level n key slots kids = onto_none (lookup.way_from level l s load.unbounded n key)
+way_start l s level n key way = onto_none (lookup.way_from level l s load.unbounded n key)
 
 pub none_in_lem : (used : ℕ) → BoundsIn used (record { lower = None; upper = None })
 none_in_lem used = record { lower = tt; upper = tt }
 
-module _ (l : Lent) (size : ℕ) (t : Tree) (heads bytes : List ℕ) (b inner : Bounds) (n i d k : ℕ) (key way kids : List ℕ) (whole : Result lookup.Way)
+module _ (l : Lent) (size : ℕ) (t : Tree) (heads bytes : List ℕ) (b inner : Bounds Bound) (n i d k : ℕ) (key : List ℕ) (way : List code.Step)
+    (whole : Result lookup.Way)
     (hd : 0 < d) (ei : i ≡ way_index t.order key (node_at (state_of size t heads bytes) n).entries)
-    (inv : onto (steps_of way kids k) (lookup.way_from d l (state_of size t heads bytes) (bounds_of (state_of size t heads bytes) b) n key) ≡ whole)
+    (inv : onto (steps_of way k) (lookup.way_from d l (state_of size t heads bytes) (bounds_of (state_of size t heads bytes) b) n key) ≡ whole)
     (heads' bytes' : List ℕ) (x : std.Result (Tree × ℕ) Refusal)
     (e : loaded_of size heads' bytes' x ≡ load.load_child l (state_of size t heads bytes) (bounds_of (state_of size t heads bytes) b) n i) where
   pub turn_refused : (y : Refusal) → x ≡ Err y → way_of size heads' bytes' (Err y) ≡ whole
   unfolding way_of loaded_of state_of
   turn_refused y q =
-      way_refused l (state_of size t heads bytes) (bounds_of (state_of size t heads bytes) b) n i d key (steps_of way kids k) whole hd ei inv
+      way_refused l (state_of size t heads bytes) (bounds_of (state_of size t heads bytes) b) n i d key (steps_of way k) whole hd ei inv
       (number_of y) (ap (loaded_of size heads' bytes') (sym q) ∙ e)
 
   pub turn_more : (t' : Tree) (c : ℕ) → x ≡ Ok (t', c) → t.used ≤ t'.used
@@ -207,26 +227,26 @@ module _ (l : Lent) (size : ℕ) (t : Tree) (heads bytes : List ℕ) (b inner : 
     unfolding state_of
     turn_in =
         let z : BoundsIn (length (state_of size t' heads' bytes').nodes) inner =
-        down_in l (state_of size t heads bytes) (bounds_of (state_of size t heads bytes) b) n i d key (steps_of way kids k) whole hd ei inv
+        down_in l (state_of size t heads bytes) (bounds_of (state_of size t heads bytes) b) n i d key (steps_of way k) whole hd ei inv
         (record { state = state_of size t' heads' bytes'; slot = c }) at_is b inner hb' f' in
         rw (used_nodes size t' heads' bytes') at z
 
-    pub turn_down : k < length way → k < length kids → onto (steps_of (set way k n) (set kids k i) (k + 1))
+    pub turn_down : k < length way → onto (steps_of (set way k (record { slot = n; child = i })) (k + 1))
         (lookup.way_from (d - 1) l (state_of size t' heads' bytes') (bounds_of (state_of size t' heads' bytes') inner) c key) ≡ whole
     unfolding state_of
-    turn_down h g =
-        rw (steps_next way kids k n i h g)
-        (way_down l (state_of size t heads bytes) (bounds_of (state_of size t heads bytes) b) n i d key (steps_of way kids k) whole hd ei inv
+    turn_down h =
+        rw (steps_next way k n i h)
+        (way_down l (state_of size t heads bytes) (bounds_of (state_of size t heads bytes) b) n i d key (steps_of way k) whole hd ei inv
         (record { state = state_of size t' heads' bytes'; slot = c }) at_is b inner refl hb' ec f')
 
-pub way_end : (l : Lent) (size : ℕ) (t : Tree) (heads bytes : List ℕ) (bs : load.Bounds) (n d k : ℕ) (key way kids : List ℕ)
+pub way_end : (l : Lent) (size : ℕ) (t : Tree) (heads bytes : List ℕ) (bs : load.Bounds) (n d k : ℕ) (key : List ℕ) (way : List code.Step)
     (whole : Result lookup.Way)
-    → d ≤ 0 → k < length way → k < length kids → onto (steps_of way kids k) (lookup.way_from d l (state_of size t heads bytes) bs n key) ≡ whole
-    → way_of size heads bytes (Ok (record { tree = t; steps = k + 1; slots = set way k n; kids = set kids k 0 })) ≡ whole
+    → d ≤ 0 → k < length way → onto (steps_of way k) (lookup.way_from d l (state_of size t heads bytes) bs n key) ≡ whole
+    → way_of size heads bytes (Ok (record { tree = t; count = k + 1; steps = set way k (record { slot = n; child = 0 }) })) ≡ whole
 unfolding way_of walked_of onto lookup.way_from
-way_end l size t heads bytes bs n d k key way kids whole hd h g inv =
+way_end l size t heads bytes bs n d k key way whole hd h inv =
     let z : d ≡ 0 = omega arith in
-    rw (steps_next way kids k n 0 h g) (ap (λ (m : ℕ). onto (steps_of way kids k) (lookup.way_from m l (state_of size t heads bytes) bs n key))
+    rw (steps_next way k n 0 h) (ap (λ (m : ℕ). onto (steps_of way k) (lookup.way_from m l (state_of size t heads bytes) bs n key))
     (sym z)
     ∙ inv)
 

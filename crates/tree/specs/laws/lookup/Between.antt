@@ -16,9 +16,7 @@ use Rattle.node.specs.laws.base.Bytes.{Bytes, bytes_drop}
 use Rattle.node.specs.laws.slot.Records.{entries_head, length_entries, records_least, records_less, length_record, length_value_bytes, entry_key_length}
 use Rattle.node.specs.laws.slot.Records.{entry_value_length, record_whole, record_sum}
 use Rattle.tree.specs.Lookup.{ends_above, between, range_enters}
-use Rattle.std.specs.Prelude.{Option, Some, None}
-use Rattle.std.specs.Borrow.{Bor}
-use Rattle.tree.specs.internal.Range.{end_of, lies_between, most, at_most, sum_of}
+use Rattle.tree.specs.internal.Range.{lies_between, most, at_most, sum_of}
 use Rattle.tree.specs.declared.range.Sum.{Sum}
 
 -- ---- sums that are cut off
@@ -57,34 +55,7 @@ most_both a b =
     (λ u. let k = leb-false a most u in omega (arith, most_large a (omega arith))) in
     most_large (at_most a + at_most b) z ∙ sym (most_large (a + b) (omega arith)))
 
-pub add_most : (a b : ℕ) → most < a + b → most ≡ at_most (a + b)
-add_most a b h = sym (most_large (a + b) (omega arith))
-
-pub add_both : (a b : ℕ) → a + b ≤ most → a + b ≡ at_most (a + b)
-add_both a b h = sym (most_small (a + b) h)
-
 -- ---- the ends
-
-pub ends_none : (o : ℕ) (hi : Option (Bor (List ℕ))) (k : List ℕ) → hi ≡ None → true ≡ ends_above o (end_of hi) k
-unfolding ends_above end_of
-ends_none o hi k e = sym (rw e)
-
-pub ends_some : (o : ℕ) (hi : Option (Bor (List ℕ))) (k : List ℕ) (x : Bor (List ℕ)) → hi ≡ Some x → (r : Bool) → r ≡ less o k x.now
-    → r ≡ ends_above o (end_of hi) k
-unfolding ends_above end_of
-ends_some o hi k x e r q = q ∙ sym (rw e)
-
-pub lies_below : (o : ℕ) (lo k k' : List ℕ) (hi : List (List ℕ)) (a : Bool) → k ≡ k' → a ≡ less o k lo → a ≡ true → false ≡ lies_between o lo hi k'
-unfolding lies_between
-lies_below o lo k k' hi a q e h = let z : less o k' lo ≡ true = ap (λ (x : List ℕ). less o x lo) (sym q) ∙ sym e ∙ h in sym (rw z)
-
-pub lies_above : (o : ℕ) (lo k k' : List ℕ) (hi : List (List ℕ)) (a b : Bool) → k ≡ k' → a ≡ less o k lo → a ≡ false → b ≡ ends_above o hi k
-    → b ≡ lies_between o lo hi k'
-unfolding lies_between
-lies_above o lo k k' hi a b q e h u =
-    let z : less o k' lo ≡ false = ap (λ (x : List ℕ). less o x lo) (sym q) ∙ sym e ∙ h in
-    let v : b ≡ ends_above o hi k' = u ∙ ap (ends_above o hi) q in
-    sym (rw (z, ← v))
 
 -- ---- whether range looks into a child
 
@@ -226,10 +197,6 @@ module _ (o : ℕ) (lo : List ℕ) (hi : List (List ℕ)) (n : ℕ) (l : List �
             ap₂ (λ (q : List ℕ) (z : ℕ). splice q (k + z) rs) x (sym part_long)
             ∙ splice_two out k part rs (omega (arith, more, part_long))
             ∙ ap (splice out k) (ap (λ (q : List ℕ). q ++ rs) (sym a) ∙ sym records_taken) ∙ y
-
-pub next_lies : (n : ℕ) (l : List ℕ) (i at next : ℕ) → records_length n l ≤ length l → i < n → at ≡ records_length i l
-    → next ≡ at + record_length (drop at l) → next ≤ length l
-next_lies n l i at next h q p e = omega (arith, at_lies l n i at h q p)
 
 -- ---- as the loops have it
 

@@ -20,6 +20,7 @@ use Rattle.tree.specs.Trust.{trusted}
 use Rattle.tree.specs.Workspace.{state_of, workspace_holds, called}
 use Rattle.tree.specs.Answers.{record_in, floor_means, floored_in, floored_output, floored_leaves}
 use Rattle.tree.specs.internal.Bank.{Ready}
+use Rattle.tree.specs.internal.Undo.{Undone}
 use Rattle.tree.specs.internal.Room.{Roomy}
 use Rattle.tree.specs.internal.Edits.{Trusts}
 use Rattle.tree.specs.internal.Tree.{bound_of, bounds_of}
@@ -32,7 +33,7 @@ use Rattle.tree.specs.declared.lent.Lent.{Lent}
 use Rattle.tree.specs.declared.editor.Tree.{Tree}
 use Rattle.tree.specs.declared.floor.Last.{Last}
 use Rattle.std.specs.Prelude as std
-use Rattle.std.specs.Prelude.{Ok, Err, Some, None, Option, is_err}
+use Rattle.std.specs.Prelude.{Ok, Err, Some, None, Option}
 use Rattle.node.specs.declared.refusal.Refusal.{Refusal}
 use Rattle.node.specs.declared.refusal.Refusal.TheVariants as is
 
@@ -97,37 +98,26 @@ module _ (l : lent.Lent) (size : ℕ) (t : Tree) (h0 b0 key : List ℕ) (k : Boo
   unfolding state_of keyed
   keyed_is = sym ek
 
-  pub in_argument : (out : List ℕ) → not k ≡ true → floor_means size h0 b0 out (Err is.Argument) ≡ lookup.floor_in l (state_of size t h0 b0)
+  pub in_argument : (out : List ℕ) → k ≡ false → floor_means size h0 b0 out (Err is.Argument) ≡ lookup.floor_in l (state_of size t h0 b0)
       (length out) key
   unfolding floor_means lookup.floor_in
-  in_argument out n = sym (rw (keyed_is, not-true k n))
+  in_argument out n = sym (rw (keyed_is, n))
 
-  pub in_argument_same : (out : List ℕ) → not k ≡ true → out ≡ floored_output out (lookup.floor_in l (state_of size t h0 b0) (length out) key)
+  pub in_argument_same : (out : List ℕ) → k ≡ false → out ≡ floored_output out (lookup.floor_in l (state_of size t h0 b0) (length out) key)
   unfolding floored_output lookup.floor_in
-  in_argument_same out n = sym (rw (keyed_is, not-true k n))
+  in_argument_same out n = sym (rw (keyed_is, n))
 
-  module _ (n : not k ≡ false) (room : ℕ) (h1 : List ℕ) (es : state_of size t h1 b0 ≡ state_of size t h0 b0) where
+  module _ (n : k ≡ true) (room : ℕ) (h b : List ℕ) (es : state_of size t h b ≡ state_of size t h0 b0) where
     in_is : lookup.floor_in l (state_of size t h0 b0) room key ≡ floor_way l (state_of size t h0 b0) room key
     unfolding lookup.floor_in floor_way floored_of
-    in_is = rw (keyed_is, not-false k n)
+    in_is = rw (keyed_is, n)
 
-    way_in : floor_way l (state_of size t h1 b0) room key ≡ lookup.floor_in l (state_of size t h0 b0) room key
+    pub way_in : floor_way l (state_of size t h b) room key ≡ lookup.floor_in l (state_of size t h0 b0) room key
     way_in = ap (λ (s : State). floor_way l s room key) es ∙ sym in_is
 
-    pub in_answer : (y : Result (lookup.Got Entry)) → y ≡ floor_way l (state_of size t h1 b0) room key
-        → y ≡ lookup.floor_in l (state_of size t h0 b0) room key
-    in_answer y q = q ∙ way_in
-
-    pub in_output : (o out : List ℕ) → o ≡ floored_output out (floor_way l (state_of size t h1 b0) room key)
+    pub in_output : (o out : List ℕ) → o ≡ floored_output out (floor_way l (state_of size t h b) room key)
         → o ≡ floored_output out (lookup.floor_in l (state_of size t h0 b0) room key)
     in_output o out q = q ∙ ap (floored_output out) way_in
-
--- a refusal is the same whatever the slots hold
-pub floor_refused : (size : ℕ) (h b h' b' out : List ℕ) (g : std.Result (Tree × Option ℕ) Refusal) → true ≡ is_err g
-    → floor_means size h' b' out g ≡ floor_means size h b out g
-unfolding floor_means
-floor_refused size h b h' b' out (Err x) z = refl
-floor_refused size h b h' b' out (Ok v) z = cc
 
 -- ---- what floor leaves
 
@@ -151,24 +141,28 @@ module _ (image : List ℕ) (l : Lent) (t : Tree) (h b : List ℕ) (c : Trusts i
         looked_trusts image l u h' b' v _ (trusted_floor (lent_of image l) (state_of l.size t h b) room key c.trust)
         (roomy_in (lent_of image l) (state_of l.size t h b) room key c.trust c.roomy) (q ∙ e) y
 
-    floor_trusts : (u : Tree) (n : Option ℕ) → g ≡ Ok (u, n) → Trusts image l u h' b'
+    pub floor_trusts : (u : Tree) (n : Option ℕ) → g ≡ Ok (u, n) → Trusts image l u h' b'
     unfolding floor_means
     floor_trusts u n q = found_trusts u _ (ap (floor_means l.size h' b' out) (sym q)) (subst (FloorReady l.size l.slots h' b') q r)
-
-  pub floor_kept : (key out : List ℕ) (room : ℕ) (g : std.Result (Tree × Option ℕ) Refusal) → false ≡ is_err g
-      → floor_means l.size h' b' out g ≡ lookup.floor_in (lent_of image l) (state_of l.size t h b) room key → FloorReady l.size l.slots h' b' g
-      → FloorCalled image l t h b h' b' g
-  floor_kept key out room (Err x) z e r = cc
-  floor_kept key out room (Ok (u, n)) z e r = floor_trusts key out room (Ok (u, n)) e r u n refl
-
-  pub floor_undone : (g : std.Result (Tree × Option ℕ) Refusal) → true ≡ is_err g → state_of l.size t h' b' ≡ state_of l.size t h b
-      → Ready l.size l.slots t.used h' b' → FloorCalled image l t h b h' b' g
-  floor_undone (Err x) z e r = (e, r)
-  floor_undone (Ok v) z e r = cc
 
   pub left_of_lem : (g : std.Result (Tree × Option ℕ) Refusal) → FloorCalled image l t h b h' b' g → floored_leaves l.size l.slots t h b h' b' g
   left_of_lem (Err x) k = (k.0, back_hold image l t h b c h' b' k.0 k.1)
   left_of_lem (Ok (u, n)) k = trusts_hold image l u h' b' k
+
+-- undone where it is refused: a refusal is the same whatever the slots hold
+module _ (l : Lent) (t : Tree) (h0 b0 h2 b2 h3 b3 out : List ℕ) where
+  pub floor_undone : (g : std.Result (Tree × Option ℕ) Refusal) → Undone l t h0 b0 h2 b2 h3 b3 g
+      → floor_means l.size h3 b3 out g ≡ floor_means l.size h2 b2 out g
+  unfolding floor_means
+  floor_undone (Err x) u = refl
+  floor_undone (Ok v) u = rw (u.0, u.1)
+
+  pub floor_left : (image key : List ℕ) (room : ℕ) (g : std.Result (Tree × Option ℕ) Refusal) → Trusts image l t h0 b0
+      → Undone l t h0 b0 h2 b2 h3 b3 g
+      → floor_means l.size h3 b3 out g ≡ lookup.floor_in (lent_of image l) (state_of l.size t h0 b0) room key
+      → FloorReady l.size l.slots h2 b2 g → FloorCalled image l t h0 b0 h3 b3 g
+  floor_left image key room (Err x) c u e r = u
+  floor_left image key room (Ok (v, n)) c u e r = floor_trusts image l t h0 b0 c h3 b3 key out room (Ok (v, n)) e (rw (u.0, u.1) r) v n refl
 
 -- after a refused floor every call answers as if there had been none
 pub refused_none : {A : Type 0} (size slots : ℕ) (t : Tree) (heads bytes heads' bytes' : List ℕ) (x : Refusal)

@@ -21,6 +21,7 @@ use Rattle.tree.specs.laws.slots.Tree.{used_nodes}
 use Rattle.tree.specs.laws.trust.Loads.{Loads, loads_then, load_loads}
 use Rattle.tree.specs.laws.lookup.FloorLoads.{floor_loads, bounds_more, left_with, left_loads, child_used, child_more, child_in, child_kept}
 use Rattle.tree.specs.declared.editor.Tree.{Tree}
+use Rattle.tree.specs.declared.editor.Bound.{Bound}
 use Rattle.tree.specs.declared.editor.Bounds.{Bounds}
 use Rattle.tree.specs.declared.floor.Last.{Last}
 use Rattle.std.specs.Prelude as std
@@ -29,10 +30,10 @@ use Rattle.node.specs.declared.refusal.Refusal.{Refusal}
 
 -- ---- a child loaded, and its bounds
 
-module _ (l : Lent) (size : ℕ) (t : Tree) (heads bytes : List ℕ) (b : Bounds) (n i : ℕ) (x : std.Result (Tree × ℕ) Refusal) (heads' bytes' : List ℕ)
-    (ex : loaded_of size heads' bytes' x ≡ load_child l (state_of size t heads bytes) (bounds_of (state_of size t heads bytes) b) n i) (t' : Tree)
-    (c : ℕ)
-    (q : x ≡ Ok (t', c)) where
+module _ (l : Lent) (size : ℕ) (t : Tree) (heads bytes : List ℕ) (b : Bounds Bound) (n i : ℕ) (x : std.Result (Tree × ℕ) Refusal)
+    (heads' bytes' : List ℕ)
+    (ex : loaded_of size heads' bytes' x ≡ load_child l (state_of size t heads bytes) (bounds_of (state_of size t heads bytes) b) n i)
+    (t' : Tree) (c : ℕ) (q : x ≡ Ok (t', c)) where
   pub into : ok (record { state = state_of size t' heads' bytes'; slot = c }) ≡ load_child l (state_of size t heads bytes)
       (bounds_of (state_of size t heads bytes) b) n i
   unfolding loaded_of
@@ -41,7 +42,7 @@ module _ (l : Lent) (size : ℕ) (t : Tree) (heads bytes : List ℕ) (b : Bounds
   pub into_more : t.used ≤ t'.used
   into_more = child_more l size t heads bytes b n i t' heads' bytes' c into
 
-  module _ (inner : Bounds) (hb : BoundsIn t.used b) (f : BoundsIn t.used b → n < t.used → BoundsIn t.used inner) where
+  module _ (inner : Bounds Bound) (hb : BoundsIn t.used b) (f : BoundsIn t.used b → n < t.used → BoundsIn t.used inner) where
     pub into_in : BoundsIn t'.used inner
     into_in = child_in l size t heads bytes b n i t' heads' bytes' c into inner hb f
 
@@ -53,11 +54,11 @@ module _ (l : Lent) (size : ℕ) (t : Tree) (heads bytes : List ℕ) (b : Bounds
 
 -- ---- the last entry d levels down
 
-module _ (l : Lent) (size : ℕ) (t : Tree) (heads bytes : List ℕ) (b : Bounds) (n d : ℕ) where
-  pub last_leaf : d ≡ 0 → (y : Result (Got Entry)) → y ≡ ok (last_at (state_of size t heads bytes) n)
-      → y ≡ last_from d l (state_of size t heads bytes) (bounds_of (state_of size t heads bytes) b) n
-  unfolding last_from last_at
-  last_leaf z y e = rw z e
+module _ (l : Lent) (size : ℕ) (t : Tree) (heads bytes : List ℕ) (b : Bounds Bound) (n d : ℕ) where
+  pub last_leaf : d ≡ 0 → (r : Option Last) → got_last (state_of size t heads bytes) r ≡ last_at (state_of size t heads bytes) n
+      → last_means size heads bytes (Ok (t, r)) ≡ last_from d l (state_of size t heads bytes) (bounds_of (state_of size t heads bytes) b) n
+  unfolding last_from last_at last_means
+  last_leaf z r e = rw z (ap ok e)
 
   module _ (hd : d ≡ 0 → ⊥) (count i : ℕ) (ec : count ≡ length (node_at (state_of size t heads bytes) n).entries) (ei : i ≡ count - 1)
       (x : std.Result (Tree × ℕ) Refusal)
@@ -80,7 +81,7 @@ module _ (l : Lent) (size : ℕ) (t : Tree) (heads bytes : List ℕ) (b : Bounds
     unfolding last_means loaded_of
     last_refused y q = sym (last_step ∙ rw q)
 
-    pub last_down : (t' : Tree) (c : ℕ) → x ≡ Ok (t', c) → (inner : Bounds) → BoundsIn t.used b
+    pub last_down : (t' : Tree) (c : ℕ) → x ≡ Ok (t', c) → (inner : Bounds Bound) → BoundsIn t.used b
         → (BoundsIn t.used b → n < t.used → BoundsIn t.used inner)
         → bounds_of (state_of size t heads bytes) inner ≡ child_bounds t.order (bounds_of (state_of size t heads bytes) b)
         (node_at (state_of size t heads bytes) n).entries i
@@ -93,7 +94,7 @@ module _ (l : Lent) (size : ℕ) (t : Tree) (heads bytes : List ℕ) (b : Bounds
 
 -- ---- leftward
 
-module _ (l : Lent) (size : ℕ) (t : Tree) (heads bytes : List ℕ) (b : Bounds) (n i d : ℕ) (key : List ℕ) where
+module _ (l : Lent) (size : ℕ) (t : Tree) (heads bytes : List ℕ) (b : Bounds Bound) (n i d : ℕ) (key : List ℕ) where
   pub left_first : i ≡ 0 → last_means size heads bytes (Ok (t, None)) ≡ left_from d l (state_of size t heads bytes)
       (bounds_of (state_of size t heads bytes) b) n i key
   unfolding last_means got_last left_from
@@ -125,7 +126,7 @@ module _ (l : Lent) (size : ℕ) (t : Tree) (heads bytes : List ℕ) (b : Bounds
       unfolding last_means loaded_of
       left_refused y q = sym (left_step ∙ rw q)
 
-      pub left_down : (t' : Tree) (c : ℕ) → x ≡ Ok (t', c) → (inner : Bounds) → BoundsIn t.used b
+      pub left_down : (t' : Tree) (c : ℕ) → x ≡ Ok (t', c) → (inner : Bounds Bound) → BoundsIn t.used b
           → (BoundsIn t.used b → n < t.used → BoundsIn t.used inner)
           → bounds_of (state_of size t heads bytes) inner ≡ child_bounds t.order (bounds_of (state_of size t heads bytes) b)
           (node_at (state_of size t heads bytes) n).entries (i - 1)
@@ -138,12 +139,13 @@ module _ (l : Lent) (size : ℕ) (t : Tree) (heads bytes : List ℕ) (b : Bounds
 
 -- ---- the last entry not above a key
 
-module _ (l : Lent) (size : ℕ) (t : Tree) (heads bytes : List ℕ) (b : Bounds) (n d : ℕ) (key : List ℕ) where
-  pub floor_leaf : d ≡ 0 → (y : Result (Got Entry)) → y ≡ ok (floor_at (state_of size t heads bytes) n key)
-      → y ≡ floor_from d l (state_of size t heads bytes) (bounds_of (state_of size t heads bytes) b) n key
-  unfolding floor_from floor_at
-  floor_leaf z y e = rw z e
+module _ (l : Lent) (size : ℕ) (t : Tree) (heads bytes : List ℕ) (b : Bounds Bound) (n d : ℕ) (key : List ℕ) where
+  pub floor_leaf : d ≡ 0 → (r : Option Last) → got_last (state_of size t heads bytes) r ≡ floor_at (state_of size t heads bytes) n key
+      → last_means size heads bytes (Ok (t, r)) ≡ floor_from d l (state_of size t heads bytes) (bounds_of (state_of size t heads bytes) b) n key
+  unfolding floor_from floor_at last_means
+  floor_leaf z r e = rw z (ap ok e)
 
+module _ (l : Lent) (size : ℕ) (t : Tree) (heads bytes : List ℕ) (b : Bounds Bound) (n d : ℕ) (key : List ℕ) where
   module _ (hd : d ≡ 0 → ⊥) (i : ℕ) (ei : i ≡ way_index t.order key (node_at (state_of size t heads bytes) n).entries)
       (x : std.Result (Tree × ℕ) Refusal)
       (heads' bytes' : List ℕ)
@@ -162,7 +164,7 @@ module _ (l : Lent) (size : ℕ) (t : Tree) (heads bytes : List ℕ) (b : Bounds
     unfolding floor_from last_means loaded_of state_of
     floor_refused y q = sym (ap (λ (m : ℕ). floor_from m l from bs n key) lower ∙ rw (← ei, ← ex, q))
 
-    module _ (t' : Tree) (c : ℕ) (q : x ≡ Ok (t', c)) (inner : Bounds) (hb : BoundsIn t.used b)
+    module _ (t' : Tree) (c : ℕ) (q : x ≡ Ok (t', c)) (inner : Bounds Bound) (hb : BoundsIn t.used b)
         (f : BoundsIn t.used b → n < t.used → BoundsIn t.used inner)
         (eb : bounds_of (state_of size t heads bytes) inner ≡ child_bounds t.order (bounds_of (state_of size t heads bytes) b)
         (node_at (state_of size t heads bytes) n).entries i)

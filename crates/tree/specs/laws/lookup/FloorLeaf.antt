@@ -3,7 +3,7 @@ use Rattle.std.specs.Prelude.{◌≡◌, refl, length, get_or, ltb}
 use Rattle.std.proofs.Math.Path.{sym, ap}
 use Rattle.std.proofs.Common.{ap₂, ◌∙◌, arith, length-take, length-drop, drop_of_length-le, get_or-take}
 use mathlib.Core.List.{List, [], ◌∷◌}
-use Prim.Native.Nat.{ℕ, suc, ◌+◌, ◌-◌, ◌*◌, ◌≤◌, ◌<◌}
+use Prim.Native.Nat.{ℕ, suc, ◌+◌, ◌-◌, ◌≤◌, ◌<◌}
 use Rattle.std.proofs.Math.ListN.{take, drop}
 use Rattle.std.proofs.Math.Seq.{take-length}
 use borrow.Author.Tests.{le-leb, lt-leb, ltb-true, ltb-false}
@@ -14,22 +14,21 @@ use Rattle.node.specs.Find.{not_above, last_not_above, last_of}
 use Rattle.node.specs.Records.{record_length, records_length, entry_of, entries_of, records_of}
 use Rattle.node.specs.Slot.{head_at}
 use Rattle.node.specs.internal.SlotSteps.{last_in}
-use Rattle.node.specs.laws.base.Bytes.{Bytes, bytes_drop, bytes_window}
+use Rattle.node.specs.laws.base.Bytes.{Bytes, bytes_drop}
 use Rattle.node.specs.laws.order.Found.{above_le}
 use Rattle.node.specs.laws.slot.Records.{entry_local, records_whole}
 use Rattle.node.specs.laws.base.Tests.{by_test}
 use Rattle.node.specs.declared.head.Head.{Head}
 use Rattle.node.specs.declared.slot.Last as found
-use Rattle.tree.specs.State.{node_at, no_node}
+use Rattle.tree.specs.State.{node_at}
 use Rattle.tree.specs.Workspace.{slot_bytes, state_of}
 use Rattle.tree.specs.Answers.{record_in, floor_means, floored_output}
-use Rattle.tree.specs.internal.Bank.{node_in, live, Ready}
-use Rattle.tree.specs.internal.Floor.{none_in, entry_in, got_last, last_means, EntryReady, last_at, floor_at, floored_of}
-use Rattle.tree.specs.laws.slots.Bank.{live_entries}
+use Rattle.tree.specs.internal.Bank.{live, Ready}
+use Rattle.tree.specs.internal.Floor.{none_in, entry_in, got_last, EntryReady, last_at, floor_at, floored_of}
 use Rattle.tree.specs.laws.slots.OneSlot.{slot_room, slot_lies, slot_entry}
-use Rattle.tree.specs.laws.slots.Tree.{node_in_lem, node_out}
+use Rattle.tree.specs.laws.slots.Tree.{node_in_lem}
 use Rattle.tree.specs.laws.load.Fetch.{count_out, count_is}
-use Rattle.tree.specs.laws.load.MapFloor.{one_of}
+use Rattle.tree.specs.laws.load.MapNode.{one_of}
 use Rattle.tree.specs.laws.lookup.GetLeaf.{take_front}
 use Rattle.tree.specs.laws.refusal1.Roomy.{entries_weight}
 use Rattle.tree.specs.declared.editor.Tree.{Tree}
@@ -64,14 +63,14 @@ above_one o k es i h =
 -- ---- the last entry of a slot
 
 module _ (size : ℕ) (t : Tree) (heads bytes : List ℕ) (n count : ℕ) (e : count ≡ length (node_at (state_of size t heads bytes) n).entries) where
-  pub last_at_none : count ≡ 0 → last_means size heads bytes (Ok (t, None)) ≡ ok (last_at (state_of size t heads bytes) n)
-  unfolding last_means got_last none_in last_at
+  pub last_at_none : count ≡ 0 → got_last (state_of size t heads bytes) None ≡ last_at (state_of size t heads bytes) n
+  unfolding got_last none_in last_at
   last_at_none z = sym (rw (last_none (node_at (state_of size t heads bytes) n).entries (sym e ∙ z)))
 
   module _ (z : count ≡ 0 → ⊥) where
-    pub last_at_some : last_means size heads bytes (Ok (t, Some (record { slot = n; index = count - 1 })))
-        ≡ ok (last_at (state_of size t heads bytes) n)
-    unfolding last_means got_last entry_in last_at
+    pub last_at_some : got_last (state_of size t heads bytes) (Some (record { slot = n; index = count - 1 }))
+        ≡ last_at (state_of size t heads bytes) n
+    unfolding got_last entry_in last_at
     last_at_some = sym (rw (last_one (node_at (state_of size t heads bytes) n).entries (count - 1) (omega arith)))
 
     used : n < t.used
@@ -87,39 +86,34 @@ module _ (size : ℕ) (t : Tree) (heads bytes : List ℕ) (n count : ℕ) (e : c
 -- ---- the last that is not above a key
 
 module _ (size : ℕ) (t : Tree) (heads bytes key : List ℕ) (n : ℕ) where
-  pub floor_at_out : t.used ≤ n → last_means size heads bytes (Ok (t, None)) ≡ ok (floor_at (state_of size t heads bytes) n key)
-  unfolding last_means got_last none_in floor_at no_node last_not_above not_above
-  floor_at_out h = sym (rw (node_out size t heads bytes n h))
-
-  module _ (hn : n < t.used) (h : Head) (eh : h ≡ live (head_at heads n)) (l : List ℕ) (el : l ≡ slot_bytes size bytes n) (x : found.Last)
-      (ex : x ≡ last_in t.order key h.count l) where
+  module _ (c : ℕ) (l : List ℕ) (el : (node_at (state_of size t heads bytes) n).entries ≡ entries_of c l) (x : found.Last)
+      (ex : x ≡ last_in t.order key c l) where
     pub count_above : x.count ≡ not_above t.order key (node_at (state_of size t heads bytes) n).entries
-    unfolding last_in node_in
-    count_above = rw (node_in_lem size t heads bytes n hn, live_entries (head_at heads n) (slot_bytes size bytes n), ex, eh, el)
+    unfolding last_in
+    count_above = rw (el, ex)
 
-    pub floor_at_none : x.count ≡ 0 → last_means size heads bytes (Ok (t, None)) ≡ ok (floor_at (state_of size t heads bytes) n key)
-    unfolding last_means got_last none_in floor_at state_of
+    pub floor_at_none : x.count ≡ 0 → got_last (state_of size t heads bytes) None ≡ floor_at (state_of size t heads bytes) n key
+    unfolding got_last none_in floor_at state_of
     floor_at_none z = sym (rw (above_none t.order key (node_at (state_of size t heads bytes) n).entries (sym count_above ∙ z)))
 
     module _ (z : x.count ≡ 0 → ⊥) where
-      pub floor_at_some : last_means size heads bytes (Ok (t, Some (record { slot = n; index = x.count - 1 })))
-          ≡ ok (floor_at (state_of size t heads bytes) n key)
-      unfolding last_means got_last entry_in floor_at state_of
+      pub floor_at_some : got_last (state_of size t heads bytes) (Some (record { slot = n; index = x.count - 1 }))
+          ≡ floor_at (state_of size t heads bytes) n key
+      unfolding got_last entry_in floor_at state_of
       floor_at_some = sym (rw (above_one t.order key (node_at (state_of size t heads bytes) n).entries (x.count - 1) (omega (arith, count_above))))
 
       pub floor_at_ready : (slots : ℕ) → Ready size slots t.used heads bytes → EntryReady size slots t heads bytes n (x.count - 1)
       floor_at_ready slots r =
-          let k = count_is size t heads bytes n hn (live (head_at heads n)) refl in
-          let m = above_le t.order key (node_at (state_of size t heads bytes) n).entries in
-          record { ready = r; slot = hn; entry = omega (arith, count_above) }
+          let es : List Entry = (node_at (state_of size t heads bytes) n).entries in
+          let m : x.count ≤ length es = omega (arith, above_le t.order key es, count_above) in
+          let k : length es ≡ 0 → ⊥ = λ q. z (omega arith) in
+          let f : EntryReady size slots t heads bytes n (length es - 1) = last_at_ready size t heads bytes n (length es) refl k slots r in
+          record { ready = r; slot = f.slot; entry = (let g = f.entry in omega arith) }
 
 -- ---- an entry copied out as its record
 
 module _ (size slots : ℕ) (t : Tree) (heads bytes : List ℕ) (n i : ℕ) (r : EntryReady size slots t heads bytes n i) (h : Head)
     (eh : h ≡ live (head_at heads n)) where
-  pub entry_index : i ≤ h.count
-  entry_index = rw eh (omega (arith, r.entry))
-
   module _ (l : List ℕ) (el : l ≡ slot_bytes size bytes n) where
     pub entry_room : records_length h.count l ≤ length l
     entry_room = slot_room size slots t.used n heads bytes r.ready r.slot l el h eh
@@ -188,10 +182,9 @@ module _ (size slots : ℕ) (t : Tree) (heads bytes : List ℕ) (n i : ℕ) (r :
           unfolding floor_means record_in
           record_copied = sym (found_is ∙ rw entry_front)
 
-          pub record_copied_out : Bytes bytes → out' ≡ floored_output out (floored_of (length out) (entry_in (state_of size t heads bytes) n i))
+          pub record_copied_out : Bytes l → out' ≡ floored_output out (floored_of (length out) (entry_in (state_of size t heads bytes) n i))
           unfolding floored_output records_of entries_of records_length slot_bytes
-          record_copied_out b =
-              let bl : Bytes l = rw el (bytes_window (n * (4 * size)) (4 * size) bytes b) in
+          record_copied_out bl =
               let once : end - at ≡ record_length (drop at l) + 0 = omega (arith, long) in
               let w : records_of (entry_of (drop at l) ∷ []) ≡ take (end - at) (drop at l) =
               records_whole 1 (drop at l) (omega (arith, room)) (bytes_drop at l bl) ∙ ap (λ (k : ℕ). take k (drop at l)) (sym once) in

@@ -3,7 +3,6 @@ use Rattle.std.specs.Prelude.{◌≡◌, List, [], ◌∷◌, ◌++◌, Bool, tr
 use Rattle.std.proofs.Math.Path.{refl, sym, ap, ap₂}
 use Rattle.std.proofs.Common.{subst, ◌∙◌, arith, length-append}
 use Prim.Native.Nat.{ℕ, zero, suc, ◌+◌, ◌-◌, ◌≤◌}
-use Rattle.std.proofs.Math.ListN.{get_or}
 use borrow.Author.Tests.{eq-eqb, not-true, not-false}
 use Rattle.node.specs.laws.base.Tests.{by_test, and_split, and_both}
 use Rattle.node.specs.Result.{Result, ok, refused, ◌>>◌, check}
@@ -24,7 +23,8 @@ use Rattle.tree.specs.internal.Edits.{Trusts}
 use Rattle.tree.specs.laws.refusal1.Roomy.{roomy_get}
 use Rattle.tree.specs.declared.lent.Lent.{Lent}
 use Rattle.tree.specs.internal.Bank.{Ready}
-use Rattle.tree.specs.internal.Way.{steps_of, walked_of, way_of, WayReady}
+use Rattle.tree.specs.internal.Undo.{Undone}
+use Rattle.tree.specs.internal.Way.{nth_step, steps_of, walked_of, way_of, WayReady}
 use Rattle.tree.specs.internal.Get.{got_held, held_at, got_at, got_way, ReadyGot, GotCalled}
 use Rattle.tree.specs.laws.trust.Stands.{Stands, all, trusted_of}
 use Rattle.tree.specs.laws.trust.Loads.{WayLoaded, way_loaded, trusted_get}
@@ -34,8 +34,9 @@ use Rattle.tree.specs.laws.trust.Named.{live_used}
 use Rattle.tree.specs.laws.trust.Edit.{down_leaf}
 use Rattle.tree.specs.declared.editor.Tree.{Tree}
 use Rattle.tree.specs.declared.way.Way.{Way}
+use Rattle.tree.specs.declared.way.Step as code
 use Rattle.std.specs.Prelude as std
-use Rattle.std.specs.Prelude.{Ok, Err, Option, is_err}
+use Rattle.std.specs.Prelude.{Ok, Err, Option}
 use Rattle.node.specs.declared.refusal.Refusal.{Refusal}
 use Rattle.node.specs.declared.refusal.Refusal.TheVariants as is
 use Rattle.tree.specs.declared.get.Copied.{Copied}
@@ -49,12 +50,12 @@ rows_suit o t (e ∷ es) h =
     let (c, d) = and_split (key_length_holds o t (length e.key) && value_holds t e.value) (suit true e) a in
     and_both (suit true e) (every (suit true) es) d (rows_suit o t es b)
 
-pub steps_long : (slots kids : List ℕ) (k : ℕ) → length (steps_of slots kids k) ≡ k
+pub steps_long : (way : List code.Step) (k : ℕ) → length (steps_of way k) ≡ k
 unfolding steps_of
-steps_long slots kids zero = refl
-steps_long slots kids (suc k) =
-    length-append (steps_of slots kids k) (record { slot = get_or slots k 0; child = get_or kids k 0 } ∷ [])
-    ∙ (let z = steps_long slots kids k in omega arith)
+steps_long way zero = refl
+steps_long way (suc k) =
+    length-append (steps_of way k) (record { slot = (nth_step way k).slot; child = (nth_step way k).child } ∷ [])
+    ∙ (let z = steps_long way k in omega arith)
 
 pub leaf_last : (xs : List lookup.Step) (x : lookup.Step) → lookup.leaf_of (xs ++ x ∷ []) ≡ x.slot
 unfolding lookup.leaf_of
@@ -103,7 +104,7 @@ module _ (l : lent.Lent) (size : ℕ) (t : Tree) (h0 b0 : List ℕ) (tr : truste
       s' = state_of size w.tree h b
 
       abbrev ps : List lookup.Step
-      ps = steps_of w.slots w.kids w.steps
+      ps = steps_of w.steps w.count
 
       pub arrives : way_of size h b r ≡ ok (record { state = s'; steps = ps })
       unfolding way_of walked_of
@@ -113,13 +114,13 @@ module _ (l : lent.Lent) (size : ℕ) (t : Tree) (h0 b0 : List ℕ) (tr : truste
       loads = (way_loaded level l all all s unbounded t.root key stands live_root (sym ev)).at (record { state = s'; steps = ps })
           (sym er ∙ arrives)
 
-      long : w.steps ≡ 1 + length loads.rest
-      long = let z = ap length loads.steps in omega (arith, steps_long w.slots w.kids w.steps)
+      long : w.count ≡ 1 + length loads.rest
+      long = let z = ap length loads.steps in omega (arith, steps_long w.steps w.count)
 
-      pub get_some : 1 ≤ w.steps
+      pub get_some : 1 ≤ w.count
       get_some = omega (arith, long)
 
-      pub get_few : w.steps ≤ 33
+      pub get_few : w.count ≤ 33
       get_few =
           let d = rw loads.steps at loads.down in
           let q : (node_at s' loads.top.slot).level ≡ length loads.rest = down_level all all s' loads.top loads.rest
@@ -128,15 +129,15 @@ module _ (l : lent.Lent) (size : ℕ) (t : Tree) (h0 b0 : List ℕ) (tr : truste
           let f : (node_at s' loads.top.slot).level ≡ (node_at s' t.root).level = ap (λ (n : ℕ). (node_at s' n).level) loads.first in
           omega (arith, long, way_low)
 
-      leaf_is : lookup.leaf_of ps ≡ get_or w.slots (w.steps - 1) 0
+      leaf_is : lookup.leaf_of ps ≡ (nth_step w.steps (w.count - 1)).slot
       unfolding steps_of
       leaf_is =
-          let z : w.steps ≡ suc (w.steps - 1) = omega (arith, long) in
-          ap (λ (k : ℕ). lookup.leaf_of (steps_of w.slots w.kids k)) z
-          ∙ leaf_last (steps_of w.slots w.kids (w.steps - 1))
-          (record { slot = get_or w.slots (w.steps - 1) 0; child = get_or w.kids (w.steps - 1) 0 })
+          let z : w.count ≡ suc (w.count - 1) = omega (arith, long) in
+          ap (λ (k : ℕ). lookup.leaf_of (steps_of w.steps k)) z
+          ∙ leaf_last (steps_of w.steps (w.count - 1))
+          (record { slot = (nth_step w.steps (w.count - 1)).slot; child = (nth_step w.steps (w.count - 1)).child })
 
-      pub get_suits : suits true (node_at (state_of size w.tree h b) (get_or w.slots (w.steps - 1) 0)).entries ≡ true
+      pub get_suits : suits true (node_at (state_of size w.tree h b) (nth_step w.steps (w.count - 1)).slot).entries ≡ true
       get_suits =
           let (dead, low) = down_leaf s' ps loads.down in
           let q = loads.loaded.stands.rows (lookup.leaf_of ps) dead in
@@ -144,15 +145,15 @@ module _ (l : lent.Lent) (size : ℕ) (t : Tree) (h0 b0 : List ℕ) (tr : truste
           ap (λ (n : ℕ). suits true (node_at s' n).entries) (sym leaf_is) ∙ rows_suit s'.order s'.info (node_at s' (lookup.leaf_of ps)).entries
           (rw u at q)
 
-      found_is : got_way l s (length out) key ≡ got_at s' (length out) (get_or w.slots (w.steps - 1) 0) key
+      found_is : got_way l s (length out) key ≡ got_at s' (length out) (nth_step w.steps (w.count - 1)).slot key
       unfolding got_way got_at held_at
       found_is = rw (way_is, arrives, leaf_is, loads.loaded.loads.order)
 
-      pub get_found : (y : Result (lookup.Got Val)) → y ≡ got_at (state_of size w.tree h b) (length out) (get_or w.slots (w.steps - 1) 0) key
+      pub get_found : (y : Result (lookup.Got Val)) → y ≡ got_at (state_of size w.tree h b) (length out) (nth_step w.steps (w.count - 1)).slot key
           → y ≡ got_way l (state_of size t h0 b0) (length out) key
       get_found y q = q ∙ sym found_is
 
-      pub get_found_out : (o : List ℕ) → o ≡ got_output out (got_at (state_of size w.tree h b) (length out) (get_or w.slots (w.steps - 1) 0) key)
+      pub get_found_out : (o : List ℕ) → o ≡ got_output out (got_at (state_of size w.tree h b) (length out) (nth_step w.steps (w.count - 1)).slot key)
           → o ≡ got_output out (got_way l (state_of size t h0 b0) (length out) key)
       get_found_out o q = q ∙ ap (got_output out) (sym found_is)
 
@@ -166,41 +167,26 @@ module _ (l : lent.Lent) (size : ℕ) (t : Tree) (h0 b0 key : List ℕ) (k : Boo
   unfolding state_of keyed
   keyed_is = sym ek
 
-  pub in_argument : (out : List ℕ) → not k ≡ true → got_means size h0 b0 out (Err is.Argument) ≡ lookup.get_in l (state_of size t h0 b0)
+  pub in_argument : (out : List ℕ) → k ≡ false → got_means size h0 b0 out (Err is.Argument) ≡ lookup.get_in l (state_of size t h0 b0)
       (length out) key
   unfolding got_means lookup.get_in
-  in_argument out n = sym (rw (keyed_is, not-true k n))
+  in_argument out n = sym (rw (keyed_is, n))
 
-  pub in_argument_same : (out : List ℕ) → not k ≡ true → out ≡ got_output out (lookup.get_in l (state_of size t h0 b0) (length out) key)
+  pub in_argument_same : (out : List ℕ) → k ≡ false → out ≡ got_output out (lookup.get_in l (state_of size t h0 b0) (length out) key)
   unfolding got_output lookup.get_in
-  in_argument_same out n = sym (rw (keyed_is, not-true k n))
+  in_argument_same out n = sym (rw (keyed_is, n))
 
-  module _ (n : not k ≡ false) (room : ℕ) (h1 : List ℕ) (es : state_of size t h1 b0 ≡ state_of size t h0 b0) where
+  module _ (n : k ≡ true) (room : ℕ) (h b : List ℕ) (es : state_of size t h b ≡ state_of size t h0 b0) where
     in_is : lookup.get_in l (state_of size t h0 b0) room key ≡ got_way l (state_of size t h0 b0) room key
     unfolding lookup.get_in got_way got_held
-    in_is = rw (keyed_is, not-false k n)
+    in_is = rw (keyed_is, n)
 
-    way_in : got_way l (state_of size t h1 b0) room key ≡ lookup.get_in l (state_of size t h0 b0) room key
+    pub way_in : got_way l (state_of size t h b) room key ≡ lookup.get_in l (state_of size t h0 b0) room key
     way_in = ap (λ (s : State). got_way l s room key) es ∙ sym in_is
 
-    pub in_answer : (y : Result (lookup.Got Val)) → y ≡ got_way l (state_of size t h1 b0) room key
-        → y ≡ lookup.get_in l (state_of size t h0 b0) room key
-    in_answer y q = q ∙ way_in
-
-    pub in_output : (o out : List ℕ) → o ≡ got_output out (got_way l (state_of size t h1 b0) room key)
+    pub in_output : (o out : List ℕ) → o ≡ got_output out (got_way l (state_of size t h b) room key)
         → o ≡ got_output out (lookup.get_in l (state_of size t h0 b0) room key)
     in_output o out q = q ∙ ap (got_output out) way_in
-
-pub in_trusted : (l : lent.Lent) (size : ℕ) (t : Tree) (h0 b0 h1 : List ℕ) → state_of size t h1 b0 ≡ state_of size t h0 b0
-    → trusted l (state_of size t h0 b0) ≡ true → trusted l (state_of size t h1 b0) ≡ true
-in_trusted l size t h0 b0 h1 e q = ap (trusted l) e ∙ q
-
--- a refusal is the same whatever the slots hold
-pub got_refused : (size : ℕ) (h b h' b' out : List ℕ) (g : std.Result (Tree × Option Copied) Refusal) → true ≡ is_err g
-    → got_means size h' b' out g ≡ got_means size h b out g
-unfolding got_means
-got_refused size h b h' b' out (Err x) z = refl
-got_refused size h b h' b' out (Ok v) z = cc
 
 -- ---- what get leaves
 
@@ -215,24 +201,28 @@ module _ (image : List ℕ) (l : Lent) (t : Tree) (h b : List ℕ) (c : Trusts i
         looked_trusts image l u h' b' v _ (trusted_get (lent_of image l) (state_of l.size t h b) room key c.trust)
         (roomy_get (lent_of image l) (state_of l.size t h b) room key c.trust c.roomy) (q ∙ e) y
 
-    got_trusts : (u : Tree) (v : Option Copied) → g ≡ Ok (u, v) → Trusts image l u h' b'
+    pub got_trusts : (u : Tree) (v : Option Copied) → g ≡ Ok (u, v) → Trusts image l u h' b'
     unfolding got_means
     got_trusts u v q = found_trusts u _ (ap (got_means l.size h' b' out) (sym q)) (subst (ReadyGot l.size l.slots h' b') q r)
-
-  pub got_kept : (key out : List ℕ) (room : ℕ) (g : std.Result (Tree × Option Copied) Refusal) → false ≡ is_err g
-      → got_means l.size h' b' out g ≡ lookup.get_in (lent_of image l) (state_of l.size t h b) room key → ReadyGot l.size l.slots h' b' g
-      → GotCalled image l t h b h' b' g
-  got_kept key out room (Err x) z e r = cc
-  got_kept key out room (Ok (u, v)) z e r = got_trusts key out room (Ok (u, v)) e r u v refl
-
-  pub got_undone : (g : std.Result (Tree × Option Copied) Refusal) → true ≡ is_err g → state_of l.size t h' b' ≡ state_of l.size t h b
-      → Ready l.size l.slots t.used h' b' → GotCalled image l t h b h' b' g
-  got_undone (Err x) z e r = (e, r)
-  got_undone (Ok v) z e r = cc
 
   pub left_of_lem : (g : std.Result (Tree × Option Copied) Refusal) → GotCalled image l t h b h' b' g → got_leaves l.size l.slots t h b h' b' g
   left_of_lem (Err x) k = (k.0, back_hold image l t h b c h' b' k.0 k.1)
   left_of_lem (Ok (u, v)) k = trusts_hold image l u h' b' k
+
+-- undone where it is refused: a refusal is the same whatever the slots hold
+module _ (l : Lent) (t : Tree) (h0 b0 h2 b2 h3 b3 out : List ℕ) where
+  pub got_undone : (g : std.Result (Tree × Option Copied) Refusal) → Undone l t h0 b0 h2 b2 h3 b3 g
+      → got_means l.size h3 b3 out g ≡ got_means l.size h2 b2 out g
+  unfolding got_means
+  got_undone (Err x) u = refl
+  got_undone (Ok v) u = rw (u.0, u.1)
+
+  pub got_left : (image key : List ℕ) (room : ℕ) (g : std.Result (Tree × Option Copied) Refusal) → Trusts image l t h0 b0
+      → Undone l t h0 b0 h2 b2 h3 b3 g
+      → got_means l.size h3 b3 out g ≡ lookup.get_in (lent_of image l) (state_of l.size t h0 b0) room key
+      → ReadyGot l.size l.slots h2 b2 g → GotCalled image l t h0 b0 h3 b3 g
+  got_left image key room (Err x) c u e r = u
+  got_left image key room (Ok (v, y)) c u e r = got_trusts image l t h0 b0 c h3 b3 key out room (Ok (v, y)) e (rw (u.0, u.1) r) v y refl
 
 -- after a refused get every call answers as if there had been none
 pub refused_none : {A : Type 0} (size slots : ℕ) (t : Tree) (heads bytes heads' bytes' : List ℕ) (x : Refusal)

@@ -15,7 +15,7 @@ use Rattle.node.specs.Find.{val_at, place_of, is_there}
 use Rattle.node.specs.laws.order.Found.{there_in}
 use Rattle.node.specs.laws.order.Rising.{every_at}
 use Rattle.node.specs.laws.slot.Records.{entries_head, length_entries}
-use Rattle.node.specs.laws.slot.Slot.{at_lies, value_leaf, value_ghost, part_value, part_length}
+use Rattle.node.specs.laws.slot.Slot.{at_lies, value_window, value_ghost, part_value, part_length}
 use Rattle.node.specs.Records.{mark_length, record_length, records_length, entry_of, entries_of, value_of}
 use Rattle.node.specs.Slot.{is_child, suit, suits, value_means}
 use Rattle.node.specs.internal.SlotSteps.{found_in, parts_at}
@@ -23,17 +23,12 @@ use Rattle.node.specs.declared.record.RecordParts.{RecordParts}
 use Rattle.node.specs.declared.slot.Found.{Found}
 use Rattle.tree.specs.Lookup as lookup
 use Rattle.node.specs.Result.{ok, refused}
-use Rattle.node.specs.Slot.{head_at}
 use Rattle.node.specs.Entry.{value_length, value_bytes}
 use Rattle.node.specs.laws.base.Seal.{length_window}
-use Rattle.node.specs.declared.head.Head.{Head}
-use Rattle.tree.specs.State.{State, no_node, node_at}
-use Rattle.tree.specs.Workspace.{slot_bytes, state_of}
+use Rattle.tree.specs.State.{State, node_at}
+use Rattle.tree.specs.Workspace.{state_of}
 use Rattle.tree.specs.Answers.{copied_of, got_means, got_bytes, got_output}
-use Rattle.tree.specs.internal.Bank.{node_in, live}
 use Rattle.tree.specs.internal.Get.{held_means, HeldIn, got_held, held_at, got_at}
-use Rattle.tree.specs.laws.slots.Bank.{live_entries}
-use Rattle.tree.specs.laws.slots.Tree.{node_in_lem, node_out}
 use Rattle.tree.specs.declared.editor.Tree.{Tree}
 use Rattle.tree.specs.declared.get.Held.{Held}
 use Rattle.tree.specs.declared.get.Held.TheVariants as held
@@ -109,7 +104,7 @@ module _ (o n : ℕ) (k l : List ℕ) (f : Found) (ef : f ≡ found_in o k n l) 
       pub held_value : suits true (entries_of n l) ≡ true → (r.mark ≡ 0xFFFF → ⊥) → held_means l (Some (held.Value r.value r.vlen)) ≡ lookup.held o k
           (entries_of n l)
       unfolding held_means value_means
-      held_value s q = sym (held_is ∙ ap (λ (v : Val). v ∷ []) (sym (value_leaf l f.at r er (mark_small s q))))
+      held_value s q = sym (held_is ∙ ap (λ (v : Val). v ∷ []) (sym (value_window l f.at r er (mark_small s q))))
 
       pub held_within : records_length n l ≤ length l → r.value + r.vlen ≤ length l
       unfolding parts_at
@@ -151,28 +146,11 @@ module _ (size : ℕ) (t : Tree) (heads bytes : List ℕ) (n : ℕ) (key out : L
     unfolding got_output got_bytes
     none_output = sym (ap (got_output out) none_is ∙ splice_none out)
 
-  out_none : t.used ≤ n → [] ≡ held_at (state_of size t heads bytes) n key
-  unfolding held_at lookup.held no_node is_there
-  out_none h = sym (rw (node_out size t heads bytes n h))
-
-  pub copy_out : t.used ≤ n → got_means size heads bytes out (Ok (t, None)) ≡ got_at (state_of size t heads bytes) (length out) n key
-  copy_out h = none_answer (out_none h)
-
-  pub copy_out_same : t.used ≤ n → out ≡ got_output out (got_at (state_of size t heads bytes) (length out) n key)
-  copy_out_same h = none_output (out_none h)
-
-  module _ (hn : n < t.used) (h : Head) (eh : h ≡ live (head_at heads n)) (l : List ℕ) (el : l ≡ slot_bytes size bytes n) where
-    entries_at : (node_at (state_of size t heads bytes) n).entries ≡ entries_of h.count l
-    unfolding node_in
-    entries_at = rw (node_in_lem size t heads bytes n hn, live_entries (head_at heads n) (slot_bytes size bytes n), eh, el)
-
-    pub leaf_suits : suits true (node_at (state_of size t heads bytes) n).entries ≡ true → suits true (entries_of h.count l) ≡ true
-    leaf_suits q = sym (ap (suits true) entries_at) ∙ q
-
-    module _ (v : Option Held) (ev : held_means l v ≡ lookup.held t.order key (entries_of h.count l)) where
+  module _ (c : ℕ) (l : List ℕ) (el : (node_at (state_of size t heads bytes) n).entries ≡ entries_of c l) where
+    module _ (v : Option Held) (ev : held_means l v ≡ lookup.held t.order key (entries_of c l)) where
       held_at_lem : held_means l v ≡ held_at (state_of size t heads bytes) n key
       unfolding held_at state_of
-      held_at_lem = ev ∙ ap (lookup.held t.order key) (sym entries_at)
+      held_at_lem = ev ∙ ap (lookup.held t.order key) (sym el)
 
       module _ (e : v ≡ None) where
         is_none : [] ≡ held_at (state_of size t heads bytes) n key

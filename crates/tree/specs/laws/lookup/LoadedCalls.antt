@@ -7,7 +7,7 @@ use Rattle.node.specs.Result.{Result}
 use Rattle.node.specs.Entry.{Entry, Val, ghost}
 use Rattle.node.specs.Bytes.{splice}
 use Rattle.node.specs.laws.base.Bytes.{Bytes}
-use Rattle.node.specs.Records.{record_length, records_length}
+use Rattle.node.specs.Records.{record_length, records_length, entries_of}
 use Rattle.node.specs.Slot.{head_at, suits}
 use Rattle.node.specs.internal.SlotSteps.{last_in}
 use Rattle.node.specs.declared.head.Head.{Head}
@@ -29,8 +29,8 @@ use Rattle.tree.specs.internal.Loaded.{LeadsTo, Walked}
 use Rattle.tree.specs.laws.trust.Stands.{Stands, all, trusted_of}
 use Rattle.tree.specs.laws.trust.Loads.{WayLoaded, way_loaded}
 use Rattle.tree.specs.laws.trust.Edit.{down_leaf}
-use Rattle.tree.specs.laws.lookup.GetCall.{rows_suit, got_kept}
-use Rattle.tree.specs.laws.lookup.FloorCall.{floor_kept}
+use Rattle.tree.specs.laws.lookup.GetCall.{rows_suit, got_trusts}
+use Rattle.tree.specs.laws.lookup.FloorCall.{floor_trusts}
 use Rattle.tree.specs.laws.lookup.FloorLeaf.{above_one, count_above, floor_at_ready}
 use Rattle.tree.specs.laws.lookup.FloorLeaf.{entry_lies, record_refused, record_refused_same, record_copied, record_copied_out}
 use Rattle.tree.specs.laws.load.LoadedWay.{Arrives, leads_way, leads_floor}
@@ -90,7 +90,7 @@ module _ (image : List ℕ) (l : Lent) (t : Tree) (h b : List ℕ) (c : Trusts i
       → got_means l.size h b out g ≡ lookup.get_in (lent_of image l) (state_of l.size t h b) room key
       → ReadyGot l.size l.slots h b g → GotCalled image l t h b h b g
   got_left out room (Err x) e r = (refl, c.ready)
-  got_left out room (Ok (u, v)) e r = got_kept image l t h b c h b key out room (Ok (u, v)) refl e r
+  got_left out room (Ok (u, v)) e r = got_trusts image l t h b c h b key out room (Ok (u, v)) e r u v refl
 
   -- ---- floor
 
@@ -98,7 +98,7 @@ module _ (image : List ℕ) (l : Lent) (t : Tree) (h b : List ℕ) (c : Trusts i
       → floor_means l.size h b out g ≡ lookup.floor_in (lent_of image l) (state_of l.size t h b) room key
       → FloorReady l.size l.slots h b g → FloorCalled image l t h b h b g
   floor_left out room (Err x) e r = (refl, c.ready)
-  floor_left out room (Ok (u, n)) e r = floor_kept image l t h b c h b key out room (Ok (u, n)) refl e r
+  floor_left out room (Ok (u, n)) e r = floor_trusts image l t h b c h b key out room (Ok (u, n)) e r u n refl
 
   module _ (r : Spot) (q : SpotIs l.size l.slots t h b key r) where
     pub spot_answer : (room : ℕ) (y : Result (lookup.Got Entry))
@@ -109,9 +109,9 @@ module _ (image : List ℕ) (l : Lent) (t : Tree) (h b : List ℕ) (c : Trusts i
 module _ (size slots : ℕ) (t : Tree) (heads bytes key : List ℕ) where
   module _ (n : ℕ) (k : keyed (state_of size t heads bytes).order key ≡ true)
       (q : LeadsTo (node_at (state_of size t heads bytes) (state_of size t heads bytes).root).level (state_of size t heads bytes) key n
-      (state_of size t heads bytes).root) (hn : n < t.used) (r : Ready size slots t.used heads bytes)
-      (h : Head) (eh : h ≡ live (head_at heads n)) (l : List ℕ) (el : l ≡ slot_bytes size bytes n) (x : found.Last)
-      (ex : x ≡ last_in t.order key h.count l) (z : x.count ≡ 0 → ⊥) where
+      (state_of size t heads bytes).root) (r : Ready size slots t.used heads bytes) (c : ℕ) (l : List ℕ)
+      (ec : (node_at (state_of size t heads bytes) n).entries ≡ entries_of c l) (el : l ≡ slot_bytes size bytes n) (x : found.Last)
+      (ex : x ≡ last_in t.order key c l) (z : x.count ≡ 0 → ⊥) where
     at_is : x.at ≡ records_length (x.count - 1) (slot_bytes size bytes n)
     unfolding last_in
     at_is = rw (ex, el)
@@ -123,12 +123,12 @@ module _ (size slots : ℕ) (t : Tree) (heads bytes key : List ℕ) where
         let s : State = state_of size t heads bytes in
         let e : Entry = get_or (node_at s n).entries (x.count - 1) (record { key = []; value = ghost }) in
         let o = above_one t.order key (node_at s n).entries (x.count - 1)
-        (omega (arith, count_above size t heads bytes key n hn h eh l el x ex)) in
+        (omega (arith, count_above size t heads bytes key n c l ec x ex)) in
         let f = leads_floor (node_at s s.root).level v s unbounded key n s.root e q o in
         rw (k, f)
 
     pub spot_is : SpotIs size slots t heads bytes key (record { slot = n; index = x.count - 1; at = x.at })
-    spot_is = record { ready = floor_at_ready size t heads bytes key n hn h eh l el x ex z slots r; lies = at_is; answer = spot_floor }
+    spot_is = record { ready = floor_at_ready size t heads bytes key n c l ec x ex z slots r; lies = at_is; answer = spot_floor }
 
 -- ---- a record copied from where it lies
 
@@ -161,7 +161,7 @@ module _ (size slots : ℕ) (t : Tree) (heads bytes : List ℕ) (r : Spot) (k : 
           (entry_in (state_of size t heads bytes) r.slot r.index)
       spot_copied = record_copied size slots t heads bytes r.slot r.index k h refl l el r.at at_in end ee out q out' eo
 
-      pub spot_copied_out : Bytes bytes
+      pub spot_copied_out : Bytes l
           → out' ≡ floored_output out (floored_of (length out) (entry_in (state_of size t heads bytes) r.slot r.index))
       spot_copied_out b = record_copied_out size slots t heads bytes r.slot r.index k h refl l el r.at at_in end ee out q out' eo b
 

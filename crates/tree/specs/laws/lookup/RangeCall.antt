@@ -1,11 +1,11 @@
 -- Laws of range as a call: loaded and counted, then written out; refused, every slot is as it was. Assumes nothing.
-use Rattle.std.specs.Prelude.{◌≡◌, Bool, true, false, not, ℕ, ◌+◌, ◌*◌, ◌≤◌, ◌<◌, drop, leb}
+use Rattle.std.specs.Prelude.{◌≡◌, Bool, true, false, ℕ, ◌+◌, ◌*◌, ◌≤◌, ◌<◌, drop, leb}
 use Rattle.std.proofs.Math.Path.{refl, sym, ap, ap₂}
 use Rattle.std.proofs.Common.{subst, ◌∙◌, arith}
 use mathlib.Core.List.{List, [], ◌∷◌, append-nil}
 use Rattle.std.proofs.Math.ListN.{length, take}
 use Rattle.std.proofs.Math.Seq.{take-append_seam}
-use borrow.Author.Tests.{le-leb, lt-leb, not-true, not-false}
+use borrow.Author.Tests.{le-leb, lt-leb}
 use Rattle.node.specs.Bytes.{splice}
 use Rattle.node.specs.Result.{Result, ok, refused, ◌>>◌, check}
 use Rattle.node.specs.Refusals as refusal
@@ -35,7 +35,7 @@ use Rattle.tree.specs.declared.editor.Tree.{Tree}
 use Rattle.tree.specs.declared.range.Sum.{Sum}
 use Rattle.tree.specs.declared.range.Ranged.{Ranged}
 use Rattle.std.specs.Prelude as std
-use Rattle.std.specs.Prelude.{Ok, Err, Some, None, is_err}
+use Rattle.std.specs.Prelude.{Ok, Err, Some, None}
 use Rattle.std.specs.Borrow.{Bor}
 use Rattle.node.specs.declared.refusal.Refusal.{Refusal}
 use Rattle.node.specs.declared.refusal.Refusal.TheVariants as is
@@ -187,10 +187,10 @@ module _ (image : List ℕ) (l : Lent) (t : Tree) (h0 b0 lo hi : List ℕ) (a : 
   unfolding state_of keyed
   low_is = sym ea
 
-  module _ (na : not a ≡ true) where
+  module _ (na : a ≡ false) where
     low_no : (room : ℕ) → range_in (lent_of image l) (state_of l.size t h0 b0) room lo hi ≡ refused 12
     unfolding range_in
-    low_no room = rw (low_is, not-true a na)
+    low_no room = rw (low_is, na)
 
     pub in_low : (out : List ℕ) → range_means l.size h0 b0 out (Err is.Argument)
         ≡ range_in (lent_of image l) (state_of l.size t h0 b0) (length out) lo hi
@@ -201,15 +201,15 @@ module _ (image : List ℕ) (l : Lent) (t : Tree) (h0 b0 lo hi : List ℕ) (a : 
     unfolding ranged_output
     in_low_same out = sym (ap (ranged_output out) (low_no (length out)))
 
-  module _ (na : not a ≡ false) (c : Bool) (ec : c ≡ keyed_length t.order (length hi)) where
+  module _ (na : a ≡ true) (c : Bool) (ec : c ≡ keyed_length t.order (length hi)) where
     high_is : keyed (state_of l.size t h0 b0).order hi ≡ c
     unfolding state_of keyed
     high_is = sym ec
 
-    module _ (nc : not c ≡ true) where
+    module _ (nc : c ≡ false) where
       high_no : (room : ℕ) → range_in (lent_of image l) (state_of l.size t h0 b0) room lo hi ≡ refused 12
       unfolding range_in
-      high_no room = rw (low_is, not-false a na, high_is, not-true c nc)
+      high_no room = rw (low_is, na, high_is, nc)
 
       pub in_high : (out : List ℕ) → range_means l.size h0 b0 out (Err is.Argument)
           ≡ range_in (lent_of image l) (state_of l.size t h0 b0) (length out) lo hi
@@ -220,29 +220,14 @@ module _ (image : List ℕ) (l : Lent) (t : Tree) (h0 b0 lo hi : List ℕ) (a : 
       unfolding ranged_output
       in_high_same out = sym (ap (ranged_output out) (high_no (length out)))
 
-    module _ (nc : not c ≡ false) (room : ℕ) (h1 : List ℕ) (same : state_of l.size t h1 b0 ≡ state_of l.size t h0 b0) where
+    module _ (nc : c ≡ true) (room : ℕ) (h b : List ℕ) (same : state_of l.size t h b ≡ state_of l.size t h0 b0) where
       in_is : range_in (lent_of image l) (state_of l.size t h0 b0) room lo hi ≡ range_way (lent_of image l) (state_of l.size t h0 b0) room lo hi
       unfolding range_in range_way
-      in_is = rw (low_is, not-false a na, high_is, not-false c nc)
+      in_is = rw (low_is, na, high_is, nc)
 
-      way_in : range_way (lent_of image l) (state_of l.size t h1 b0) room lo hi ≡ range_in (lent_of image l) (state_of l.size t h0 b0) room lo hi
+      pub way_in : range_way (lent_of image l) (state_of l.size t h b) room lo hi ≡ range_in (lent_of image l) (state_of l.size t h0 b0) room lo hi
       way_in = ap (λ (y : State). range_way (lent_of image l) y room lo hi) same ∙ sym in_is
 
-      pub in_answer : (y : Result (Got Entry)) → y ≡ range_way (lent_of image l) (state_of l.size t h1 b0) room lo hi
-          → y ≡ range_in (lent_of image l) (state_of l.size t h0 b0) room lo hi
-      in_answer y q = q ∙ way_in
-
-      pub in_output : (o out : List ℕ) → o ≡ ranged_output out (range_way (lent_of image l) (state_of l.size t h1 b0) room lo hi)
+      pub in_output : (o out : List ℕ) → o ≡ ranged_output out (range_way (lent_of image l) (state_of l.size t h b) room lo hi)
           → o ≡ ranged_output out (range_in (lent_of image l) (state_of l.size t h0 b0) room lo hi)
       in_output o out q = q ∙ ap (ranged_output out) way_in
-
-pub in_roomy : (k size : ℕ) (t : Tree) (h0 b0 h1 : List ℕ) → state_of size t h1 b0 ≡ state_of size t h0 b0 → Roomy k (state_of size t h0 b0)
-    → Roomy k (state_of size t h1 b0)
-in_roomy k size t h0 b0 h1 e r = subst (Roomy k) (sym e) r
-
--- a refusal is the same whatever the slots hold
-pub ranged_refused : (size : ℕ) (h b h' b' out : List ℕ) (x : std.Result Ranged Refusal) → true ≡ is_err x
-    → range_means size h' b' out x ≡ range_means size h b out x
-unfolding range_means
-ranged_refused size h b h' b' out (Err y) z = refl
-ranged_refused size h b h' b' out (Ok r) z = cc

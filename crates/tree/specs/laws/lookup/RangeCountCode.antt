@@ -27,6 +27,7 @@ use Rattle.tree.specs.laws.lookup.RangeCount.{child_load, Found, counted_found, 
 use Rattle.tree.specs.laws.lookup.RangeCount.{ahead_more, kids_child}
 use Rattle.tree.specs.laws.lookup.FloorLoads.{bounds_more, bounds_loads}
 use Rattle.tree.specs.declared.editor.Tree.{Tree}
+use Rattle.tree.specs.declared.editor.Bound.{Bound}
 use Rattle.tree.specs.declared.editor.Bounds.{Bounds}
 use Rattle.tree.specs.declared.range.Sum.{Sum}
 use Rattle.tree.specs.declared.range.Ranged.{Ranged}
@@ -36,7 +37,7 @@ use Rattle.node.specs.declared.refusal.Refusal.{Refusal}
 
 -- ---- a child: passed, or loaded and looked into
 
-module _ (l : Lent) (size : ℕ) (t : Tree) (heads bytes : List ℕ) (b : Bounds) (n i d : ℕ) (lo : List ℕ) (hi : List (List ℕ)) (enters : Bool)
+module _ (l : Lent) (size : ℕ) (t : Tree) (heads bytes : List ℕ) (b : Bounds Bound) (n i d : ℕ) (lo : List ℕ) (hi : List (List ℕ)) (enters : Bool)
     (ee : enters ≡ range_enters t.order lo hi (node_at (state_of size t heads bytes) n).entries i) where
   abbrev s : State
   s = state_of size t heads bytes
@@ -72,7 +73,7 @@ module _ (l : Lent) (size : ℕ) (t : Tree) (heads bytes : List ℕ) (b : Bounds
       pub child_more : t.used ≤ t'.used
       child_more = omega (arith, loads.longer, used_nodes size t heads bytes, used_nodes size t' h1 b1)
 
-      module _ (inner : Bounds) (hb : BoundsIn t.used b) (f : BoundsIn t.used b → n < t.used → BoundsIn t.used inner) where
+      module _ (inner : Bounds Bound) (hb : BoundsIn t.used b) (f : BoundsIn t.used b → n < t.used → BoundsIn t.used inner) where
         inner_in : BoundsIn t.used inner
         inner_in = f hb (omega (
           arith,
@@ -96,7 +97,7 @@ module _ (l : Lent) (size : ℕ) (t : Tree) (heads bytes : List ℕ) (b : Bounds
 
 -- ---- the children of a node
 
-module _ (l : Lent) (size : ℕ) (t : Tree) (heads bytes : List ℕ) (b : Bounds) (n d : ℕ) (lo : List ℕ) (hi : List (List ℕ)) where
+module _ (l : Lent) (size : ℕ) (t : Tree) (heads bytes : List ℕ) (b : Bounds Bound) (n d : ℕ) (lo : List ℕ) (hi : List (List ℕ)) where
   -- a leaf
   pub from_leaf : d ≡ 0 → (m : Sum) → m ≡ sum_of (between t.order lo hi (node_at (state_of size t heads bytes) n).entries)
       → ranged_of size heads bytes (Ok (record { tree = t; count = m.count; length = m.length })) ≡ counted

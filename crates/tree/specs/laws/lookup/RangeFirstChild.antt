@@ -12,24 +12,21 @@ use Rattle.node.specs.Result.{Result}
 use Rattle.node.specs.Entry.{Entry, ghost}
 use Rattle.node.specs.Find.{key_at}
 use Rattle.node.specs.Records.{record_length, records_length, records_of, entry_of, entries_of}
-use Rattle.node.specs.Slot.{head_at}
-use Rattle.node.specs.declared.head.Head.{Head}
 use Rattle.node.specs.laws.base.Tests.{by_test}
 use Rattle.node.specs.laws.slot.Slot.{at_lies, at_next}
 use Rattle.node.specs.laws.slot.Records.{entries_head, length_entries}
 use Rattle.tree.specs.Lent.{Lent}
-use Rattle.tree.specs.State.{State, no_node, node_at}
+use Rattle.tree.specs.State.{State, node_at}
 use Rattle.tree.specs.Load.{Bounds}
 use Rattle.tree.specs.Lookup.{Got, ends_above, range_enters, range_kids, range_from}
-use Rattle.tree.specs.Workspace.{slot_bytes, state_of}
-use Rattle.tree.specs.internal.Bank.{node_in, live}
+use Rattle.tree.specs.Workspace.{state_of}
 use Rattle.tree.specs.internal.Tree.{bounds_of}
 use Rattle.tree.specs.internal.Range.{next_entered, Counted, counted, ahead, held_child, held_kids, range_held}
-use Rattle.tree.specs.laws.slots.Bank.{live_entries}
-use Rattle.tree.specs.laws.slots.Tree.{node_in_lem, node_out}
+use Rattle.tree.specs.laws.slots.Records.{count_is}
 use Rattle.tree.specs.laws.lookup.Between.{enters_above, enters_last, enters_next}
 use Rattle.tree.specs.laws.lookup.RangeCountCode.{from_start}
 use Rattle.tree.specs.laws.lookup.RangeOut.{kids_start, kids_start_out}
+use Rattle.tree.specs.declared.editor.Bound.{Bound}
 use Rattle.tree.specs.declared.editor.Bounds as Held
 use Rattle.tree.specs.declared.editor.Tree.{Tree}
 use Rattle.tree.specs.declared.range.Sum.{Sum}
@@ -108,32 +105,12 @@ none_next : (o : ℕ) (lo : List ℕ) (hi : List (List ℕ)) (es : List Entry) (
 unfolding next_entered
 none_next o lo hi es from h = let z : length es - from ≡ 0 = omega arith in sym (ap (λ (m : ℕ). next_entered o lo hi es m from) z)
 
-module _ (size : ℕ) (t : Tree) (heads bytes : List ℕ) (n from : ℕ) (lo : List ℕ) (hi : List (List ℕ)) where
-  pub next_out : t.used ≤ n → from ≡ next_entered t.order lo hi (node_at (state_of size t heads bytes) n).entries
-      (length (node_at (state_of size t heads bytes) n).entries - from) from
-  unfolding no_node
-  next_out h =
-      none_next t.order lo hi (node_at (state_of size t heads bytes) n).entries from (rw (node_out size t heads bytes n h) (omega arith))
+module _ (es : List Entry) (n : ℕ) (l : List ℕ) (e : es ≡ entries_of n l) (o from : ℕ) (lo : List ℕ) (hi : List (List ℕ)) where
+  pub next_past : n < from → from ≡ next_entered o lo hi es (length es - from) from
+  next_past q = none_next o lo hi es from (omega (arith, count_is es n l e))
 
-  module _ (hn : n < t.used) (h : Head) (eh : h ≡ live (head_at heads n)) where
-    slot_entries : (l : List ℕ) → l ≡ slot_bytes size bytes n → entries_of h.count l ≡ (node_at (state_of size t heads bytes) n).entries
-    unfolding node_in
-    slot_entries l el = sym (rw (node_in_lem size t heads bytes n hn, live_entries (head_at heads n) (slot_bytes size bytes n), eh, el))
-
-    slot_count : (l : List ℕ) → l ≡ slot_bytes size bytes n → length (node_at (state_of size t heads bytes) n).entries ≡ h.count
-    slot_count l el = sym (ap length (slot_entries l el)) ∙ length_entries h.count l
-
-    pub next_past : h.count < from → from ≡ next_entered t.order lo hi (node_at (state_of size t heads bytes) n).entries
-        (length (node_at (state_of size t heads bytes) n).entries - from) from
-    next_past q =
-        none_next t.order lo hi (node_at (state_of size t heads bytes) n).entries from (omega (arith, slot_count (slot_bytes size bytes n) refl))
-
-    pub next_some : (l : List ℕ) → l ≡ slot_bytes size bytes n → (r : ℕ)
-        → r ≡ next_entered t.order lo hi (entries_of h.count l) (h.count - from) from
-        → r ≡ next_entered t.order lo hi (node_at (state_of size t heads bytes) n).entries
-        (length (node_at (state_of size t heads bytes) n).entries - from) from
-    next_some l el r e =
-        e ∙ ap₂ (λ (x : List Entry) (m : ℕ). next_entered t.order lo hi x (m - from) from) (slot_entries l el) (sym (slot_count l el))
+  pub next_some : (r : ℕ) → r ≡ next_entered o lo hi (entries_of n l) (n - from) from → r ≡ next_entered o lo hi es (length es - from) from
+  next_some r q = q ∙ ap₂ (λ (x : List Entry) (m : ℕ). next_entered o lo hi x (m - from) from) (sym e) (count_is es n l e)
 
 -- ---- children that are not entered add nothing
 
@@ -177,7 +154,7 @@ from_skipped f l size t heads bytes bs n lo hi kids m i j sum whole e inv =
     ∙ ap (λ (r : Result (Got Entry)). ahead sum (counted r)) (kids_skipped f l s bs n lo hi kids m i) ∙ inv
 
 -- before the first
-pub from_begin : (l : Lent) (size : ℕ) (t : Tree) (heads bytes : List ℕ) (b : Held.Bounds) (n d : ℕ) (lo : List ℕ) (hi : List (List ℕ))
+pub from_begin : (l : Lent) (size : ℕ) (t : Tree) (heads bytes : List ℕ) (b : Held.Bounds Bound) (n d : ℕ) (lo : List ℕ) (hi : List (List ℕ))
     → (d ≡ 0 → ⊥) → (kids : ℕ) → kids ≡ length (node_at (state_of size t heads bytes) n).entries → (m j : ℕ)
     → j ≡ next_entered t.order lo hi (node_at (state_of size t heads bytes) n).entries m 0
     → ahead (record { count = 0; length = 0 }) (counted (range_kids (range_from (d - 1) l lo hi) l (state_of size t heads bytes)

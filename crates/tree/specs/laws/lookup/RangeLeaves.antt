@@ -19,7 +19,7 @@ use Rattle.tree.specs.Hold.{lent_holds}
 use Rattle.tree.specs.Trust.{trusted}
 use Rattle.tree.specs.Workspace.{state_of, workspace_holds, called}
 use Rattle.tree.specs.Answers.{range_means, ranged_in, ranged_output, ranged_leaves}
-use Rattle.tree.specs.internal.Bank.{Ready}
+use Rattle.tree.specs.internal.Undo.{Undone}
 use Rattle.tree.specs.internal.Room.{Roomy}
 use Rattle.tree.specs.internal.Edits.{Trusts}
 use Rattle.tree.specs.internal.Range.{ReadyRanged, RangeCalled}
@@ -30,7 +30,7 @@ use Rattle.tree.specs.declared.lent.Lent.{Lent}
 use Rattle.tree.specs.declared.editor.Tree.{Tree}
 use Rattle.tree.specs.declared.range.Ranged.{Ranged}
 use Rattle.std.specs.Prelude as std
-use Rattle.std.specs.Prelude.{Ok, Err, is_err}
+use Rattle.std.specs.Prelude.{Ok, Err}
 use Rattle.node.specs.declared.refusal.Refusal.{Refusal}
 use Rattle.node.specs.declared.refusal.Refusal.TheVariants as is
 
@@ -54,20 +54,24 @@ module _ (image : List ℕ) (l : Lent) (t : Tree) (h b : List ℕ) (c : Trusts i
       (roomy_ranged (lent_of image l) (state_of l.size t h b) room lo hi c.trust c.roomy)
       (ap (range_means l.size h' b' out) (sym q) ∙ e) (subst (ReadyRanged l.size l.slots h' b') q y)
 
-  pub ranged_kept : (lo hi out : List ℕ) (room : ℕ) (x : std.Result Ranged Refusal) → false ≡ is_err x
-      → range_means l.size h' b' out x ≡ range_in (lent_of image l) (state_of l.size t h b) room lo hi → ReadyRanged l.size l.slots h' b' x
-      → RangeCalled image l t h b h' b' x
-  ranged_kept lo hi out room (Err y) z e r = cc
-  ranged_kept lo hi out room (Ok v) z e r = ranged_trusts lo hi out room (Ok v) e r v refl
-
-  pub ranged_undone : (x : std.Result Ranged Refusal) → true ≡ is_err x → state_of l.size t h' b' ≡ state_of l.size t h b
-      → Ready l.size l.slots t.used h' b' → RangeCalled image l t h b h' b' x
-  ranged_undone (Err y) z e r = (e, r)
-  ranged_undone (Ok v) z e r = cc
-
   pub left_ranged : (x : std.Result Ranged Refusal) → RangeCalled image l t h b h' b' x → ranged_leaves l.size l.slots t h b h' b' x
   left_ranged (Err y) k = (k.0, back_hold image l t h b c h' b' k.0 k.1)
   left_ranged (Ok r) k = trusts_hold image l r.tree h' b' k
+
+-- undone where it is refused: a refusal is the same whatever the slots hold
+module _ (l : Lent) (t : Tree) (h0 b0 h2 b2 h3 b3 out : List ℕ) where
+  pub ranged_undone : (g : std.Result Ranged Refusal) → Undone l t h0 b0 h2 b2 h3 b3 g
+      → range_means l.size h3 b3 out g ≡ range_means l.size h2 b2 out g
+  unfolding range_means
+  ranged_undone (Err x) u = refl
+  ranged_undone (Ok v) u = rw (u.0, u.1)
+
+  pub ranged_left : (image lo hi : List ℕ) (room : ℕ) (g : std.Result Ranged Refusal) → Trusts image l t h0 b0
+      → Undone l t h0 b0 h2 b2 h3 b3 g
+      → range_means l.size h3 b3 out g ≡ range_in (lent_of image l) (state_of l.size t h0 b0) room lo hi
+      → ReadyRanged l.size l.slots h2 b2 g → RangeCalled image l t h0 b0 h3 b3 g
+  ranged_left image lo hi room (Err x) c u e r = u
+  ranged_left image lo hi room (Ok v) c u e r = ranged_trusts image l t h0 b0 c h3 b3 lo hi out room (Ok v) e (rw (u.0, u.1) r) v refl
 
 module _ (image : List ℕ) (l : Lent) (t : Tree) (h0 b0 : List ℕ) (a : Bool)
     (ea : a ≡ workspace_holds l.size l.slots t.used h0 b0 && lent_holds (lent_of image l) (state_of l.size t h0 b0)) where

@@ -1,32 +1,25 @@
 -- Laws of range as it writes out what is loaded: a leaf, a child, the children of a node. Assumes nothing.
 use Rattle.node.specs.laws.base.Bytes.{Bytes, bytes_window}
 use Rattle.std.proofs.Math.Path.{◌≡◌, sym, ap}
-use Rattle.std.specs.Prelude.{refl, List, [], ◌++◌, Bool, not}
+use Rattle.std.specs.Prelude.{List, [], ◌++◌, Bool, not}
 use Rattle.std.proofs.Common.{ap₂, ◌∙◌, add-one, length-append}
 use Rattle.std.proofs.Math.Bool.{true, false}
-use Prim.Native.Nat.{ℕ, suc, ◌+◌, ◌-◌, ◌≤◌, ◌<◌, ◌^◌}
+use Prim.Native.Nat.{ℕ, suc, ◌+◌, ◌-◌, ◌≤◌, ◌<◌}
 use native.Mathlib.Omega.{arith}
 use Rattle.std.proofs.Math.ListN.{length}
 use borrow.Author.Tests.{not-true, not-false}
 use Rattle.node.specs.Bytes.{splice}
 use Rattle.node.specs.Entry.{Entry, Val}
 use Rattle.node.specs.Find.{val_at}
-use Rattle.node.specs.Records.{entries_of, records_of}
-use Rattle.node.specs.Slot.{head_at}
-use Rattle.node.specs.declared.head.Head.{Head}
-use Rattle.tree.specs.State.{State, no_node, node_at}
+use Rattle.node.specs.Records.{records_of}
+use Rattle.tree.specs.State.{State, node_at}
 use Rattle.tree.specs.Lookup.{between, range_enters}
 use Rattle.tree.specs.Workspace.{slot_bytes, state_of}
-use Rattle.tree.specs.internal.Bank.{node_in, live, Ready}
 use Rattle.tree.specs.internal.Tree.{child_of}
-use Rattle.tree.specs.internal.Range.{at_most, sum_of, held_below, held_child, held_kids, range_held}
+use Rattle.tree.specs.internal.Range.{held_below, held_child, held_kids, range_held}
 use Rattle.tree.specs.laws.state.State.{by_val}
-use Rattle.tree.specs.laws.slots.Bank.{live_entries}
-use Rattle.tree.specs.laws.slots.Tree.{node_in_lem, node_out}
-use Rattle.tree.specs.laws.slots.OneSlot.{slot_long}
 use Rattle.tree.specs.laws.lookup.Between.{splice_two, splice_none, records_append}
 use Rattle.tree.specs.declared.editor.Tree.{Tree}
-use Rattle.tree.specs.declared.range.Sum.{Sum}
 use Rattle.std.specs.Prelude.{Some, None, Option}
 use Rattle.node.specs.declared.val.Child.{Child}
 use Rattle.node.specs.declared.val.Child.TheVariants as child
@@ -44,51 +37,6 @@ nothing_out x k out e = sym (ap (λ (y : List Entry). splice out k (records_of y
 pub slot_known : (size : ℕ) (bytes : List ℕ) (n : ℕ) (part : List ℕ) → Bytes bytes → part ≡ slot_bytes size bytes n → Bytes part
 unfolding slot_bytes
 slot_known size bytes n part h e = rw e (bytes_window _ _ bytes h)
-
--- ---- the entries of a slot
-
-pub slot_short : (size slots used n : ℕ) (heads bytes : List ℕ) → Ready size slots used heads bytes → n < used → (l : List ℕ)
-    → l ≡ slot_bytes size bytes n → length l ≤ 2 ^ 20
-slot_short size slots used n heads bytes r h l e =
-    omega (arith, slot_long size slots used n heads bytes r h l e (live (head_at heads n)) refl, r.most)
-
-module _ (size : ℕ) (t : Tree) (heads bytes : List ℕ) (n : ℕ) (lo : List ℕ) (hi : List (List ℕ)) where
-  module _ (h : t.used ≤ n) where
-    none_there : between t.order lo hi (node_at (state_of size t heads bytes) n).entries ≡ []
-    unfolding between no_node
-    none_there = rw (node_out size t heads bytes n h)
-
-    pub count_none : ◌≡◌ {A = Sum} (record { count = 0; length = 0 }) (sum_of
-        (between t.order lo hi (node_at (state_of size t heads bytes) n).entries))
-    unfolding sum_of records_of at_most
-    count_none = sym (rw none_there)
-
-    pub end_none : (k : ℕ) → k ≡ k + length (records_of (between t.order lo hi (node_at (state_of size t heads bytes) n).entries))
-    end_none k = nothing_end _ k none_there
-
-    pub out_none : (k : ℕ) (out : List ℕ) → out ≡ splice out k (records_of (between t.order lo hi (node_at (state_of size t heads bytes) n).entries))
-    out_none k out = nothing_out _ k out none_there
-
-  module _ (hn : n < t.used) (h : Head) (eh : h ≡ live (head_at heads n)) (l : List ℕ) (el : l ≡ slot_bytes size bytes n) where
-    entries_at : entries_of h.count l ≡ (node_at (state_of size t heads bytes) n).entries
-    unfolding node_in
-    entries_at = sym (rw (node_in_lem size t heads bytes n hn, live_entries (head_at heads n) (slot_bytes size bytes n), eh, el))
-
-    pub count_at : (r : Sum) → r ≡ sum_of (between t.order lo hi (entries_of h.count l))
-        → r ≡ sum_of (between t.order lo hi (node_at (state_of size t heads bytes) n).entries)
-    count_at r e = e ∙ ap (λ (x : List Entry). sum_of (between t.order lo hi x)) entries_at
-
-    pub room_at : (k m : ℕ) → k + length (records_of (between t.order lo hi (node_at (state_of size t heads bytes) n).entries)) ≤ m
-        → k + length (records_of (between t.order lo hi (entries_of h.count l))) ≤ m
-    room_at k m e = rw entries_at e
-
-    pub end_at : (k r : ℕ) → r ≡ k + length (records_of (between t.order lo hi (entries_of h.count l)))
-        → r ≡ k + length (records_of (between t.order lo hi (node_at (state_of size t heads bytes) n).entries))
-    end_at k r e = e ∙ ap (λ (x : List Entry). k + length (records_of (between t.order lo hi x))) entries_at
-
-    pub out_at : (k : ℕ) (out out' : List ℕ) → out' ≡ splice out k (records_of (between t.order lo hi (entries_of h.count l)))
-        → out' ≡ splice out k (records_of (between t.order lo hi (node_at (state_of size t heads bytes) n).entries))
-    out_at k out out' e = e ∙ ap (λ (x : List Entry). splice out k (records_of (between t.order lo hi x))) entries_at
 
 -- ---- a child
 

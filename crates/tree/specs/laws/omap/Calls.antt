@@ -4,7 +4,6 @@ use Rattle.std.proofs.Math.Path.{sym, ap}
 use Rattle.std.proofs.Common.{◌∙◌}
 use mathlib.Core.List.{List}
 use Rattle.std.proofs.Math.Bool.{false}
-use borrow.Author.Tests.{not-true, not-false}
 use Rattle.node.specs.Entry.{leaf}
 use Rattle.node.specs.Order.{pair_key}
 use Rattle.node.specs.Result.{Result, ok}
@@ -46,34 +45,34 @@ edited_ready size slots h b r t e y = rw e at y
 
 -- ---- 12
 
-pub is_omap_lem : (t : Tree) (a : Bool) → ((size : ℕ) (heads bytes : List ℕ) → a ≡ is_omap (state_of size t heads bytes)) → not a ≡ false
+pub is_omap_lem : (t : Tree) (a : Bool) → ((size : ℕ) (heads bytes : List ℕ) → a ≡ is_omap (state_of size t heads bytes)) → a ≡ true
     → (size : ℕ) (h b : List ℕ) → is_omap (state_of size t h b) ≡ true
-is_omap_lem t a e q size h b = sym (e size h b) ∙ not-false a q
+is_omap_lem t a e q size h b = sym (e size h b) ∙ q
 
 module _ (image : List ℕ) (l : Lent) (t : Tree) (h0 b0 : List ℕ) (a : Bool)
     (e : (size : ℕ) (heads bytes : List ℕ) → a ≡ is_omap (state_of size t heads bytes)) where
-  pub drop_argument : (id : ℕ) → not a ≡ true
+  pub drop_argument : (id : ℕ) → a ≡ false
       → edited_of l.size h0 b0 (Err is.Argument) ≡ omap_drop_in (lent_of image l) (state_of l.size t h0 b0) id
   unfolding edited_of omap_drop_in
-  drop_argument id q = let z : is_omap (state_of l.size t h0 b0) ≡ false = sym (e l.size h0 b0) ∙ not-true a q in sym (rw z)
+  drop_argument id q = let z : is_omap (state_of l.size t h0 b0) ≡ false = sym (e l.size h0 b0) ∙ q in sym (rw z)
 
-  pub put_argument : (id xid address size : ℕ) → not a ≡ true
+  pub put_argument : (id xid address size : ℕ) → a ≡ false
       → edited_of l.size h0 b0 (Err is.Argument) ≡ omap_put_in (lent_of image l) (state_of l.size t h0 b0) id xid address size
   unfolding edited_of omap_put_in
-  put_argument id xid address size q = let z : is_omap (state_of l.size t h0 b0) ≡ false = sym (e l.size h0 b0) ∙ not-true a q in sym (rw z)
+  put_argument id xid address size q = let z : is_omap (state_of l.size t h0 b0) ≡ false = sym (e l.size h0 b0) ∙ q in sym (rw z)
 
-  module _ (q : not a ≡ false) (h1 : List ℕ) (k : state_of l.size t h1 b0 ≡ state_of l.size t h0 b0) where
-    pub drop_in_answer : (id : ℕ) (r : Result State) → r ≡ dropped (lent_of image l) (state_of l.size t h1 b0) id
-        → r ≡ omap_drop_in (lent_of image l) (state_of l.size t h0 b0) id
+  module _ (q : a ≡ true) (h b : List ℕ) (k : state_of l.size t h b ≡ state_of l.size t h0 b0) where
+    pub drop_in_answer : (id : ℕ) → dropped (lent_of image l) (state_of l.size t h b) id
+        ≡ omap_drop_in (lent_of image l) (state_of l.size t h0 b0) id
     unfolding omap_drop_in
-    drop_in_answer id r z = z ∙ ap (λ (s : State). dropped (lent_of image l) s id) k ∙ sym (rw (is_omap_lem t a e q l.size h0 b0))
+    drop_in_answer id = ap (λ (s : State). dropped (lent_of image l) s id) k ∙ sym (rw (is_omap_lem t a e q l.size h0 b0))
 
-    pub put_in_answer : (id xid address size : ℕ) (key value : List ℕ) (r : Result State) → key ≡ pair_key id xid → value ≡ omap_value size address
-        → r ≡ put_anew (lent_of image l) (state_of l.size t h1 b0) id key value
-        → r ≡ omap_put_in (lent_of image l) (state_of l.size t h0 b0) id xid address size
+    pub put_in_answer : (id xid address size : ℕ) (key value : List ℕ) → key ≡ pair_key id xid → value ≡ omap_value size address
+        → put_anew (lent_of image l) (state_of l.size t h b) id key value
+        ≡ omap_put_in (lent_of image l) (state_of l.size t h0 b0) id xid address size
     unfolding omap_put_in put_anew
-    put_in_answer id xid address size key value r x y z =
-        z ∙ ap (λ (s : State). put_anew (lent_of image l) s id key value) k
+    put_in_answer id xid address size key value x y =
+        ap (λ (s : State). put_anew (lent_of image l) s id key value) k
         ∙ ap (λ (j : List ℕ). put_anew (lent_of image l) (state_of l.size t h0 b0) id j value) x
         ∙ ap (put_anew (lent_of image l) (state_of l.size t h0 b0) id (pair_key id xid)) y
         ∙ sym (rw (is_omap_lem t a e q l.size h0 b0))

@@ -1,5 +1,5 @@
 -- Edits as calls: 1 first, marks cleared, slots brought back on a refusal; what an edit leaves. Assumes nothing.
-use Rattle.std.specs.Prelude.{◌≡◌, List, Bool, true, ◌&&◌, ℕ, ◌+◌, ◌*◌, ◌^◌, ◌≤◌, ◌<◌, replicate, eqb}
+use Rattle.std.specs.Prelude.{◌≡◌, List, Bool, true, ◌&&◌, ℕ, ◌+◌, ◌*◌, ◌^◌, ◌≤◌, ◌<◌, eqb}
 use Rattle.std.proofs.Math.Path.{refl, sym, ap}
 use Rattle.std.proofs.Common.{subst, ◌∙◌, mul-le-mul}
 use Rattle.std.proofs.Math.Bool.{false, not}
@@ -7,11 +7,10 @@ use native.Mathlib.Omega.{arith}
 use Rattle.std.proofs.Math.Nat.{mul-le-mul_right}
 use Rattle.std.proofs.Math.ListN.{length}
 use borrow.Author.Tests.{eqb-true, not-true, not-false}
-use Rattle.node.specs.Bytes.{splice}
 use Rattle.node.specs.Entry.{Val}
 use Rattle.node.specs.Result.{Result, ok, refused, ◌>>◌, check}
 use Rattle.node.specs.Refusals as refusal
-use Rattle.node.specs.laws.base.Tests.{by_test, never, and_split, and-true}
+use Rattle.node.specs.laws.base.Tests.{by_test, and_split, and-true}
 use Rattle.node.specs.laws.base.Results.{Holds}
 use Rattle.tree.specs.Lent.{lent_of}
 use Rattle.tree.specs.State.{State}
@@ -24,16 +23,16 @@ use Rattle.tree.specs.Omap.{omap_put, omap_put_in, omap_drop, omap_drop_in}
 use Rattle.tree.specs.Workspace.{state_of, workspace_holds, scratch_holds, edits}
 use Rattle.tree.specs.Answers.{edited_of, edited_leaves, removed_of, removed_leaves}
 use Rattle.tree.specs.internal.Bank.{Ready}
-use Rattle.tree.specs.internal.Undo.{Follows, Shadowed, Back}
+use Rattle.tree.specs.Trusts.{Stays}
+use Rattle.tree.specs.internal.Undo.{Undone}
 use Rattle.tree.specs.internal.Room.{Roomy}
 use Rattle.tree.specs.internal.Edits.{Trusts, EditedCalled, RemovedCalled}
 use Rattle.tree.specs.laws.refusal1.Ready.{called_ready, called_refused, called_passed}
 use Rattle.tree.specs.laws.refusal1.Calls.{called_trusts, trusts_hold, back_hold}
-use Rattle.tree.specs.laws.slots.CallBounds.{call_ready, call_state, call_shadowed, back_ready, back_state}
 use Rattle.tree.specs.declared.editor.Tree.{Tree}
 use Rattle.tree.specs.declared.lent.Lent.{Lent}
 use Rattle.std.specs.Prelude as std
-use Rattle.std.specs.Prelude.{Ok, Err, is_err}
+use Rattle.std.specs.Prelude.{Ok, Err}
 use Rattle.node.specs.declared.refusal.Refusal.{Refusal}
 use Rattle.node.specs.declared.refusal.Refusal.TheVariants as is
 
@@ -170,66 +169,40 @@ module _ (image : List ℕ) (l : Lent) (t : Tree) (heads bytes scratch : List �
   unfolding omap_put
   put_answer id xid address size r q z = z ∙ edits_yes (λ x. omap_put_in (lent_of image l) x id xid address size) q
 
--- ---- marks cleared, and back
+-- ---- a call undone where it is refused
 
-module _ (image : List ℕ) (l : Lent) (t : Tree) (h0 b0 h1 : List ℕ) (c : Trusts image l t h0 b0)
-    (e : h1 ≡ splice h0 (l.slots * 18) (replicate t.used 0)) where
-  pub marks_state : state_of l.size t h1 b0 ≡ state_of l.size t h0 b0
-  marks_state = call_state l.size l.slots t h0 b0 h1 c.ready e
+pub stays_trusts : (image : List ℕ) (l : Lent) (t : Tree) (h0 b0 h b : List ℕ) → Trusts image l t h0 b0 → Stays l t h0 b0 h b
+    → Trusts image l t h b
+stays_trusts image l t h0 b0 h b c s =
+    record {
+      ready = s.1;
+      trust = ap (trusted (lent_of image l)) s.0 ∙ c.trust;
+      roomy = subst (λ (x : State). Roomy (2 * l.size) x) (sym s.0) c.roomy;
+    }
 
-  pub marks_trusts : Trusts image l t h1 b0
-  marks_trusts =
-      record {
-        ready = call_ready l.size l.slots t h0 b0 h1 c.ready e;
-        trust = ap (trusted (lent_of image l)) marks_state ∙ c.trust;
-        roomy = subst (λ (x : State). Roomy (2 * l.size) x) (sym marks_state) c.roomy;
-      }
+module _ (l : Lent) (t : Tree) (h0 b0 h2 b2 h3 b3 : List ℕ) where
+  pub edited_undone : (g : std.Result Tree Refusal) → Undone l t h0 b0 h2 b2 h3 b3 g → edited_of l.size h3 b3 g ≡ edited_of l.size h2 b2 g
+  unfolding edited_of
+  edited_undone (Err x) u = refl
+  edited_undone (Ok v) u = rw (u.0, u.1)
 
-  module _ (h2 b2 : List ℕ) (f : Follows l.size l.slots t.used h1 b0 h2 b2) where
-    pub marks_shadowed : length h2 ≡ length h1 → length b2 ≡ length b0 → Shadowed l.size l.slots t.used h2 b2
-    marks_shadowed = call_shadowed l.size l.slots t h0 b0 h1 c.ready e h2 b2 f
+  pub removed_undone : (g : std.Result (Tree × Bool) Refusal) → Undone l t h0 b0 h2 b2 h3 b3 g
+      → removed_of l.size h3 b3 g ≡ removed_of l.size h2 b2 g
+  unfolding removed_of
+  removed_undone (Err x) u = refl
+  removed_undone (Ok (v, there)) u = rw (u.0, u.1)
 
-    module _ (h3 b3 : List ℕ) (g : Back l.size l.slots t.used t.used h2 b2 h3 b3) (p : length h2 ≡ length h1) (q : length b2 ≡ length b0)
-        (p' : length h3 ≡ length h2) (q' : length b3 ≡ length b2) where
-      as_before : (state_of l.size t h3 b3 ≡ state_of l.size t h0 b0) × Ready l.size l.slots t.used h3 b3
-      as_before = (
-        back_state l.size l.slots t h0 b0 h1 c.ready e h2 b2 f h3 b3 g,
-        back_ready l.size l.slots t h0 b0 h1 c.ready e h2 b2 f h3 b3 g p q p' q',
-      )
+  pub edited_called : (image : List ℕ) (g : std.Result Tree Refusal) → Undone l t h0 b0 h2 b2 h3 b3 g
+      → ((v : Tree) → g ≡ Ok v → Trusts image l v h2 b2) → EditedCalled image l t h0 b0 h3 b3 g
+  edited_called image (Err x) u f = u
+  edited_called image (Ok v) u f = rw (u.0, u.1) (f v refl)
 
-      pub undone : (r : std.Result Tree Refusal) → true ≡ is_err r → EditedCalled image l t h0 b0 h3 b3 r
-      undone (Err x) z = as_before
-      undone (Ok u) z = never refl z
-
-      pub remove_undone : (r : std.Result (Tree × Bool) Refusal) → true ≡ is_err r → RemovedCalled image l t h0 b0 h3 b3 r
-      remove_undone (Err x) z = as_before
-      remove_undone (Ok (u, there)) z = never refl z
-
--- ---- a refusal says the same of whatever slots
-
-pub edited_refused : (size : ℕ) (h b h' b' : List ℕ) (r : std.Result Tree Refusal) → true ≡ is_err r → edited_of size h' b' r ≡ edited_of size h b r
-unfolding edited_of
-edited_refused size h b h' b' (Err x) z = refl
-edited_refused size h b h' b' (Ok u) z = never refl z
-
-pub removed_refused : (size : ℕ) (h b h' b' : List ℕ) (r : std.Result (Tree × Bool) Refusal) → true ≡ is_err r
-    → removed_of size h' b' r ≡ removed_of size h b r
-unfolding removed_of
-removed_refused size h b h' b' (Err x) z = refl
-removed_refused size h b h' b' (Ok (u, there)) z = never refl z
+  pub removed_called : (image : List ℕ) (g : std.Result (Tree × Bool) Refusal) → Undone l t h0 b0 h2 b2 h3 b3 g
+      → ((v : Tree) (there : Bool) → g ≡ Ok (v, there) → Trusts image l v h2 b2) → RemovedCalled image l t h0 b0 h3 b3 g
+  removed_called image (Err x) u f = u
+  removed_called image (Ok (v, there)) u f = rw (u.0, u.1) (f v there refl)
 
 -- ---- an accepted edit leaves a tree to be trusted, as its definition does
-
-module _ (image : List ℕ) (l : Lent) (t : Tree) (h0 b0 h b : List ℕ) where
-  pub edited_called : (r : std.Result Tree Refusal) → false ≡ is_err r → ((u : Tree) → r ≡ Ok u → Trusts image l u h b)
-      → EditedCalled image l t h0 b0 h b r
-  edited_called (Err x) z f = never z refl
-  edited_called (Ok u) z f = f u refl
-
-  pub removed_called : (r : std.Result (Tree × Bool) Refusal) → false ≡ is_err r
-      → ((u : Tree) (there : Bool) → r ≡ Ok (u, there) → Trusts image l u h b) → RemovedCalled image l t h0 b0 h b r
-  removed_called (Err x) z f = never z refl
-  removed_called (Ok (u, there)) z f = f u there refl
 
 pub edited_trusts : (image : List ℕ) (l : Lent) (u : Tree) (h b : List ℕ) (r : Result State) → Holds (λ x. trusted (lent_of image l) x ≡ true) r
     → Holds (Roomy (2 * l.size)) r → ok (state_of l.size u h b) ≡ r → Ready l.size l.slots u.used h b → Trusts image l u h b

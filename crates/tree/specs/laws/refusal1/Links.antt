@@ -1,21 +1,21 @@
 -- Laws of the pass of refusal 1: one for each turn and each way out. Assumes nothing.
-use Rattle.std.specs.Prelude.{◌≡◌, refl, Bool, true, false, not, ℕ, ◌+◌, ◌-◌, ◌^◌, ◌≤◌, ◌<◌}
+use Rattle.std.specs.Prelude.{◌≡◌, refl, Bool, true, false, not, ℕ, ◌+◌, ◌^◌, ◌≤◌, ◌<◌}
 use Rattle.std.proofs.Math.Path.{sym, ap}
 use Rattle.std.proofs.Common.{◌∙◌}
 use mathlib.Core.List.{List, []}
 use native.Mathlib.Omega.{arith}
 use Rattle.std.proofs.Math.ListN.{length, drop, drop_of_length-le}
 use Rattle.std.proofs.Math.Dec.{eqb}
-use borrow.Author.Tests.{le-leb, lt-leb, leb-true, lt-ltb, le-ltb, eq-eqb, ne_eqb, eqb-true, not-true, not-false}
-use Rattle.node.specs.laws.base.Tests.{test_ext, and_split}
+use borrow.Author.Tests.{le-leb, lt-leb, leb-true, not-true, not-false}
+use Rattle.node.specs.laws.base.Tests.{and_split}
 use Rattle.node.specs.Result.{Result, refused, ◌>>=◌}
 use Rattle.node.specs.Entry.{Entry, Val, mem}
 use Rattle.node.specs.Records.{records_length, entry_of, entries_of}
-use Rattle.node.specs.Fit.{fits_sums, room_of}
+use Rattle.node.specs.Fit.{room_of}
 use Rattle.node.specs.internal.SlotSteps.{lengths_of, records_stand, checked_of}
 use Rattle.node.specs.laws.fit.Fit.{lengths_room, count_small}
 use Rattle.node.specs.laws.slot.Records.{length_entries, entries_head}
-use Rattle.node.specs.Slot.{head_at, records_hold, value_means, child_means}
+use Rattle.node.specs.Slot.{records_hold, value_means, child_means}
 use Rattle.node.specs.laws.fit.Pass.{checked_stands, checked_lengths, checked_not}
 use Rattle.node.specs.declared.head.Head.{Head}
 use Rattle.node.specs.declared.fit.Lengths.{Lengths}
@@ -24,78 +24,11 @@ use Rattle.node.specs.declared.val.Val.TheVariants as kept
 use Rattle.node.specs.declared.val.Child as Child
 use Rattle.node.specs.declared.val.Child.TheVariants as child
 use Rattle.tree.specs.internal.Marks.{mark_of, mark_slot, mark_value}
-use Rattle.tree.specs.internal.Bank.{number_holds, words_hold}
 use Rattle.tree.specs.internal.Holding.{count_holds, place_holds, body_holds, child_stands, if_holds, link_value, link_entries}
 use Rattle.tree.specs.declared.editor.Tree.{Tree}
 use Rattle.std.specs.Prelude.{Some, None, Option}
 
--- ---- a slot's words
-
-pub number_marked : (m x : ℕ) → m ≡ 1 → true ≡ number_holds m x
-unfolding number_holds
-number_marked m x e = rw (eq-eqb m 1 e)
-
-pub number_none : (m x : ℕ) → (m ≡ 1 → ⊥) → eqb x 0 ≡ number_holds m x
-unfolding number_holds
-number_none m x e = rw (ne_eqb m 1 e)
-
-module _ (h : Head) where
-  pub words_placed : 1 < h.placed → false ≡ words_hold h
-  unfolding words_hold
-  words_placed n = rw (lt-leb h.placed 1 n)
-
-  module _ (a : h.placed ≤ 1) where
-    pub words_named : 1 < h.named → false ≡ words_hold h
-    unfolding words_hold
-    words_named n = rw (le-leb h.placed 1 a, lt-leb h.named 1 n)
-
-    module _ (b : h.named ≤ 1) where
-      pub words_dirty : 1 < h.dirty → false ≡ words_hold h
-      unfolding words_hold
-      words_dirty n = rw (le-leb h.placed 1 a, le-leb h.named 1 b, lt-leb h.dirty 1 n)
-
-      module _ (c : h.dirty ≤ 1) where
-        pub words_dead : 1 < h.dead → false ≡ words_hold h
-        unfolding words_hold
-        words_dead n = rw (le-leb h.placed 1 a, le-leb h.named 1 b, le-leb h.dirty 1 c, lt-leb h.dead 1 n)
-
-        module _ (d : h.dead ≤ 1) (k : Bool) (ek : k ≡ number_holds h.placed h.block) where
-          pub words_block : not k ≡ true → false ≡ words_hold h
-          unfolding words_hold
-          words_block n = rw (le-leb h.placed 1 a, le-leb h.named 1 b, le-leb h.dirty 1 c, le-leb h.dead 1 d, ← ek, not-true k n)
-
-          pub words_id : (r : Bool) → not k ≡ false → r ≡ number_holds h.named h.id → r ≡ words_hold h
-          unfolding words_hold
-          words_id r n e = rw (le-leb h.placed 1 a, le-leb h.named 1 b, le-leb h.dirty 1 c, le-leb h.dead 1 d, ← ek, not-false k n) e
-
 -- ---- a node but for its children
-
-pub count_leaf : (level n : ℕ) → level ≡ 0 → true ≡ count_holds level n
-unfolding count_holds
-count_leaf level n e = rw (eq-eqb level 0 e)
-
-pub count_index : (level n : ℕ) → (level ≡ 0 → ⊥) → not (eqb n 0) ≡ count_holds level n
-unfolding count_holds
-count_index level n e = rw (ne_eqb level 0 e)
-
-module _ (t : Tree) (root : Bool) (h : Head) (room : ℕ) where
-  pub place_dirty : (r : Bool) → h.dirty ≡ 1 → r ≡ fits_sums t.info root h.level h.count room → r ≡ place_holds t root h room
-  unfolding place_holds
-  place_dirty r d e = rw (eq-eqb h.dirty 1 d) e
-
-  module _ (d : h.dirty ≡ 1 → ⊥) where
-    pub place_none : (h.placed ≡ 1 → ⊥) → false ≡ place_holds t root h room
-    unfolding place_holds
-    place_none p = rw (ne_eqb h.dirty 1 d, ne_eqb h.placed 1 p)
-
-    module _ (p : h.placed ≡ 1) where
-      pub place_physical : not t.by_id ≡ true → true ≡ place_holds t root h room
-      unfolding place_holds
-      place_physical v = rw (ne_eqb h.dirty 1 d, eq-eqb h.placed 1 p, v)
-
-      pub place_virtual : not t.by_id ≡ false → eqb h.named 1 ≡ place_holds t root h room
-      unfolding place_holds
-      place_virtual v = rw (ne_eqb h.dirty 1 d, eq-eqb h.placed 1 p, v)
 
 module _ (t : Tree) (n : ℕ) (h : Head) (l : List ℕ) where
   pub body_high : 32 < h.level → false ≡ body_holds t n h l
@@ -143,43 +76,17 @@ module _ (t : Tree) (n : ℕ) (h : Head) (l : List ℕ) where
             (le-leb h.level 32 a, ← ek, not-false k b, stand) in
             e ∙ rw er (ap (λ (y : Lengths). place_holds t (eqb n t.root) h (y.keys + y.values)) lengths) ∙ sym z
 
--- ---- one child
-
-module _ (heads : List ℕ) (used level c : ℕ) where
-  pub child_past : used ≤ c → false ≡ child_stands heads used level c
-  unfolding child_stands
-  child_past q = rw (le-ltb c used q)
-
-  module _ (a : c < used) (h : Head) (eh : h ≡ head_at heads c) where
-    pub child_dead : h.dead ≡ 1 → false ≡ child_stands heads used level c
-    unfolding child_stands
-    child_dead q = rw (lt-ltb c used a, ← eh, eq-eqb h.dead 1 q)
-
-    module _ (d : h.dead ≡ 1 → ⊥) where
-      pub child_leaf : level ≡ 0 → false ≡ child_stands heads used level c
-      unfolding child_stands
-      child_leaf q = let z : h.level + 1 ≡ level → ⊥ = λ e. omega arith in rw
-          (lt-ltb c used a, ← eh, ne_eqb h.dead 1 d, ne_eqb (h.level + 1) level z)
-
-      pub child_level : (level ≡ 0 → ⊥) → eqb h.level (level - 1) ≡ child_stands heads used level c
-      unfolding child_stands
-      child_level q =
-          let z : eqb h.level (level - 1) ≡ eqb (h.level + 1) level =
-          test_ext _ _ (λ e. let f : h.level ≡ level - 1 = eqb-true h.level (level - 1) e in eq-eqb (h.level + 1) level (omega arith))
-          (λ e. let f : h.level + 1 ≡ level = eqb-true (h.level + 1) level e in eq-eqb h.level (level - 1) (omega arith)) in
-          rw (lt-ltb c used a, ← eh, ne_eqb h.dead 1 d) z
-
 -- ---- one value
 
-module _ (heads : List ℕ) (used level : ℕ) (l ms : List ℕ) (v : Kept.Val) (w : Val) (ev : value_means l v ≡ w) where
+module _ (heads : List ℕ) (used level : ℕ) (ms : List ℕ) (v : Kept.Val) (w : Val) (ev : value_means v ≡ w) where
   abbrev L : Val → Result (List ℕ)
   L x = link_value heads used level x ms
 
   -- what is no child has nothing to mark
-  other : (x : Kept.Val) → ((c : Child.Child) → x ≡ kept.Child c → ⊥) → mark_of true ms ≡ L (value_means l x)
+  other : (x : Kept.Val) → ((c : Child.Child) → x ≡ kept.Child c → ⊥) → mark_of true ms ≡ L (value_means x)
   unfolding value_means link_value mark_of
   other kept.Ghost d = refl
-  other (kept.Leaf a n) d = refl
+  other (kept.Leaf a) d = refl
   other (kept.Child c) d = absurd (d c refl)
 
   pub link_other : ((c : Child.Child) → v ≡ kept.Child c → ⊥) → mark_of true ms ≡ link_value heads used level w ms
@@ -188,12 +95,12 @@ module _ (heads : List ℕ) (used level : ℕ) (l ms : List ℕ) (v : Kept.Val) 
   module _ (c : Child.Child) (e : v ≡ kept.Child c) where
     pub link_disk : (r : ℕ) → c ≡ child.Disk r → mark_of true ms ≡ link_value heads used level w ms
     unfolding value_means child_means link_value mark_of
-    link_disk r f = ap (λ (x : Child.Child). L (child_means x)) (sym f) ∙ ap (λ (x : Kept.Val). L (value_means l x)) (sym e) ∙ ap L ev
+    link_disk r f = ap (λ (x : Child.Child). L (child_means x)) (sym f) ∙ ap (λ (x : Kept.Val). L (value_means x)) (sym e) ∙ ap L ev
 
     module _ (s : ℕ) (f : c ≡ child.Mem s) (k : Bool) (ek : k ≡ child_stands heads used level s) where
       mem_is : L (mem s) ≡ L w
       unfolding value_means child_means
-      mem_is = ap (λ (x : Child.Child). L (child_means x)) (sym f) ∙ ap (λ (x : Kept.Val). L (value_means l x)) (sym e) ∙ ap L ev
+      mem_is = ap (λ (x : Child.Child). L (child_means x)) (sym f) ∙ ap (λ (x : Kept.Val). L (value_means x)) (sym e) ∙ ap L ev
 
       pub link_no : not k ≡ true → mark_of false ms ≡ link_value heads used level w ms
       unfolding link_value if_holds mark_of

@@ -1,10 +1,10 @@
 -- Refusal 1 passed: the workspace is ready, and the state is trusted. Assumes nothing.
 use Rattle.std.specs.Prelude.{◌≡◌, List, cond, ◌&&◌, ◌||◌, not, ℕ, zero, suc, ◌+◌, ◌*◌, ◌%◌, ◌^◌, ◌≤◌, ◌<◌, length}
 use Rattle.std.proofs.Math.Path.{refl, sym}
-use Rattle.std.proofs.Common.{◌∙◌, arith, mul-le-mul}
+use Rattle.std.proofs.Common.{◌∙◌, arith}
 use Rattle.std.proofs.Math.Bool.{Bool, true, false}
 use Rattle.std.proofs.Math.Dec.{leb, ltb, eqb}
-use borrow.Author.Tests.{le-leb, leb-true, ltb-true, eq-eqb, ne_eqb, eqb-true, not-true, not-false}
+use borrow.Author.Tests.{le-leb, leb-true, ltb-true, eq-eqb, eqb-true, not-true, not-false}
 use Rattle.node.specs.laws.base.Tests.{by_test, and_split, and-false, and_both, and-true}
 use Rattle.node.specs.Order.{known}
 use Rattle.node.specs.Result.{Result, refused, ◌>>◌, check}
@@ -30,27 +30,6 @@ use Rattle.tree.specs.declared.editor.Tree.{Tree}
 use Rattle.tree.specs.declared.lent.Lent.{Lent}
 
 -- ---- words and bytes
-
-pub room_fits : (size slots : ℕ) → size ≤ 65536 → slots ≤ 4096 → (slots + slots) * (4 * size) < 2 ^ 64
-room_fits size slots a b =
-    let c : slots + slots ≤ 8192 = omega arith in
-    let d : 4 * size ≤ 262144 = omega arith in
-    let p : (slots + slots) * (4 * size) ≤ 8192 * 262144 = mul-le-mul c d in
-    omega arith
-
-module _ (size slots used : ℕ) (heads bytes : List ℕ) where
-  pub room_words : (length heads ≡ slots * 19 → ⊥) → false ≡ room_holds size slots used heads bytes
-  unfolding room_holds
-  room_words n = rw (ne_eqb (length heads) (slots * 19) n)
-
-  module _ (a : length heads ≡ slots * 19) where
-    pub room_bytes : (length bytes ≡ (slots + slots) * (4 * size) → ⊥) → false ≡ room_holds size slots used heads bytes
-    unfolding room_holds
-    room_bytes n = rw (eq-eqb (length heads) (slots * 19) a, ne_eqb (length bytes) ((slots + slots) * (4 * size)) n)
-
-    pub room_used : length bytes ≡ (slots + slots) * (4 * size) → leb used slots ≡ room_holds size slots used heads bytes
-    unfolding room_holds
-    room_used n = rw (eq-eqb (length heads) (slots * 19) a, eq-eqb (length bytes) ((slots + slots) * (4 * size)) n)
 
 -- of no slot in use a workspace asks no more
 pub room_none : (size slots : ℕ) (heads bytes : List ℕ) → room_holds size slots 0 heads bytes ≡ workspace_holds size slots 0 heads bytes

@@ -1,11 +1,11 @@
 -- Laws of remove as a call: the way, the key's place, the edit; 12 first, slots brought back on a refusal. Assumes nothing.
-use Rattle.std.specs.Prelude.{◌≡◌, refl, List, [], Bool, not, ◌&&◌, ℕ, ◌-◌, ◌≤◌, ◌<◌, length, get_or, leb, ltb}
+use Rattle.std.specs.Prelude.{take, suc, ◌≡◌, refl, List, [], Bool, not, ◌&&◌, ℕ, ◌-◌, ◌≤◌, ◌<◌, length, leb, ltb}
 use Rattle.std.proofs.Math.Path.{sym, ap, ap₂}
 use Rattle.std.proofs.Common.{subst, ◌∙◌, arith}
 use Rattle.std.proofs.Math.Bool.{true, false}
 use borrow.Author.Tests.{not-true, not-false}
 use Rattle.node.specs.laws.base.Tests.{by_test}
-use Rattle.node.specs.Result.{Result, ok, ◌>>=◌}
+use Rattle.node.specs.Result.{ok, ◌>>=◌}
 use Rattle.node.specs.Order.{keyed_length, keyed}
 use Rattle.node.specs.Entry.{Entry}
 use Rattle.node.specs.Find.{place_of, is_there}
@@ -18,13 +18,12 @@ use Rattle.tree.specs.State.{State, node_at, put_node, with_entries}
 use Rattle.tree.specs.Load.{unbounded}
 use Rattle.tree.specs.Lookup as lookup
 use Rattle.tree.specs.Edit.{touch}
-use Rattle.tree.specs.Remove as removing
 use Rattle.tree.specs.Remove.{drop_emptied, take_from_leaf, shrunk_on, remove_on, removed, remove_in}
 use Rattle.tree.specs.Workspace.{slot_bytes, state_of}
 use Rattle.tree.specs.Answers.{edited_of, removed_of}
 use Rattle.tree.specs.internal.Bank.{live, Ready}
 use Rattle.tree.specs.internal.Undo.{Follows}
-use Rattle.tree.specs.internal.Way.{steps_of, walked_of, way_of, WayReady}
+use Rattle.tree.specs.internal.Way.{nth_step, steps_of, steps_in, walked_of, way_of, WayReady}
 use Rattle.tree.specs.internal.Found.{FoundAt}
 use Rattle.tree.specs.internal.Edits.{Trusts, ReadyRemoved}
 use Rattle.tree.specs.internal.Removing.{taken_on, shrunk_at, removed_at, OnWay}
@@ -37,8 +36,9 @@ use Rattle.tree.specs.laws.trust.Loads.{WayLoaded, way_root}
 use Rattle.tree.specs.laws.trust.Edit.{down_leaf}
 use Rattle.tree.specs.laws.trust.Remove.{trusted_remove}
 use Rattle.tree.specs.laws.room.Calls.{roomy_remove}
-use Rattle.tree.specs.laws.lookup.GetCall.{way_low, get_some, get_few, get_ready}
-use Rattle.tree.specs.laws.remove.Ways.{leaf_is}
+use Rattle.tree.specs.laws.lookup.GetCall.{leaf_last, way_low, get_some, get_few, get_ready}
+use Rattle.std.proofs.lemmas.List.{length-take-le}
+use Rattle.tree.specs.laws.load.Way.{steps_taken, last_taken}
 use Rattle.tree.specs.declared.editor.Tree.{Tree}
 use Rattle.tree.specs.declared.lent.Lent.{Lent}
 use Rattle.tree.specs.declared.way.Way.{Way}
@@ -46,6 +46,7 @@ use Rattle.std.specs.Prelude as std
 use Rattle.std.specs.Prelude.{Ok, Err}
 use Rattle.node.specs.declared.refusal.Refusal.{Refusal}
 use Rattle.node.specs.declared.refusal.Refusal.TheVariants as is
+use Rattle.tree.specs.declared.way.Step as code
 
 -- ---- the edit by the place is the edit by the key
 
@@ -104,10 +105,10 @@ module _ (image : List ℕ) (l : Lent) (t : Tree) (h0 b0 : List ℕ) (c : Trusts
       s' = state_of l.size w.tree h b
 
       abbrev ps : List lookup.Step
-      ps = steps_of w.slots w.kids w.steps
+      ps = steps_of w.steps w.count
 
       abbrev n : ℕ
-      n = get_or w.slots (w.steps - 1) 0
+      n = (nth_step w.steps (w.count - 1)).slot
 
       arrives : lookup.way m s key ≡ ok (record { state = s'; steps = ps })
       unfolding way_of walked_of
@@ -116,20 +117,37 @@ module _ (image : List ℕ) (l : Lent) (t : Tree) (h0 b0 : List ℕ) (c : Trusts
       loads : WayLoaded m all all s s.root s' ps
       loads = (way_root m s key (trusted_of m s c.trust).1).at (record { state = s'; steps = ps }) arrives
 
-      pub remove_some : 1 ≤ w.steps
+      pub remove_some : 1 ≤ w.count
       remove_some = get_some m l.size t h0 b0 c.trust level ev key [] h b r ew w e
 
-      pub remove_few : w.steps ≤ 33
+      pub remove_few : w.count ≤ 33
       remove_few = get_few m l.size t h0 b0 c.trust level ev key [] h b r ew w e
 
       pub remove_ready : WayReady l.size l.slots h b r → Ready l.size l.slots w.tree.used h b
       remove_ready y = get_ready m l.size t h0 b0 c.trust level ev key [] h b r ew w e l.slots y
 
       last : lookup.leaf_of ps ≡ n
-      last = leaf_is w.slots w.kids w.steps remove_some
+      unfolding steps_of
+      last =
+          let z : w.count ≡ suc (w.count - 1) = omega (arith, remove_some) in
+          ap (λ (k : ℕ). lookup.leaf_of (steps_of w.steps k)) z
+          ∙ leaf_last (steps_of w.steps (w.count - 1)) (record { slot = n; child = (nth_step w.steps (w.count - 1)).child })
 
-      pub remove_leaf : get_or w.slots (w.steps - 1) 0 < w.tree.used
+      pub remove_leaf : (nth_step w.steps (w.count - 1)).slot < w.tree.used
       remove_leaf = omega (arith, last, live_used s' (lookup.leaf_of ps) (down_leaf s' ps loads.down).0, used_nodes l.size w.tree h b)
+
+      -- the steps that are taken, as a slice
+      few : length w.steps ≡ 34 → w.count ≤ length w.steps
+      few es = omega (arith, remove_few)
+
+      taken : length w.steps ≡ 34 → steps_in (take w.count w.steps) ≡ ps
+      taken es = steps_taken w.steps w.count (few es)
+
+      leaf_taken : length w.steps ≡ 34 → (nth_step (take w.count w.steps) (length (take w.count w.steps) - 1)).slot ≡ n
+      leaf_taken es = ap (λ (x : code.Step). x.slot) (last_taken w.steps w.count remove_some (few es))
+
+      pub remove_long : length w.steps ≡ 34 → 1 ≤ length (take w.count w.steps)
+      remove_long es = omega (arith, length-take-le w.count w.steps (few es), remove_some)
 
       remove_more : t.used ≤ w.tree.used
       remove_more = omega (arith, loads.loaded.loads.longer, used_nodes l.size t h0 b0, used_nodes l.size w.tree h b)
@@ -141,7 +159,7 @@ module _ (image : List ℕ) (l : Lent) (t : Tree) (h0 b0 : List ℕ) (c : Trusts
       order_same : s'.order ≡ s.order
       order_same = loads.loaded.loads.order
 
-      module _ (f : Found) (ef : FoundAt l.size (state_of l.size w.tree h b) h b (get_or w.slots (w.steps - 1) 0) key f) where
+      module _ (f : Found) (ef : FoundAt l.size (state_of l.size w.tree h b) h b (nth_step w.steps (w.count - 1)).slot key f) where
         there : is_there s.order key (node_at s' (lookup.leaf_of ps)).entries ≡ f.found
         there = ap₂ (λ (o j : ℕ). is_there o key (node_at s' j).entries) (sym order_same) last ∙ sym ef.there
 
@@ -157,23 +175,26 @@ module _ (image : List ℕ) (l : Lent) (t : Tree) (h0 b0 : List ℕ) (c : Trusts
           place : f.index ≡ place_of s'.order key (node_at s' (lookup.leaf_of ps)).entries
           place = ef.place ∙ ap (λ (j : ℕ). place_of s'.order key (node_at s' j).entries) (sym last)
 
-          pub remove_on_way : OnWay (lent_of image l) (state_of l.size w.tree h b) (steps_of w.slots w.kids w.steps) f.index
+          pub remove_on_way : length w.steps ≡ 34 → OnWay (lent_of image l) (state_of l.size w.tree h b) (steps_in (take w.count w.steps)) f.index
           unfolding lent_of
-          remove_on_way = record { from = s; key = key; trust = c.trust; roomy = c.roomy; came = arrives; place = place }
+          remove_on_way es = rw (taken es) (record { from = s; key = key; trust = c.trust; roomy = c.roomy; came = arrives; place = place })
 
-          pub remove_index : f.index < (live (head_at h (get_or w.slots (w.steps - 1) 0))).count
-          remove_index = ef.within found
+          pub remove_index : length w.steps ≡ 34
+              → f.index < (live (head_at h (nth_step (take w.count w.steps) (length (take w.count w.steps) - 1)).slot)).count
+          remove_index es = rw (leaf_taken es) (ef.within found)
 
-          pub remove_start : f.at ≡ records_length f.index (slot_bytes l.size b (get_or w.slots (w.steps - 1) 0))
-          remove_start = ef.start
+          pub remove_start : length w.steps ≡ 34
+              → f.at ≡ records_length f.index (slot_bytes l.size b (nth_step (take w.count w.steps) (length (take w.count w.steps) - 1)).slot)
+          remove_start es = rw (leaf_taken es) ef.start
 
-          module _ (a : std.Result Tree Refusal) (h1 b1 : List ℕ)
+          module _ (es : length w.steps ≡ 34) (a : std.Result Tree Refusal) (h1 b1 : List ℕ)
               (ea : edited_of l.size h1 b1 a ≡ removed_at (lent_of image l) f.index (record {
                 state = state_of l.size w.tree h b;
-                steps = steps_of w.slots w.kids w.steps;
+                steps = steps_in (take w.count w.steps);
               })) where
             edits_is : edited_of l.size h1 b1 a ≡ remove_on m key (record { state = s'; steps = ps })
-            edits_is = ea ∙ removed_is m f.index (record { state = s'; steps = ps }) key place
+            edits_is = ea ∙ ap (λ (qs : List lookup.Step). removed_at m f.index (record { state = s'; steps = qs })) (taken es)
+                ∙ removed_is m f.index (record { state = s'; steps = ps }) key place
 
             removes_is : removed m s key ≡ (edited_of l.size h1 b1 a >>= λ u. ok (record { state = u; present = true }))
             unfolding removed
@@ -197,20 +218,16 @@ module _ (image : List ℕ) (l : Lent) (t : Tree) (h0 b0 key : List ℕ) (c : Tr
   unfolding state_of keyed
   keyed_is = sym ek
 
-  pub call_argument : not k ≡ true → removed_of l.size h0 b0 (Err is.Argument) ≡ remove_in (lent_of image l) (state_of l.size t h0 b0) key
+  pub call_argument : k ≡ false → removed_of l.size h0 b0 (Err is.Argument) ≡ remove_in (lent_of image l) (state_of l.size t h0 b0) key
   unfolding removed_of remove_in
-  call_argument n = sym (rw (keyed_is, not-true k n))
+  call_argument n = sym (rw (keyed_is, n))
 
-  module _ (n : not k ≡ false) (h1 : List ℕ) (es : state_of l.size t h1 b0 ≡ state_of l.size t h0 b0) where
-    in_is : removed (lent_of image l) (state_of l.size t h1 b0) key ≡ remove_in (lent_of image l) (state_of l.size t h0 b0) key
-    in_is = ap (λ (x : State). removed (lent_of image l) x key) es ∙ sym passes
-      where
-        passes : remove_in (lent_of image l) (state_of l.size t h0 b0) key ≡ removed (lent_of image l) (state_of l.size t h0 b0) key
-        passes = unfold remove_in in rw (keyed_is, not-false k n)
-
-    pub call_answer : (r : Result removing.Removed) → r ≡ removed (lent_of image l) (state_of l.size t h1 b0) key
-        → r ≡ remove_in (lent_of image l) (state_of l.size t h0 b0) key
-    call_answer r e = e ∙ in_is
+  pub call_answer : k ≡ true → (h b : List ℕ) → state_of l.size t h b ≡ state_of l.size t h0 b0
+      → removed (lent_of image l) (state_of l.size t h b) key ≡ remove_in (lent_of image l) (state_of l.size t h0 b0) key
+  call_answer n h b es = ap (λ (x : State). removed (lent_of image l) x key) es ∙ sym passes
+    where
+      passes : remove_in (lent_of image l) (state_of l.size t h0 b0) key ≡ removed (lent_of image l) (state_of l.size t h0 b0) key
+      passes = unfold remove_in in rw (keyed_is, n)
 
 module _ (image : List ℕ) (l : Lent) (t : Tree) (h0 b0 key : List ℕ) (c : Trusts image l t h0 b0) (h b : List ℕ)
     (r : std.Result (Tree × Bool) Refusal)

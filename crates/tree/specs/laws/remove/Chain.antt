@@ -1,5 +1,5 @@
 -- A remove on a trusted way, from the leaf's entry to the cuts: what the slots grant each step. Assumes nothing.
-use Rattle.std.specs.Prelude.{◌≡◌, List, [], ◌∷◌, true, ◌&&◌, ℕ, suc, ◌-◌, ◌*◌, ◌≤◌, get_or, ltb}
+use Rattle.std.specs.Prelude.{length, ◌≡◌, List, [], ◌∷◌, true, ◌&&◌, ℕ, suc, ◌-◌, ◌*◌, ◌≤◌, ltb}
 use Rattle.std.proofs.Common.{sym, ap₂, subst, ◌∙◌, le_refl, le_trans, arith}
 use Rattle.std.proofs.Math.Path.{ap}
 use Rattle.std.proofs.Math.Dec.{leb}
@@ -37,6 +37,8 @@ use Rattle.tree.specs.laws.remove.Links.{Links, links_drop, links_info, links_le
 use Rattle.tree.specs.laws.remove.Room.{Bare, bare_light}
 use Rattle.tree.specs.laws.remove.Cuts.{sized_like, cuts_fit}
 use Rattle.tree.specs.laws.remove.HandDown.{trusted_sized}
+use Rattle.tree.specs.declared.way.Step as code
+use Rattle.tree.specs.internal.Way.{nth_step}
 
 mem_some : (c : ℕ) → mem c ≡ ghost → ⊥
 mem_some c e = let z : ◌≡◌ {A = ℕ} 0 1 = cc in omega arith
@@ -91,34 +93,36 @@ module _ (l : Lent) (k : List ℕ) (i : ℕ) (s : State) (x : Step) (ps : List S
 
   -- ---- nodes dropped
 
-  pub drop_room : (way kids : List ℕ) (steps : ℕ) → steps_from way kids 0 steps ≡ x ∷ ps → DropRoom (taken_on i (x ∷ ps) s) way kids steps
-  drop_room way kids steps e =
+  pub drop_room : (way : List code.Step) → steps_from way 0 (length way) ≡ x ∷ ps → DropRoom (taken_on i (x ∷ ps) s) way
+  drop_room way e =
       record {
         turn = λ j u v.
             let z : suc (j - 1) ≡ j = omega arith in
-            let xs : List Step = steps_from way kids (suc (suc (j - 1))) (steps - suc (suc (j - 1))) in
-            let d : Down t₂ (steps_from way kids 0 steps) = rw e (down₂ l k s x ps st top down) in
-            let d' : Down t₂ (step_of way kids (j - 1) ∷ step_of way kids (suc (j - 1)) ∷ steps_from way kids (suc (suc (j - 1))) (steps - suc (suc
+            let xs : List Step = steps_from way (suc (suc (j - 1))) (length way - suc (suc (j - 1))) in
+            let d : Down t₂ (steps_from way 0 (length way)) = rw e (down₂ l k s x ps st top down) in
+            let d' : Down t₂ (step_of way (j - 1) ∷ step_of way (suc (j - 1)) ∷ steps_from way (suc (suc (j - 1))) (length way - suc (suc
             (j - 1)))) =
-            subst (Down t₂) (from_two way kids steps (j - 1) (omega arith)) (suffix way kids (Down t₂) (down_tail t₂) steps (j - 1)
+            subst (Down t₂) (from_two way (j - 1) (omega arith)) (suffix way (Down t₂) (down_tail t₂) (j - 1)
             (omega arith) d) in
-            let most : (c : ℕ) → on_way c (step_of way kids (suc (j - 1)) ∷ steps_from way kids (suc (suc (j - 1))) (steps - suc (suc
+            let most : (c : ℕ) → on_way c (step_of way (suc (j - 1)) ∷ steps_from way (suc (suc (j - 1))) (length way - suc (suc
             (j - 1)))) ≤ on_way c (x ∷ ps) = λ c.
-            subst (λ (qs : List Step). on_way c qs ≤ on_way c (x ∷ ps)) (from_cons way kids steps (suc (j - 1)) (omega arith))
-            (suffix way kids (λ qs. on_way c qs ≤ on_way c (x ∷ ps)) (λ a b bs y. le_trans (later c a (b ∷ bs)) y) steps (suc (j - 1)) (omega arith)
+            subst (λ (qs : List Step). on_way c qs ≤ on_way c (x ∷ ps)) (from_cons way (suc (j - 1)) (omega arith))
+            (suffix way (λ qs. on_way c qs ≤ on_way c (x ∷ ps)) (λ a b bs y. le_trans (later c a (b ∷ bs)) y) (suc (j - 1)) (omega arith)
             (subst (λ (qs : List Step). on_way c qs ≤ on_way c (x ∷ ps)) (sym e) (le_refl _))) in
-            let f : DropFits (drop_emptied (step_of way kids (suc (j - 1)) ∷ steps_from way kids (suc (suc (j - 1))) (steps - suc (suc
+            let f : DropFits (drop_emptied (step_of way (suc (j - 1)) ∷ steps_from way (suc (suc (j - 1))) (length way - suc (suc
             (j - 1)))) t₂).state
-            (get_or way (j - 1) 0) (get_or kids (j - 1) 0) (get_or way (suc (j - 1)) 0) =
-            drop_fits l w t₂ (step_of way kids (j - 1)) (step_of way kids (suc (j - 1))) xs (λ c y. le_trans y (most c)) stands₂ d' in
-            let g : DropFits (drop_emptied (steps_from way kids (suc (j - 1)) (steps - suc (j - 1))) t₂).state (get_or way (j - 1) 0) (get_or kids
-            (j - 1) 0)
-            (get_or way (suc (j - 1)) 0) =
-            subst (λ (qs : List Step). DropFits (drop_emptied qs t₂).state (get_or way (j - 1) 0) (get_or kids (j - 1) 0)
-            (get_or way (suc (j - 1)) 0))
-            (sym (from_cons way kids steps (suc (j - 1)) (omega arith))) f in
-            rw is_taken (subst (λ (y : ℕ). DropFits (drop_emptied (steps_from way kids y (steps - y)) t₂).state (get_or way (j - 1) 0) (get_or kids
-            (j - 1) 0) (get_or way y 0)) z g);
+            (nth_step way (j - 1)).slot (nth_step way (j - 1)).child (nth_step way (suc (j - 1))).slot =
+            drop_fits l w t₂ (step_of way (j - 1)) (step_of way (suc (j - 1))) xs (λ c y. le_trans y (most c)) stands₂ d' in
+            let g : DropFits (drop_emptied (steps_from way (suc (j - 1)) (length way - suc (j - 1))) t₂).state (nth_step way (j - 1)).slot
+            (nth_step way
+            (j - 1)).child
+            (nth_step way (suc (j - 1))).slot =
+            subst (λ (qs : List Step). DropFits (drop_emptied qs t₂).state (nth_step way (j - 1)).slot (nth_step way (j - 1)).child
+            (nth_step way (suc (j - 1))).slot)
+            (sym (from_cons way (suc (j - 1)) (omega arith))) f in
+            rw is_taken (subst (λ (y : ℕ). DropFits (drop_emptied (steps_from way y (length way - y)) t₂).state (nth_step way (j - 1)).slot
+            (nth_step way
+            (j - 1)).child (nth_step way y).slot) z g);
       }
 
   -- ---- what is left of the counts' check on: counts, a leveled root
@@ -168,9 +172,9 @@ module _ (l : Lent) (k : List ℕ) (i : ℕ) (s : State) (x : Step) (ps : List S
         (subst (λ (t : BTreeInfo). Like t s₅.info) (four l k s x ps st top down keys nodes).info
         (five l k s x ps st top down keys nodes).steady.like)
 
-    cuts₅ : (way kids : List ℕ) (steps : ℕ) → steps_from way kids 0 steps ≡ x ∷ ps → Bare (shrunk keys nodes) → CutsFit l s₅ way kids steps
-    cuts₅ way kids steps e b =
-        cuts_fit l s₅ way kids steps w (λ c y. rw e at y) (five l k s x ps st top down keys nodes).stands (rw e falls₅) (λ c. rw e (once c))
+    cuts₅ : (way : List code.Step) → steps_from way 0 (length way) ≡ x ∷ ps → Bare (shrunk keys nodes) → CutsFit l s₅ way
+    cuts₅ way e b =
+        cuts_fit l s₅ way w (λ c y. rw e at y) (five l k s x ps st top down keys nodes).stands (rw e falls₅) (λ c. rw e (once c))
         (rw e links₅)
         (rw e (indexed₅ b)) (sized_like s.info s₅.info like₅ (trusted_sized l s tr)) (like₅.node ∙ (trusted_of l s tr).0.node)
 
@@ -205,9 +209,9 @@ module _ (l : Lent) (k : List ℕ) (i : ℕ) (s : State) (x : Step) (ps : List S
     pub shrunk_roomy : Roomy (2 * l.size) v
     shrunk_roomy = rw is_shrunk (roomy_shrunk _ _)
 
-    pub shrunk_cuts : (way kids : List ℕ) (steps : ℕ) → steps_from way kids 0 steps ≡ x ∷ ps → Bare v
-        → CutsFit l (index_keys (x ∷ ps) v) way kids steps
-    shrunk_cuts way kids steps q b = rw is_shrunk (cuts₅ _ _ way kids steps q (rw is_shrunk at b))
+    pub shrunk_cuts : (way : List code.Step) → steps_from way 0 (length way) ≡ x ∷ ps → Bare v
+        → CutsFit l (index_keys (x ∷ ps) v) way
+    shrunk_cuts way q b = rw is_shrunk (cuts₅ _ _ way q (rw is_shrunk at b))
 
     pub shrunk_trust : (u : State) → cuts l [] (x ∷ ps) (index_keys (x ∷ ps) v) ≡ ok u → trusted l u ≡ true
     shrunk_trust u q = trust₅ (s.info.key_count - 1) (s.info.node_count - d.nodes) u (rw is_shrunk at q)

@@ -1,6 +1,6 @@
 -- Room for the cuts of a remove: a node on the way that lives hangs in its parent still, which takes at most two blocks and the first key of the
 -- node. Assumes nothing.
-use Rattle.std.specs.Prelude.{◌≡◌, refl, List, [], ◌∷◌, false, cond, ◌||◌, length, get_or, eqb}
+use Rattle.std.specs.Prelude.{◌≡◌, refl, List, [], ◌∷◌, false, cond, ◌||◌, length, eqb}
 use Rattle.std.proofs.Common.{sym, ap, ◌∙◌, le_refl, arith}
 use Rattle.std.proofs.Math.Path.{subst}
 use Prim.Native.Nat.{ℕ, zero, suc, ◌+◌, ◌-◌, ◌*◌, ◌≤◌, ◌<◌}
@@ -31,6 +31,8 @@ use Rattle.tree.specs.laws.room.Edit.{Indexed, Aside, more_nodes_lem, more_count
 use Rattle.tree.specs.laws.room.Edit as room
 use Rattle.tree.specs.laws.remove.Links.{Links, links_tail, links_first}
 use Rattle.tree.specs.laws.remove.Ways.{step_of, from_cons, from_two, suffix}
+use Rattle.tree.specs.declared.way.Step as code
+use Rattle.tree.specs.internal.Way.{nth_step}
 
 -- ---- cuts below slot x: slots aside from the way stay, x keeps its first key and lives as it did
 
@@ -141,61 +143,61 @@ no_step x e = let z : ◌≡◌ {A = ℕ} 0 1 = ap length e in absurd (omega ari
 same_step : (x y : Step) → x ∷ [] ≡ y ∷ [] → x ≡ y
 same_step x y e = cc
 
-module _ (l : Lent) (s : State) (way kids : List ℕ) (steps : ℕ) (w : ℕ → ℕ) (wide : (c : ℕ) → 1 ≤ on_way c (steps_from way kids 0 steps) → 1 ≤ w c)
-    (st : Stands w all s) (falls : Falls s (steps_from way kids 0 steps)) (once : (c : ℕ) → on_way c (steps_from way kids 0 steps) ≤ 1)
-    (links : Links s (steps_from way kids 0 steps)) (ix : Indexed (2 * l.size) s (steps_from way kids 0 steps)) (sized : Sized s.info)
+module _ (l : Lent) (s : State) (way : List code.Step) (w : ℕ → ℕ) (wide : (c : ℕ) → 1 ≤ on_way c (steps_from way 0 (length way)) → 1 ≤ w c)
+    (st : Stands w all s) (falls : Falls s (steps_from way 0 (length way))) (once : (c : ℕ) → on_way c (steps_from way 0 (length way)) ≤ 1)
+    (links : Links s (steps_from way 0 (length way))) (ix : Indexed (2 * l.size) s (steps_from way 0 (length way))) (sized : Sized s.info)
     (node : s.info.node_size ≡ l.size) where
   abbrev from : ℕ → List Step
-  from j = steps_from way kids j (steps - j)
+  from j = steps_from way j (length way - j)
 
   abbrev after : ℕ → List Step
-  after j = steps_from way kids (suc j) (steps - suc j)
+  after j = steps_from way (suc j) (length way - suc j)
 
   -- the way from step j on
-  falls_at : (j : ℕ) → j < steps → Falls s (step_of way kids j ∷ after j)
-  falls_at j h = rw from_cons at (suffix way kids (Falls s) (falls_tail s) steps j h falls)
+  falls_at : (j : ℕ) → j < length way → Falls s (step_of way j ∷ after j)
+  falls_at j h = rw from_cons at (suffix way (Falls s) (falls_tail s) j h falls)
 
-  links_at : (j : ℕ) → j < steps → Links s (step_of way kids j ∷ after j)
-  links_at j h = subst (Links s) (from_cons way kids steps j h) (suffix way kids (Links s) (links_tail s) steps j h links)
+  links_at : (j : ℕ) → j < length way → Links s (step_of way j ∷ after j)
+  links_at j h = subst (Links s) (from_cons way j h) (suffix way (Links s) (links_tail s) j h links)
 
-  once_at : (j : ℕ) → j < steps → (c : ℕ) → on_way c (step_of way kids j ∷ after j) ≤ 1
+  once_at : (j : ℕ) → j < length way → (c : ℕ) → on_way c (step_of way j ∷ after j) ≤ 1
   once_at j h c =
-      subst (λ (qs : List Step). on_way c qs ≤ 1) (from_cons way kids steps j h)
-      (suffix way kids (λ qs. on_way c qs ≤ 1) (λ x y xs k. le_trans (later c x (y ∷ xs)) k) steps j h (once c))
+      subst (λ (qs : List Step). on_way c qs ≤ 1) (from_cons way j h)
+      (suffix way (λ qs. on_way c qs ≤ 1) (λ x y xs k. le_trans (later c x (y ∷ xs)) k) j h (once c))
 
-  most_at : (j : ℕ) → j < steps → (c : ℕ) → on_way c (step_of way kids j ∷ after j) ≤ on_way c (steps_from way kids 0 steps)
+  most_at : (j : ℕ) → j < length way → (c : ℕ) → on_way c (step_of way j ∷ after j) ≤ on_way c (steps_from way 0 (length way))
   most_at j h c =
-      subst (λ (qs : List Step). on_way c qs ≤ on_way c (steps_from way kids 0 steps)) (from_cons way kids steps j h)
-      (suffix way kids (λ qs. on_way c qs ≤ on_way c (steps_from way kids 0 steps)) (λ x y xs k. le_trans (later c x (y ∷ xs)) k) steps j h
+      subst (λ (qs : List Step). on_way c qs ≤ on_way c (steps_from way 0 (length way))) (from_cons way j h)
+      (suffix way (λ qs. on_way c qs ≤ on_way c (steps_from way 0 (length way))) (λ x y xs k. le_trans (later c x (y ∷ xs)) k) j h
       (le_refl _))
 
-  used_at : (j : ℕ) → j < steps → (c : ℕ) → 1 ≤ on_way c (step_of way kids j ∷ after j) → c < length s.nodes
-  used_at j h = falls_used s (step_of way kids j ∷ after j) (falls_at j h)
+  used_at : (j : ℕ) → j < length way → (c : ℕ) → 1 ≤ on_way c (step_of way j ∷ after j) → c < length s.nodes
+  used_at j h = falls_used s (step_of way j ∷ after j) (falls_at j h)
 
-  here : (j : ℕ) → 1 ≤ on_way (get_or way j 0) (step_of way kids j ∷ after j)
-  here j = omega (arith, names_same (get_or way j 0))
+  here : (j : ℕ) → 1 ≤ on_way (nth_step way j).slot (step_of way j ∷ after j)
+  here j = omega (arith, names_same (nth_step way j).slot)
 
-  module _ (j : ℕ) (h : j < steps) (u : State) (e : cuts l (step_of way kids j ∷ []) (after j) s ≡ ok u) where
+  module _ (j : ℕ) (h : j < length way) (u : State) (e : cuts l (step_of way j ∷ []) (after j) s ≡ ok u) where
     edited : Edited l w all s u
     edited =
-        (cuts_edited l w w all (step_of way kids j) (after j) s (falls_at j h)
-        (wide (get_or way j 0) (le_trans (here j) (most_at j h (get_or way j 0))))
+        (cuts_edited l w w all (step_of way j) (after j) s (falls_at j h)
+        (wide (nth_step way j).slot (le_trans (here j) (most_at j h (nth_step way j).slot)))
         (λ k a b. a) st).at u e
 
-    beside : Beside (get_or way j 0) (after j) s u
-    beside = (cuts_beside l (step_of way kids j) (after j) s (once_at j h) (used_at j h) (links_at j h)).at u e
+    beside : Beside (nth_step way j).slot (after j) s u
+    beside = (cuts_beside l (step_of way j) (after j) s (once_at j h) (used_at j h) (links_at j h)).at u e
 
-  parent_at : (j : ℕ) → (h : suc j < steps) → (u : State) → cuts l (step_of way kids (suc j) ∷ []) (after (suc j)) s ≡ ok u
-      → (node_at u (get_or way (suc j) 0)).dead ≡ false → ParentFits l.size u (step_of way kids j) (get_or way (suc j) 0)
+  parent_at : (j : ℕ) → (h : suc j < length way) → (u : State) → cuts l (step_of way (suc j) ∷ []) (after (suc j)) s ≡ ok u
+      → (node_at u (nth_step way (suc j)).slot).dead ≡ false → ParentFits l.size u (step_of way j) (nth_step way (suc j)).slot
   parent_at j h u e live =
-      let x : Step = step_of way kids j in
-      let y : Step = step_of way kids (suc j) in
-      let q : after j ≡ step_of way kids (suc j) ∷ after (suc j) = from_cons way kids steps (suc j) h in
+      let x : Step = step_of way j in
+      let y : Step = step_of way (suc j) in
+      let q : after j ≡ step_of way (suc j) ∷ after (suc j) = from_cons way (suc j) h in
       let k : Links s (x ∷ y ∷ after (suc j)) = subst (λ (qs : List Step). Links s (x ∷ qs)) q (links_at j (omega arith)) in
       let a : (c : ℕ) → on_way c (x ∷ y ∷ after (suc j)) ≤ 1 = λ c. subst (λ (qs : List Step). on_way c (x ∷ qs) ≤ 1) q (once_at j (omega arith) c) in
-      let i : Indexed (2 * l.size) s (x ∷ y ∷ after (suc j)) = subst (Indexed (2 * l.size) s) (from_two way kids steps j h)
-      (suffix way kids (Indexed (2 * l.size) s) (indexed_tail (2 * l.size) s) steps j (omega arith) ix) in
-      let b : Beside (get_or way (suc j) 0) (after (suc j)) s u = beside (suc j) h u e in
+      let i : Indexed (2 * l.size) s (x ∷ y ∷ after (suc j)) = subst (Indexed (2 * l.size) s) (from_two way j h)
+      (suffix way (Indexed (2 * l.size) s) (indexed_tail (2 * l.size) s) j (omega arith) ix) in
+      let b : Beside (nth_step way (suc j)).slot (after (suc j)) s u = beside (suc j) h u e in
       let (alive, holds) = links_first s x y (after (suc j)) k (sym b.dead ∙ live) in
       let used : x.slot < length s.nodes = live_used s x.slot alive in
       let apart : x.slot ≡ y.slot → ⊥ = slot_apart x y (after (suc j)) a in
@@ -209,21 +211,21 @@ module _ (l : Lent) (s : State) (way kids : List ℕ) (steps : ℕ) (w : ℕ →
         room = cuts_room (2 * l.size) x y (after (suc j)) s u a used b.aside (indexed_first (2 * l.size) s x y (after (suc j)) i);
       }
 
-  parents : (j : ℕ) → j < steps → (u : State) → cuts l (step_of way kids j ∷ []) (after j) s ≡ ok u → (x : Step) → above_of way kids j ≡ x ∷ []
-      → (node_at u (get_or way j 0)).dead ≡ false → ParentFits l.size u x (get_or way j 0)
+  parents : (j : ℕ) → j < length way → (u : State) → cuts l (step_of way j ∷ []) (after j) s ≡ ok u → (x : Step) → above_of way j ≡ x ∷ []
+      → (node_at u (nth_step way j).slot).dead ≡ false → ParentFits l.size u x (nth_step way j).slot
   unfolding above_of step_at
   parents zero h u e x q d = no_step x q
   parents (suc j) h u e x q d =
-      subst (λ (y : Step). ParentFits l.size u y (get_or way (suc j) 0)) (same_step (step_of way kids j) x q) (parent_at j h u e d)
+      subst (λ (y : Step). ParentFits l.size u y (nth_step way (suc j)).slot) (same_step (step_of way j) x q) (parent_at j h u e d)
 
-  pub cuts_fit : CutsFit l s way kids steps
+  pub cuts_fit : CutsFit l s way
   unfolding step_at
   cuts_fit =
       record {
         turn = λ j h u e.
             let a = (edited j h u e).steady in
             record {
-              used = le_trans (used_at j h (get_or way j 0) (here j)) a.longer;
+              used = le_trans (used_at j h (nth_step way j).slot (here j)) a.longer;
               sized = sized_like s.info u.info a.like sized;
               node = a.like.node ∙ node;
               parent = parents j h u e;

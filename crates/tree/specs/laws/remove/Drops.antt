@@ -1,5 +1,5 @@
 -- Laws of nodes dropped on a way, bottom up, as the code drops them. Assumes nothing.
-use Rattle.std.specs.Prelude.{◌≡◌, refl, List, [], ◌∷◌, true, ℕ, suc, ◌+◌, ◌-◌, ◌≤◌, ◌<◌, length, get_or}
+use Rattle.std.specs.Prelude.{◌≡◌, refl, List, [], ◌∷◌, true, ℕ, suc, ◌+◌, ◌-◌, ◌≤◌, ◌<◌, length}
 use Rattle.std.proofs.Math.Path.{sym}
 use Rattle.std.proofs.Common.{ap, subst, ◌∙◌}
 use native.Mathlib.Omega.{arith}
@@ -10,7 +10,7 @@ use Rattle.tree.specs.Lookup.{Step}
 use Rattle.tree.specs.Remove.{Dropped, drop_node, drop_emptied}
 use Rattle.tree.specs.internal.Bank.{node_in, live, Ready, Put}
 use Rattle.tree.specs.internal.Undo.{Follows}
-use Rattle.tree.specs.internal.Way.{steps_of}
+use Rattle.tree.specs.internal.Way.{nth_step, steps_in}
 use Rattle.tree.specs.internal.Writers.{edited}
 use Rattle.tree.specs.internal.Index.{Rewritten, steps_from}
 use Rattle.tree.specs.internal.Removing.{dead_put, child_dropped, DropFits, DropRoom, Emptied}
@@ -22,6 +22,7 @@ use Rattle.tree.specs.laws.trust.Loads.{by_list}
 use Rattle.tree.specs.laws.remove.Words.{put_rewritten}
 use Rattle.tree.specs.laws.remove.Ways.{step_of, from_cons, from_start}
 use Rattle.tree.specs.declared.editor.Tree.{Tree}
+use Rattle.tree.specs.declared.way.Step as code
 
 -- ---- one node
 
@@ -115,55 +116,55 @@ drop_cons : (x y : Step) (l ys : List Step) (s : State) → l ≡ y ∷ ys → d
 unfolding drop_emptied
 drop_cons x y l ys s e = rw e
 
-module _ (size slots steps : ℕ) (t : Tree) (way kids h0 b0 : List ℕ) where
+module _ (size slots : ℕ) (t : Tree) (way : List code.Step) (h0 b0 : List ℕ) where
   abbrev from : ℕ → Dropped
-  from j = drop_emptied (steps_from way kids j (steps - j)) (state_of size t h0 b0)
+  from j = drop_emptied (steps_from way j (length way - j)) (state_of size t h0 b0)
 
-  pub emptied_none : Ready size slots t.used h0 b0 → 1 ≤ steps
-      → Emptied size slots t h0 b0 h0 b0 (drop_emptied (steps_from way kids (steps - 1) (steps - (steps - 1))) (state_of size t h0 b0)) 0
+  pub emptied_none : Ready size slots t.used h0 b0 → 1 ≤ length way
+      → Emptied size slots t h0 b0 h0 b0 (drop_emptied (steps_from way (length way - 1) (length way - (length way - 1))) (state_of size t h0 b0)) 0
   unfolding steps_from
   emptied_none r u =
-      let z : steps - (steps - 1) ≡ 1 = omega arith in
-      let q = drop_one (step_of way kids (steps - 1)) (state_of size t h0 b0) in
+      let z : length way - (length way - 1) ≡ 1 = omega arith in
+      let q = drop_one (step_of way (length way - 1)) (state_of size t h0 b0) in
       rw z (record {
         rest = record { state = sym (ap (λ (d : Dropped). d.state) q); ready = r; follows = follows_same size slots t.used h0 b0 };
         count = sym (ap (λ (d : Dropped). d.nodes) q);
       })
 
   module _ (j : ℕ) (h b : List ℕ) (dropped : ℕ)
-      (e : Emptied size slots t h0 b0 h b (drop_emptied (steps_from way kids j (steps - j)) (state_of size t h0 b0)) dropped) where
+      (e : Emptied size slots t h0 b0 h b (drop_emptied (steps_from way j (length way - j)) (state_of size t h0 b0)) dropped) where
     pub emptied_ready : Ready size slots t.used h b
     emptied_ready = e.rest.ready
 
-    pub emptied_all : j ≤ 0 → Emptied size slots t h0 b0 h b (drop_emptied (steps_of way kids steps) (state_of size t h0 b0)) dropped
+    pub emptied_all : j ≤ 0 → Emptied size slots t h0 b0 h b (drop_emptied (steps_in way) (state_of size t h0 b0)) dropped
     emptied_all u =
         let z : j ≡ 0 = omega arith in
-        let y : steps - 0 ≡ steps = omega arith in
-        let q : steps_from way kids j (steps - j) ≡ steps_of way kids steps =
-        ap (λ (x : ℕ). steps_from way kids x (steps - x)) z ∙ ap (λ (x : ℕ). steps_from way kids 0 x) y ∙ sym (from_start way kids steps) in
+        let y : length way - 0 ≡ length way = omega arith in
+        let q : steps_from way j (length way - j) ≡ steps_in way =
+        ap (λ (x : ℕ). steps_from way x (length way - x)) z ∙ ap (λ (x : ℕ). steps_from way 0 x) y ∙ sym (from_start way (length way)) in
         subst (λ (l : List Step). Emptied size slots t h0 b0 h b (drop_emptied l (state_of size t h0 b0)) dropped) q e
 
-    module _ (u : 0 < j) (v : j < steps) where
-      pub emptied_fits : DropRoom (state_of size t h0 b0) way kids steps
-          → DropFits (state_of size t h b) (get_or way (j - 1) 0) (get_or kids (j - 1) 0) (get_or way j 0)
+    module _ (u : 0 < j) (v : j < length way) where
+      pub emptied_fits : DropRoom (state_of size t h0 b0) way
+          → DropFits (state_of size t h b) (nth_step way (j - 1)).slot (nth_step way (j - 1)).child (nth_step way j).slot
       emptied_fits r = rw e.rest.state (r.turn j u v)
 
       pub emptied_next : (h' b' : List ℕ) (one : ℕ)
           → Emptied size slots t h b h' b' (drop_node (record {
-            slot = get_or way (j - 1) 0;
-            child = get_or kids (j - 1) 0;
-          }) (get_or way j 0) (record { state = state_of size t h b; nodes = 0 })) one
-          → Emptied size slots t h0 b0 h' b' (drop_emptied (steps_from way kids (j - 1) (steps - (j - 1))) (state_of size t h0 b0)) (dropped + one)
+            slot = (nth_step way (j - 1)).slot;
+            child = (nth_step way (j - 1)).child;
+          }) (nth_step way j).slot (record { state = state_of size t h b; nodes = 0 })) one
+          → Emptied size slots t h0 b0 h' b' (drop_emptied (steps_from way (j - 1) (length way - (j - 1))) (state_of size t h0 b0)) (dropped + one)
       emptied_next h' b' one f =
           let z : suc (j - 1) ≡ j = omega arith in
-          let k : j - 1 < steps = omega arith in
-          let x : Step = step_of way kids (j - 1) in
-          let c : ℕ = get_or way j 0 in
+          let k : j - 1 < length way = omega arith in
+          let x : Step = step_of way (j - 1) in
+          let c : ℕ = (nth_step way j).slot in
           let q : from (j - 1) ≡ drop_node x c (from j) =
-          ap (λ (l : List Step). drop_emptied l (state_of size t h0 b0)) (from_cons way kids steps (j - 1) k
-          ∙ ap (λ (y : ℕ). step_of way kids (j - 1) ∷ steps_from way kids y (steps - y)) z)
-          ∙ drop_cons x (step_of way kids j) (steps_from way kids j (steps - j)) (steps_from way kids (suc j) (steps - suc j)) (state_of size t h0 b0)
-          (from_cons way kids steps j v) in
+          ap (λ (l : List Step). drop_emptied l (state_of size t h0 b0)) (from_cons way (j - 1) k
+          ∙ ap (λ (y : ℕ). step_of way (j - 1) ∷ steps_from way y (length way - y)) z)
+          ∙ drop_cons x (step_of way j) (steps_from way j (length way - j)) (steps_from way (suc j) (length way - suc j)) (state_of size t h0 b0)
+          (from_cons way j v) in
           let a : drop_node x c (record { state = (from j).state; nodes = 0 }) ≡ drop_node x c (record { state = state_of size t h b; nodes = 0 }) =
           ap (λ (s : State). drop_node x c (record { state = s; nodes = 0 })) (sym e.rest.state) in
           record {

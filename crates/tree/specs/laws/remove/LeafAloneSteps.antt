@@ -1,12 +1,12 @@
 -- Laws of the steps of a remove that changes an entry of its leaf alone: the way looked at, the entry taken. Assumes nothing.
-use Rattle.std.specs.Prelude.{◌≡◌, refl, List, Bool, true, not, ℕ, suc, ◌+◌, ◌-◌, ◌≤◌, ◌<◌, length, drop, eqb}
+use Rattle.std.specs.Prelude.{◌≡◌, refl, List, Bool, true, not, ℕ, zero, suc, ◌+◌, ◌-◌, ◌≤◌, ◌<◌, length, drop, eqb}
 use Rattle.std.proofs.Math.Path.{sym, ap}
 use Rattle.std.proofs.Common.{subst, ◌∙◌, arith}
 use Rattle.std.proofs.Math.Bool.{false}
 use borrow.Author.Tests.{not-false, not-true}
 use Rattle.node.specs.laws.base.Tests.{by_test, never, and_split}
-use Rattle.node.specs.Order.{keyed_length, keyed, same_key}
-use Rattle.node.specs.Entry.{Entry}
+use Rattle.node.specs.Order.{keyed, same_key}
+use Rattle.node.specs.Entry.{Entry, Val}
 use Rattle.node.specs.Find.{key_at, way_index}
 use Rattle.node.specs.Records.{record_length, records_length, entry_of, entries_of}
 use Rattle.node.specs.Slot.{MemNode, head_at, node_of, remove_at}
@@ -17,17 +17,16 @@ use Rattle.node.specs.declared.head.Head.{Head}
 use Rattle.node.specs.declared.slot.Last.{Last}
 use Rattle.tree.specs.State.{State, node_at, put_node, with_info, with_counts, with_entries}
 use Rattle.tree.specs.Trust.{stand_together, trusted}
-use Rattle.tree.specs.Workspace.{slot_bytes, state_of}
-use Rattle.tree.specs.internal.Bank.{node_in, live, Ready, Wrote, Put}
+use Rattle.tree.specs.Workspace.{state_of}
+use Rattle.tree.specs.internal.Bank.{node_in, Ready, Wrote, Put}
 use Rattle.tree.specs.internal.Cutting.{stays_whole}
 use Rattle.tree.specs.internal.Kids.{slots_of, kid_means}
-use Rattle.tree.specs.internal.Loaded.{TakenOf}
-use Rattle.tree.specs.internal.Still.{Settled, GoesOn, StillOf, StillTo, Stilling, StillIn, StillLeaf, StaysAbove, StillRemoved}
+use Rattle.tree.specs.internal.Loaded.{TakenOf, LedTo, LedLeaf}
+use Rattle.tree.specs.internal.Still.{Settled, GoesOn, StillOf, StillTo, StillLeaf, StaysAbove, StillRemoved}
 use Rattle.tree.specs.laws.trust.Stands.{stands_of}
-use Rattle.tree.specs.laws.load.LoadedWay.{taken_lies, taken_is, taken_of}
-use Rattle.tree.specs.laws.slots.Bank.{live_entries}
-use Rattle.tree.specs.laws.slots.OneSlot.{slot_room}
-use Rattle.tree.specs.laws.slots.Tree.{used_nodes, node_in_lem, key_found}
+use Rattle.tree.specs.laws.load.LoadedWay.{taken_lies, taken_is}
+use Rattle.tree.specs.laws.slots.Records.{key_found}
+use Rattle.tree.specs.laws.slots.Tree.{used_nodes, node_in_lem}
 use Rattle.tree.specs.laws.trust.Named.{live_used}
 use Rattle.tree.specs.laws.slots.Undo.{put_of}
 use Rattle.tree.specs.laws.slots.Bank.{put_ready}
@@ -48,10 +47,9 @@ use Rattle.node.specs.declared.slot.Found.{Found}
 use Rattle.node.specs.declared.info.BTreeInfo.{BTreeInfo}
 use Rattle.node.specs.Result.{Result, ok}
 use Rattle.tree.specs.declared.editor.Tree.{Tree}
-use Rattle.tree.specs.declared.kids.Kid.{Kid}
 use Rattle.tree.specs.declared.loaded.Taken.{Taken}
 use Rattle.std.specs.Prelude.{Ok, Some, None, Option}
-use Rattle.std.proofs.lemmas.Option.{none-some, same_Some}
+use Rattle.std.proofs.lemmas.Option.{same_Some}
 
 abbrev yes : State → Result Removed
 yes x = ok (record { state = x; present = true })
@@ -60,6 +58,16 @@ yes x = ok (record { state = x; present = true })
 pub dirty_word : (size n : ℕ) (heads bytes : List ℕ) (x : Head) → x ≡ head_at heads n → eqb x.dirty 1 ≡ (node_in size heads bytes n).dirty
 unfolding node_in node_of
 dirty_word size n heads bytes x e = rw e
+
+-- ---- the leaf
+
+module _ (P : ℕ → Taken → Type 0) (used : ℕ) (s : State) (key : List ℕ) (f : (n : ℕ) (x : Taken) → P n x → StillOf s key n (Some x)) where
+  led_still : (d m n : ℕ) → LedTo P d m n → StillTo d s key m n
+  led_still zero m n e = e
+  led_still (suc d) m n e = record { slot = e.taken.slot; on = (f n e.taken e.on).on e.taken refl; below = led_still d m e.taken.slot e.below }
+
+  pub still_leaf : (r : Option ℕ) → LedLeaf P used s key r → StillLeaf used s key r
+  still_leaf r q = record { within = q.within; keys = q.keys; leads = λ m e. led_still (node_at s s.root).level m s.root (q.leads m e) }
 
 module _ (size : ℕ) (t : Tree) (h b : List ℕ) where
   abbrev s : State
@@ -92,96 +100,45 @@ module _ (size : ℕ) (t : Tree) (h b : List ℕ) where
 
   -- ---- the entry gone on by
 
-  module _ (slots : ℕ) (key : List ℕ) (n : ℕ) (r : Ready size slots t.used h b) (hn : n < t.used) (q : Settled (state_of size t h b) n) (x : Head)
-      (ex : x ≡ live (head_at h n)) (z : x.count ≡ 0 → ⊥) (l : List ℕ) (el : l ≡ slot_bytes size b n) (y : Last)
-      (ey : y ≡ last_in t.order key x.count l) where
-    pub still_room : records_length x.count l ≤ length l
-    still_room = slot_room size slots t.used n h b r hn l el x ex
-
+  module _ (key : List ℕ) (n : ℕ) (q : Settled (state_of size t h b) n) (count : ℕ) (z : count ≡ 0 → ⊥) (l : List ℕ)
+      (still_room : records_length count l ≤ length l) (el : (node_at (state_of size t h b) n).entries ≡ entries_of count l) (y : Last)
+      (ey : y ≡ last_in t.order key count l) where
     abbrev i : ℕ
-    i = way_index t.order key (entries_of x.count l)
+    i = way_index t.order key (entries_of count l)
 
-    inside : i < x.count
+    inside : i < count
     unfolding way_index
-    inside = omega (arith, above_le t.order key (entries_of x.count l), length_entries x.count l)
+    inside = omega (arith, above_le t.order key (entries_of count l), length_entries count l)
 
     start : y.at ≡ records_length i l
     unfolding last_in way_index
     start = rw ey
 
     pub still_lies : y.at + record_length (drop y.at l) ≤ length l
-    still_lies = taken_lies t.order key l x.count still_room z y ey
+    still_lies = taken_lies t.order key l count still_room z y ey
 
-    entries_are : (node_at s n).entries ≡ entries_of x.count l
-    unfolding node_in
-    entries_are = ap (λ m. m.entries) (node_in_lem size t h b n hn) ∙ live_entries (head_at h n) (slot_bytes size b n) ∙ rw (← ex, ← el)
-
-    module _ (kid : Kid) (ek : kid_means kid ≡ slots_of (entry_of (drop y.at l)).value) (m : ℕ) (ec : kid.slot ≡ Some m) (k f : List ℕ)
+    module _ (v : Val) (ev : v ≡ (entry_of (drop y.at l)).value) (kid : Option ℕ) (ek : kid_means kid ≡ slots_of v) (m : ℕ) (ec : kid ≡ Some m)
+        (k f : List ℕ)
         (ekey : k ≡ (entry_of (drop y.at l)).key)
-        (ef : f ≡ key_at (node_at (state_of size t h b) m).entries 0) (e : Bool) (ee : e ≡ same_key k f) where
+        (ef : f ≡ key_at (node_at (state_of size t h b) m).entries 0) (e : Bool) (ee : e ≡ not (same_key k f)) where
       key_is : k ≡ key_at (node_at s n).entries (way_index t.order key (node_at s n).entries)
       key_is =
-          key_found size t h b slots n r hn x ex l el i y.at inside start k ekey
-          ∙ ap (λ (z : List Entry). key_at (node_at s n).entries (way_index t.order key z)) (sym entries_are)
+          key_found (node_at s n).entries count l el i y.at inside l refl start k ekey
+          ∙ ap (λ (z : List Entry). key_at (node_at s n).entries (way_index t.order key z)) (sym el)
 
-      pub still_on : not e ≡ false → (j : ℕ) → j ≡ y.count - 1
+      pub still_on : e ≡ false → (j : ℕ) → j ≡ y.count - 1
           → StillOf (state_of size t h b) key n (Some (record { index = j; slot = m }))
       still_on u j ej =
-          let v : Taken = record { index = j; slot = m } in
-          let q' : TakenOf t.order key (node_at s n).entries (Some v) = taken_of size t h b key n hn x ex l el (Some v)
-          (taken_is t.order key l x.count still_room z y ey j ej kid ek m ec) in
+          let o : Taken = record { index = j; slot = m } in
+          let q' : TakenOf t.order key (node_at s n).entries (Some o) =
+          rw el (taken_is t.order key l count still_room z y ey j ej v ev kid ek m ec) in
           let on : GoesOn s key n m =
           record {
-            child = (unfold state_of in q'.child v refl);
-            same = (unfold state_of in rw (← key_is, ← ef) (sym ee ∙ not-false e u));
+            child = (unfold state_of in q'.child o refl);
+            same = (unfold state_of in rw (← key_is, ← ef) (not-false (same_key k f) (sym ee ∙ u)));
             settled = q;
           } in
-          record { on = λ w g. subst (λ (o : Taken). GoesOn s key n o.slot) (same_Some v w g) on }
-
-  -- ---- the leaf
-
-  module _ (level : ℕ) (key : List ℕ) where
-    pub stilling_start : Stilling (state_of size t h b) level key (level - 0) t.root
-    unfolding state_of
-    stilling_start =
-        let e : level - 0 ≡ level = omega arith in
-        record { on = λ m g. subst (λ (j : ℕ). StillTo j s key m s.root) e g }
-
-    pub stilling_turn : (i n : ℕ) → i < level → Stilling (state_of size t h b) level key (level - i) n → (r : Taken)
-        → StillOf (state_of size t h b) key n (Some r) → Stilling (state_of size t h b) level key (level - (i + 1)) r.slot
-    stilling_turn i n hi g r q =
-        let e : suc (level - (i + 1)) ≡ level - i = omega arith in
-        record {
-          on = λ m z. g.on m (subst (λ (j : ℕ). StillTo j s key m n) e
-              (record { slot = r.slot; on = q.on r refl; below = z }));
-        }
-
-    pub still_lost : StillIn t.used level (state_of size t h b) key None
-    still_lost = record { within = λ m z. absurd (none-some m z); leads = λ m z. absurd (none-some m z) }
-
-    pub still_end : (i n : ℕ) → level ≤ i → n < t.used → Stilling (state_of size t h b) level key (level - i) n
-        → StillIn t.used level (state_of size t h b) key (Some n)
-    still_end i n hi hn g =
-        let e : 0 ≡ level - i = omega arith in
-        record {
-          within = λ m z. (let q : n ≡ m = same_Some n m z in rw (← q) hn);
-          leads = λ m z. (let q : n ≡ m = same_Some n m z in rw (← q) (g.on n (subst (λ (j : ℕ). StillTo j s key n n) e refl)));
-        }
-
-  module _ (key : List ℕ) (k : Bool) (ek : k ≡ keyed_length t.order (length key)) where
-    pub still_unkeyed : StillLeaf t.used (state_of size t h b) key None
-    still_unkeyed =
-        record {
-          within = λ m z. absurd (none-some m z);
-          keys = λ m z. absurd (none-some m z);
-          leads = λ m z. absurd (none-some m z);
-        }
-
-    pub still_leaf : not k ≡ false → (level : ℕ) → level ≡ (node_at (state_of size t h b) t.root).level → (r : Option ℕ)
-        → StillIn t.used level (state_of size t h b) key r → StillLeaf t.used (state_of size t h b) key r
-    unfolding state_of keyed
-    still_leaf u level ev r q =
-        record { within = q.within; keys = λ m z. sym ek ∙ not-false k u; leads = λ m z. rw (← ev) (q.leads m z) }
+          record { on = λ w g. subst (λ (o : Taken). GoesOn s key n o.slot) (same_Some o w g) on }
 
   -- ---- the entry taken
 

@@ -1,5 +1,5 @@
 -- Room for the index keys of a remove: a dead slot has no entries, a live one two blocks at most, and keys that bytes can say. Assumes nothing.
-use Rattle.std.specs.Prelude.{◌≡◌, refl, List, [], ◌∷◌, true, ◌||◌, not, ℕ, zero, suc, ◌-◌, ◌*◌, ◌≤◌, ◌<◌, length, get_or, ltb, eqb}
+use Rattle.std.specs.Prelude.{◌≡◌, refl, List, [], ◌∷◌, true, ◌||◌, not, ℕ, zero, suc, ◌-◌, ◌*◌, ◌≤◌, ◌<◌, length, ltb, eqb}
 use Rattle.std.proofs.Common.{sym, ap, ◌∙◌, le_trans, arith, ltb-true, ltb-false}
 use Rattle.std.proofs.Math.Seq.{set_out}
 use Rattle.node.specs.Order.{same_key}
@@ -16,7 +16,7 @@ use Rattle.tree.specs.Lookup.{Step}
 use Rattle.tree.specs.Edit.{set_index_key, index_keys}
 use Rattle.tree.specs.internal.Bank.{node_in, live, Ready}
 use Rattle.tree.specs.internal.Room.{Roomy}
-use Rattle.tree.specs.internal.Way.{steps_of}
+use Rattle.tree.specs.internal.Way.{nth_step, steps_in}
 use Rattle.tree.specs.internal.Index.{KeyFits, steps_from, IndexRoom}
 use Rattle.tree.specs.laws.slots.Bank.{live_entries}
 use Rattle.tree.specs.laws.slots.OneSlot.{ready_part, part_long}
@@ -32,6 +32,7 @@ use Rattle.tree.specs.laws.room.Edit.{KeysMost, keys_indexes, inner_most}
 use Rattle.tree.specs.laws.room.Each.{roomy_keys, each_keys}
 use Rattle.tree.specs.laws.remove.Ways.{step_of, from_cons, from_start, suffix}
 use Rattle.tree.specs.declared.editor.Tree.{Tree}
+use Rattle.tree.specs.declared.way.Step as code
 
 -- ---- dead slots have no entries
 
@@ -132,7 +133,7 @@ tail_once : (c : ℕ) (x y : Step) (xs : List Step) → on_way c (x ∷ y ∷ xs
 tail_once c x y xs h = omega arith
 
 module _ (size slots : ℕ) (t : Tree) (h b : List ℕ) (r : Ready size slots t.used h b) (bb : Bytes b) (ro : Roomy (2 * size) (state_of size t h b))
-    (way kids : List ℕ) (steps : ℕ) (once : (c : ℕ) → on_way c (steps_of way kids steps) ≤ 1) (scratch : ℕ) (room : 2 * size ≤ scratch) where
+    (way : List code.Step) (once : (c : ℕ) → on_way c (steps_in way) ≤ 1) (scratch : ℕ) (room : 2 * size ≤ scratch) where
   abbrev s : State
   s = state_of size t h b
 
@@ -142,25 +143,25 @@ module _ (size slots : ℕ) (t : Tree) (h b : List ℕ) (r : Ready size slots t.
   keys : KeysMost (2 * size) s
   keys = each_keys (2 * size) s (roomy_keys (2 * size) s ro)
 
-  off : (j : ℕ) → 0 < j → j < steps → on_way (get_or way (j - 1) 0) (steps_from way kids j (steps - j)) ≡ 0
+  off : (j : ℕ) → 0 < j → j < length way → on_way (nth_step way (j - 1)).slot (steps_from way j (length way - j)) ≡ 0
   off j u v =
-      let n : ℕ = get_or way (j - 1) 0 in
-      let a : on_way n (steps_from way kids (j - 1) (steps - (j - 1))) ≤ 1 =
-      suffix way kids (λ qs. on_way n qs ≤ 1) (tail_once n) steps (j - 1) (omega arith) (rw (← from_start way kids steps) (once n)) in
+      let n : ℕ = (nth_step way (j - 1)).slot in
+      let a : on_way n (steps_from way (j - 1) (length way - (j - 1))) ≤ 1 =
+      suffix way (λ qs. on_way n qs ≤ 1) (tail_once n) (j - 1) (omega arith) (rw (← from_start way (length way)) (once n)) in
       let z : suc (j - 1) ≡ j = omega arith in
-      let e : steps_from way kids (j - 1) (steps - (j - 1)) ≡ step_of way kids (j - 1) ∷ steps_from way kids j (steps - j) =
-      from_cons way kids steps (j - 1) (omega arith) ∙ ap (λ (y : ℕ). step_of way kids (j - 1) ∷ steps_from way kids y (steps - y)) z in
-      let k : on_way n (step_of way kids (j - 1) ∷ steps_from way kids j (steps - j)) ≤ 1 = rw e at a in
+      let e : steps_from way (j - 1) (length way - (j - 1)) ≡ step_of way (j - 1) ∷ steps_from way j (length way - j) =
+      from_cons way (j - 1) (omega arith) ∙ ap (λ (y : ℕ). step_of way (j - 1) ∷ steps_from way y (length way - y)) z in
+      let k : on_way n (step_of way (j - 1) ∷ steps_from way j (length way - j)) ≤ 1 = rw e at a in
       omega (arith, names_same n)
 
-  fits_at : (j : ℕ) → 0 < j → j < steps
-      → KeyFits size (index_keys (steps_from way kids j (steps - j)) (state_of size t h b)) (get_or way (j - 1) 0) (get_or way j 0) scratch
+  fits_at : (j : ℕ) → 0 < j → j < length way
+      → KeyFits size (index_keys (steps_from way j (length way - j)) (state_of size t h b)) (nth_step way (j - 1)).slot (nth_step way j).slot scratch
   fits_at j u v =
-      let n : ℕ = get_or way (j - 1) 0 in
-      let c : ℕ = get_or way j 0 in
-      let ps : List Step = steps_from way kids j (steps - j) in
-      let s' : State = index_keys (steps_from way kids j (steps - j)) (state_of size t h b) in
-      let bare' : Bare (index_keys (steps_from way kids j (steps - j)) (state_of size t h b)) = bare_keys ps s bare in
+      let n : ℕ = (nth_step way (j - 1)).slot in
+      let c : ℕ = (nth_step way j).slot in
+      let ps : List Step = steps_from way j (length way - j) in
+      let s' : State = index_keys (steps_from way j (length way - j)) (state_of size t h b) in
+      let bare' : Bare (index_keys (steps_from way j (length way - j)) (state_of size t h b)) = bare_keys ps s bare in
       let q : node_at s' n ≡ node_at s n = indexes_other ps s n (omega (arith, inner_most n ps, off j u v)) in
       let a : weight (node_at s' n).entries ≤ 2 * size = rw q (bare_light (2 * size) s bare ro n) in
       let f : length (key_at (node_at s' c).entries 0) ≤ 2 * size = bare_short (2 * size) s' bare' (keys_indexes (2 * size) ps s keys) c 0 in
@@ -168,5 +169,5 @@ module _ (size slots : ℕ) (t : Tree) (h b : List ℕ) (r : Ready size slots t.
       (bytes_keys size slots t h b r bb)) c 0 in
       record { slot = omega (arith, weight_size (node_at s' n).entries); short = omega arith; copied = le_trans f room }
 
-  pub index_fits : IndexRoom size t h b way kids steps scratch
+  pub index_fits : IndexRoom size t h b way scratch
   index_fits = record { turn = fits_at }

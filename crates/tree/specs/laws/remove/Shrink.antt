@@ -1,5 +1,5 @@
 -- Laws of a leaf's entry taken out and emptied nodes dropped, as the code does it. Assumes nothing.
-use Rattle.std.specs.Prelude.{◌≡◌, refl, List, true, ℕ, ◌+◌, ◌-◌, ◌*◌, ◌≤◌, ◌<◌, length, get_or, take, ltb}
+use Rattle.std.specs.Prelude.{◌≡◌, refl, List, true, ℕ, ◌+◌, ◌-◌, ◌*◌, ◌≤◌, ◌<◌, length, take, ltb}
 use Rattle.std.proofs.Math.Path.{sym, ap, ap₂}
 use Rattle.std.proofs.Common.{◌∙◌, arith, lt-ltb, le-leb}
 use Rattle.std.proofs.Math.Bool.{false}
@@ -21,7 +21,7 @@ use Rattle.tree.specs.Answers.{edited_of}
 use Rattle.tree.specs.internal.Bank.{node_in, live, Ready, Put}
 use Rattle.tree.specs.internal.Undo.{Follows}
 use Rattle.tree.specs.internal.Writers.{edited}
-use Rattle.tree.specs.internal.Way.{steps_of, WayIn, Touched}
+use Rattle.tree.specs.internal.Way.{nth_step, steps_in, WayIn, Touched}
 use Rattle.tree.specs.internal.Index.{Rewritten}
 use Rattle.tree.specs.internal.Removing.{DropRoom, Emptied, taken_on, shrunk_at}
 use Rattle.tree.specs.laws.slots.Bank.{live_entries}
@@ -35,6 +35,7 @@ use Rattle.tree.specs.laws.remove.Ways.{leaf_is}
 use Rattle.tree.specs.declared.editor.Tree.{Tree}
 use Rattle.std.specs.Prelude.{Ok, Err}
 use Rattle.node.specs.declared.refusal.Refusal.TheVariants as is
+use Rattle.tree.specs.declared.way.Step as code
 
 -- ---- where an entry starts, of the entries before it
 
@@ -69,36 +70,37 @@ module _ (size₀ slots n i : ℕ) (t : Tree) (h b h' b' : List ℕ) (r : Ready 
 
 -- ---- the leaf's entry
 
-module _ (size₀ slots steps i : ℕ) (t : Tree) (way kids h0 b0 h1 b1 : List ℕ) (r : Ready size₀ slots t.used h0 b0) (w : WayIn
-    t.used way steps) (some : 1 ≤ steps)
-    (d : Touched size₀ slots t way steps h0 b0 h1 b1) where
+module _ (size₀ slots i : ℕ) (t : Tree) (way : List code.Step) (h0 b0 h1 b1 : List ℕ) (r : Ready size₀ slots t.used h0 b0) (w : WayIn
+    t.used way) (some : 1 ≤ length way)
+    (d : Touched size₀ slots t way h0 b0 h1 b1) where
   abbrev n : ℕ
-  n = get_or way (steps - 1) 0
+  n = (nth_step way (length way - 1)).slot
 
   abbrev ps : List Step
-  ps = steps_of way kids steps
+  ps = steps_in way
 
-  pub leaf_used : get_or way (steps - 1) 0 < t.used
-  leaf_used = w.slot (steps - 1) (omega arith)
+  pub leaf_used : (nth_step way (length way - 1)).slot < t.used
+  leaf_used = w.slot (length way - 1) (omega arith)
 
-  pub touched_entries : (node_at (state_of size₀ t h1 b1) (get_or way (steps - 1) 0)).entries
-      ≡ (node_at (state_of size₀ t h0 b0) (get_or way (steps - 1) 0)).entries
-  touched_entries = ap (λ (s : State). (node_at s n).entries) (d.state kids) ∙ (touch_marks ps (state_of size₀ t h0 b0)).entries n
+  pub touched_entries : (node_at (state_of size₀ t h1 b1) (nth_step way (length way - 1)).slot).entries
+      ≡ (node_at (state_of size₀ t h0 b0) (nth_step way (length way - 1)).slot).entries
+  touched_entries = ap (λ (s : State). (node_at s n).entries) d.state ∙ (touch_marks ps (state_of size₀ t h0 b0)).entries n
 
-  module _ (hi : i < (live (head_at h0 (get_or way (steps - 1) 0))).count) where
-    pub leaf_index : i < (live (head_at h1 (get_or way (steps - 1) 0))).count
+  module _ (hi : i < (live (head_at h0 (nth_step way (length way - 1)).slot)).count) where
+    pub leaf_index : i < (live (head_at h1 (nth_step way (length way - 1)).slot)).count
     leaf_index = index_same size₀ slots n i t h0 b0 h1 b1 r d.ready leaf_used touched_entries hi
 
-    pub leaf_start : (at : ℕ) → at ≡ records_length i (slot_bytes size₀ b0 (get_or way (steps - 1) 0))
-        → at ≡ records_length i (slot_bytes size₀ b1 (get_or way (steps - 1) 0))
+    pub leaf_start : (at : ℕ) → at ≡ records_length i (slot_bytes size₀ b0 (nth_step way (length way - 1)).slot)
+        → at ≡ records_length i (slot_bytes size₀ b1 (nth_step way (length way - 1)).slot)
     leaf_start = start_same size₀ slots n i t h0 b0 h1 b1 r d.ready leaf_used touched_entries hi
 
   module _ (h2 b2 : List ℕ) (eh : length h2 ≡ length h1) (eb : length b2 ≡ length b1)
-      (p : Put size₀ slots h1 b1 h2 b2 (get_or way (steps - 1) 0) (edited false (node_in size₀ h1 b1 (get_or way (steps - 1) 0)) (remove_at i
-      (node_in size₀ h1 b1 (get_or way (steps - 1) 0)).entries)))
+      (p : Put size₀ slots h1 b1 h2 b2 (nth_step way (length way - 1)).slot
+      (edited false (node_in size₀ h1 b1 (nth_step way (length way - 1)).slot) (remove_at i
+      (node_in size₀ h1 b1 (nth_step way (length way - 1)).slot).entries)))
       (f : Follows size₀ slots t.used h1 b1 h2 b2) where
     -- the leaf without its entry
-    pub taken_is : Rewritten size₀ slots t h0 b0 h2 b2 (taken_on i (steps_of way kids steps) (state_of size₀ t h0 b0))
+    pub taken_is : Rewritten size₀ slots t h0 b0 h2 b2 (taken_on i (steps_in way) (state_of size₀ t h0 b0))
     unfolding taken_on
     taken_is =
         let k = put_rewritten size₀ slots n t h1 b1 h2 b2 d.ready leaf_used eh eb _ p f in
@@ -106,19 +108,19 @@ module _ (size₀ slots steps i : ℕ) (t : Tree) (way kids h0 b0 h1 b1 : List �
         record {
           state = k.state
               ∙ ap (λ (m : MemNode). put_node (state_of size₀ t h1 b1) n (with_entries m (remove_at i m.entries))) q
-              ∙ ap (λ (s : State). put_node s n (with_entries (node_at s n) (remove_at i (node_at s n).entries))) (d.state kids)
+              ∙ ap (λ (s : State). put_node s n (with_entries (node_at s n) (remove_at i (node_at s n).entries))) d.state
               ∙ ap (λ (c : ℕ). let s : State = touch ps (state_of size₀ t h0 b0) in
-              put_node s c (with_entries (node_at s c) (remove_at i (node_at s c).entries))) (sym (leaf_is way kids steps some));
+              put_node s c (with_entries (node_at s c) (remove_at i (node_at s c).entries))) (sym (leaf_is way some));
           ready = k.ready;
           follows = follows_on size₀ slots t.used t.used h0 b0 h1 b1 h2 b2 d.follows f (omega arith);
         }
 
 -- ---- then the nodes that it emptied
 
-module _ (size₀ slots steps i : ℕ) (t : Tree) (way kids h0 b0 h2 b2 : List ℕ) (k : Rewritten size₀ slots t h0 b0 h2 b2 (taken_on i
-    (steps_of way kids steps) (state_of size₀ t h0 b0))) where
+module _ (size₀ slots i : ℕ) (t : Tree) (way : List code.Step) (h0 b0 h2 b2 : List ℕ) (k : Rewritten size₀ slots t h0 b0 h2 b2 (taken_on i
+    (steps_in way) (state_of size₀ t h0 b0))) where
   abbrev qs : List Step
-  qs = steps_of way kids steps
+  qs = steps_in way
 
   abbrev s : State
   s = state_of size₀ t h0 b0
@@ -132,11 +134,11 @@ module _ (size₀ slots steps i : ℕ) (t : Tree) (way kids h0 b0 h2 b2 : List �
   pub taken_ready : Ready size₀ slots t.used h2 b2
   taken_ready = k.ready
 
-  pub taken_room : DropRoom (taken_on i (steps_of way kids steps) (state_of size₀ t h0 b0)) way kids steps
-      → DropRoom (state_of size₀ t h2 b2) way kids steps
+  pub taken_room : DropRoom (taken_on i (steps_in way) (state_of size₀ t h0 b0)) way
+      → DropRoom (state_of size₀ t h2 b2) way
   taken_room q = rw k.state q
 
-  module _ (h3 b3 : List ℕ) (dropped : ℕ) (e : Emptied size₀ slots t h2 b2 h3 b3 (drop_emptied (steps_of way kids steps)
+  module _ (h3 b3 : List ℕ) (dropped : ℕ) (e : Emptied size₀ slots t h2 b2 h3 b3 (drop_emptied (steps_in way)
       (state_of size₀ t h2 b2)) dropped) where
     are : drop_emptied qs (state_of size₀ t h2 b2) ≡ d₀
     are = ap (drop_emptied qs) k.state
@@ -152,7 +154,7 @@ module _ (size₀ slots steps i : ℕ) (t : Tree) (way kids h0 b0 h2 b2 : List �
 
     pub shrunk_none : t.info.key_count ≡ 0 → edited_of size₀ h3 b3 (Err is.Count) ≡ shrunk_at i (record {
       state = state_of size₀ t h0 b0;
-      steps = steps_of way kids steps;
+      steps = steps_in way;
     })
     unfolding edited_of shrunk_at state_of
     shrunk_none z = sym (rw z)
@@ -165,7 +167,7 @@ module _ (size₀ slots steps i : ℕ) (t : Tree) (way kids h0 b0 h2 b2 : List �
           positive x h = omega arith
 
       pub shrunk_many : t.info.node_count < dropped → edited_of size₀ h3 b3 (Err is.Count)
-          ≡ shrunk_at i (record { state = state_of size₀ t h0 b0; steps = steps_of way kids steps })
+          ≡ shrunk_at i (record { state = state_of size₀ t h0 b0; steps = steps_in way })
       unfolding edited_of
       shrunk_many z = sym (refuses (lt-leb d₀.nodes t.info.node_count (omega (arith, counted))))
         where
@@ -195,7 +197,7 @@ module _ (size₀ slots steps i : ℕ) (t : Tree) (way kids h0 b0 h2 b2 : List �
 
         pub shrunk_done : edited_of size₀ h4 b4 (Ok u) ≡ shrunk_at i (record {
           state = state_of size₀ t h0 b0;
-          steps = steps_of way kids steps;
+          steps = steps_in way;
         })
         unfolding edited_of
         shrunk_done =

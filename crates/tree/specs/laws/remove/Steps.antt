@@ -1,5 +1,5 @@
 -- Laws of the edit of a remove, as the code does it: the leaf and emptied nodes, index keys, cuts, the root's place. Assumes nothing.
-use Rattle.std.specs.Prelude.{◌≡◌, refl, List, [], ◌∷◌, true, ℕ, suc, ◌*◌, ◌≤◌, ◌<◌, length, get_or}
+use Rattle.std.specs.Prelude.{◌≡◌, refl, List, [], ◌∷◌, true, ℕ, suc, ◌*◌, ◌≤◌, ◌<◌, length}
 use Rattle.std.proofs.Common.{sym, subst, ◌∙◌, le_refl, le_trans, arith}
 use Rattle.std.proofs.Math.Path.{ap}
 use Rattle.node.specs.Result.{Result, ok, refused, ◌>>=◌}
@@ -20,7 +20,7 @@ use Rattle.tree.specs.Answers.{edited_of}
 use Rattle.tree.specs.internal.Bank.{Ready}
 use Rattle.tree.specs.internal.Undo.{Follows}
 use Rattle.tree.specs.internal.Room.{Roomy}
-use Rattle.tree.specs.internal.Way.{steps_of, WayIn}
+use Rattle.tree.specs.internal.Way.{nth_step, steps_in, WayIn}
 use Rattle.tree.specs.internal.Index.{Rewritten, steps_from, IndexRoom}
 use Rattle.tree.specs.internal.Edits.{ReadyEdited, CutsFit}
 use Rattle.tree.specs.internal.Removing.{DropRoom, taken_on, shrunk_at, removed_at, OnWay, SameUsed}
@@ -47,6 +47,7 @@ use Rattle.std.specs.Prelude as std
 use Rattle.std.specs.Prelude.{Ok, Err}
 use Rattle.node.specs.Refusals.{number_of}
 use Rattle.node.specs.declared.refusal.Refusal.{Refusal}
+use Rattle.tree.specs.declared.way.Step as code
 
 -- ---- cuts take slots and give none back
 
@@ -92,9 +93,9 @@ cuts_longer l (x ∷ ps) s =
     record { at = λ u q. le_trans ((under_longer l x ps s).at t e) ((top_longer l x.slot t).at u q) }
 
 -- what fits with some lent fits with as many slots and as large blocks
-fits_slots : (l l' : lent.Lent) (s : State) (way kids : List ℕ) (steps : ℕ) → l'.slots ≡ l.slots → l'.size ≡ l.size → CutsFit l s way kids steps
-    → CutsFit l' s way kids steps
-fits_slots l l' s way kids steps e f c =
+fits_slots : (l l' : lent.Lent) (s : State) (way : List code.Step) → l'.slots ≡ l.slots → l'.size ≡ l.size → CutsFit l s way
+    → CutsFit l' s way
+fits_slots l l' s way e f c =
     record { turn = λ j h u q. rw f (c.turn j h u (sym (cuts_slots l l' _ _ s e) ∙ q)) }
 
 -- ---- the definition
@@ -129,8 +130,8 @@ size_of : (image : List ℕ) (l : Lent) → (lent_of image l).size ≡ l.size
 unfolding lent_of
 size_of image l = refl
 
-module _ (image : List ℕ) (l : Lent) (t₀ : Tree) (h0 b0 way kids : List ℕ) (steps i : ℕ) (long : steps ≤ length way)
-    (on : OnWay (lent_of image l) (state_of l.size t₀ h0 b0) (steps_of way kids steps) i) where
+module _ (image : List ℕ) (l : Lent) (t₀ : Tree) (h0 b0 : List ℕ) (way : List code.Step) (i : ℕ)
+    (on : OnWay (lent_of image l) (state_of l.size t₀ h0 b0) (steps_in way) i) where
   abbrev m : lent.Lent
   m = lent_of image l
 
@@ -138,7 +139,7 @@ module _ (image : List ℕ) (l : Lent) (t₀ : Tree) (h0 b0 way kids : List ℕ)
   s = state_of l.size t₀ h0 b0
 
   abbrev ps : List Step
-  ps = steps_of way kids steps
+  ps = steps_in way
 
   came : WayLoaded m all all on.from on.from.root s ps
   came = (way_root m on.from on.key (trusted_of m on.from on.trust).1).at (record { state = s; steps = ps }) on.came
@@ -158,19 +159,18 @@ module _ (image : List ℕ) (l : Lent) (t₀ : Tree) (h0 b0 way kids : List ℕ)
   place_top : i ≡ place_of s.order on.key (node_at s (lookup.leaf_of (came.top ∷ came.rest))).entries
   place_top = on.place ∙ ap (λ (qs : List Step). place_of s.order on.key (node_at s (lookup.leaf_of qs)).entries) came.steps
 
-  whole : steps_from way kids 0 steps ≡ came.top ∷ came.rest
-  whole = sym (from_start way kids steps) ∙ came.steps
+  whole : steps_from way 0 (length way) ≡ came.top ∷ came.rest
+  whole = sym (from_start way (length way)) ∙ came.steps
 
   once : (c : ℕ) → on_way c ps ≤ 1
   once c = down_once all all s ps c came.loaded.stands came.down
 
-  pub on_in : WayIn t₀.used way steps
+  pub on_in : WayIn t₀.used way
   on_in =
       record {
-        long = long;
         slot = λ j h. omega (
           arith,
-          falls_used s ps (down_falls all all s ps came.loaded.stands came.down) (get_or way j 0) (on_way_lem way kids steps j h),
+          falls_used s ps (down_falls all all s ps came.loaded.stands came.down) (nth_step way j).slot (on_way_lem way j h),
           used_nodes l.size t₀ h0 b0,
         );
       }
@@ -178,18 +178,18 @@ module _ (image : List ℕ) (l : Lent) (t₀ : Tree) (h0 b0 way kids : List ℕ)
   pub on_root : t₀.root < t₀.used
   on_root = omega (arith, trusted_root m s trust_s, used_nodes l.size t₀ h0 b0, root_of_lem l.size t₀ h0 b0)
 
-  pub on_drops : DropRoom (taken_on i (steps_of way kids steps) (state_of l.size t₀ h0 b0)) way kids steps
+  pub on_drops : DropRoom (taken_on i (steps_in way) (state_of l.size t₀ h0 b0)) way
   on_drops =
-      subst (λ (qs : List Step). DropRoom (taken_on i qs s) way kids steps) (sym came.steps)
-      (drop_room m on.key i s came.top came.rest trust_s roomy_s top_root down_top place_top way kids steps whole)
+      subst (λ (qs : List Step). DropRoom (taken_on i qs s) way) (sym came.steps)
+      (drop_room m on.key i s came.top came.rest trust_s roomy_s top_root down_top place_top way whole)
 
   -- the leaf's entry out, emptied nodes dropped
   module _ (a : std.Result Tree Refusal) (h1 b1 : List ℕ)
-      (ea : edited_of l.size h1 b1 a ≡ shrunk_at i (record { state = state_of l.size t₀ h0 b0; steps = steps_of way kids steps })) where
+      (ea : edited_of l.size h1 b1 a ≡ shrunk_at i (record { state = state_of l.size t₀ h0 b0; steps = steps_in way })) where
     pub on_refused : (x : Refusal) → a ≡ Err x
         → edited_of l.size h1 b1 (Err x) ≡ removed_at (lent_of image l) i (record {
           state = state_of l.size t₀ h0 b0;
-          steps = steps_of way kids steps;
+          steps = steps_in way;
         })
     unfolding edited_of
     on_refused x q = shrunk_refused m i (record { state = s; steps = ps }) (number_of x) (ap (edited_of l.size h1 b1) (sym q) ∙ ea)
@@ -211,18 +211,18 @@ module _ (image : List ℕ) (l : Lent) (t₀ : Tree) (h0 b0 way kids : List ℕ)
       pub on_ready : Ready l.size l.slots t.used h1 b1
       on_ready = subst (ReadyEdited l.size l.slots h1 b1) q r
 
-      pub on_still : WayIn t.used way steps
+      pub on_still : WayIn t.used way
       on_still = rw used_same on_in
 
       roomy_v : Roomy (2 * l.size) v
       roomy_v = subst (λ (k : ℕ). Roomy (2 * k) v) (size_of image l)
           (shrunk_roomy m on.key i s came.top came.rest trust_s roomy_s top_root down_top place_top v is_top)
 
-      pub on_index : Bytes b1 → (scratch : ℕ) → 2 * l.size ≤ scratch → IndexRoom l.size t h1 b1 way kids steps scratch
-      on_index bb scratch room = index_fits l.size l.slots t h1 b1 on_ready bb roomy_v way kids steps once scratch room
+      pub on_index : Bytes b1 → (scratch : ℕ) → 2 * l.size ≤ scratch → IndexRoom l.size t h1 b1 way scratch
+      on_index bb scratch room = index_fits l.size l.slots t h1 b1 on_ready bb roomy_v way once scratch room
 
       -- index keys set
-      module _ (h2 b2 : List ℕ) (w : Rewritten l.size l.slots t h1 b1 h2 b2 (index_keys (steps_of way kids steps) (state_of
+      module _ (h2 b2 : List ℕ) (w : Rewritten l.size l.slots t h1 b1 h2 b2 (index_keys (steps_in way) (state_of
           l.size t h1 b1))) where
         keyed : state_of l.size t h2 b2 ≡ index_keys (came.top ∷ came.rest) v
         keyed = w.state ∙ ap (λ (qs : List Step). index_keys qs v) came.steps
@@ -230,26 +230,25 @@ module _ (image : List ℕ) (l : Lent) (t₀ : Tree) (h0 b0 way kids : List ℕ)
         pub on_keyed : Ready l.size l.slots t.used h2 b2
         on_keyed = w.ready
 
-        pub on_cuts : CutsFit (lent_of [] l) (state_of l.size t h2 b2) way kids steps
+        pub on_cuts : CutsFit (lent_of [] l) (state_of l.size t h2 b2) way
         on_cuts =
             let (e, f) = slots_of_lem image l in
-            fits_slots m (lent_of [] l) (state_of l.size t h2 b2) way kids steps e f
-            (rw keyed (shrunk_cuts m on.key i s came.top came.rest trust_s roomy_s top_root down_top place_top v is_top way kids steps whole
+            fits_slots m (lent_of [] l) (state_of l.size t h2 b2) way e f
+            (rw keyed (shrunk_cuts m on.key i s came.top came.rest trust_s roomy_s top_root down_top place_top v is_top way whole
             (bare_slots l.size t h1 b1)))
 
         -- cut
         module _ (c : std.Result Tree Refusal) (h3 b3 : List ℕ)
-            (ec : edited_of l.size h3 b3 c ≡ cuts (lent_of [] l) [] (steps_from way kids 0 steps) (state_of l.size t h2 b2)) where
-          same_cuts : cuts (lent_of [] l) [] (steps_from way kids 0 steps) (state_of l.size t h2 b2) ≡ cuts m [] ps (index_keys ps v)
+            (ec : edited_of l.size h3 b3 c ≡ cuts (lent_of [] l) [] (steps_in way) (state_of l.size t h2 b2)) where
+          same_cuts : cuts (lent_of [] l) [] (steps_in way) (state_of l.size t h2 b2) ≡ cuts m [] ps (index_keys ps v)
           same_cuts =
-              cuts_slots m (lent_of [] l) [] (steps_from way kids 0 steps) (state_of l.size t h2 b2) (slots_of_lem image l).0
-              ∙ ap (λ (qs : List Step). cuts m [] qs (state_of l.size t h2 b2)) (sym (from_start way kids steps))
+              cuts_slots m (lent_of [] l) [] (steps_in way) (state_of l.size t h2 b2) (slots_of_lem image l).0
               ∙ ap (cuts m [] ps) w.state
 
           pub on_uncut : (x : Refusal) → c ≡ Err x
               → edited_of l.size h3 b3 (Err x) ≡ removed_at (lent_of image l) i (record {
                 state = state_of l.size t₀ h0 b0;
-                steps = steps_of way kids steps;
+                steps = steps_in way;
               })
           unfolding edited_of
           on_uncut x y = cut_refused m i (record { state = s; steps = ps }) v is_done (number_of x)
@@ -283,7 +282,7 @@ module _ (image : List ℕ) (l : Lent) (t₀ : Tree) (h0 b0 way kids : List ℕ)
 
             pub on_done : (level : ℕ) (z : Result State) → level ≡ (node_at (state_of l.size u h3 b3) u.root).level
                 → z ≡ hand_down level (lent_of image l) (state_of l.size u h3 b3)
-                → z ≡ removed_at (lent_of image l) i (record { state = state_of l.size t₀ h0 b0; steps = steps_of way kids steps })
+                → z ≡ removed_at (lent_of image l) i (record { state = state_of l.size t₀ h0 b0; steps = steps_in way })
             on_done level z e f =
                 f ∙ ap (λ (n : ℕ). hand_down n m (state_of l.size u h3 b3)) (e
                 ∙ ap (λ (n : ℕ). (node_at (state_of l.size u h3 b3) n).level) (sym (root_of_lem l.size u h3 b3)))

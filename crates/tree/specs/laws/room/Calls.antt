@@ -19,7 +19,7 @@ use Rattle.node.specs.Read.{OnDisk, on_disk, parsed, is_fixed, entries_from, rea
 use Rattle.node.specs.internal.ReadSteps.{Sound}
 use Rattle.node.specs.Slot.{with_value}
 use Rattle.node.specs.declared.read.Node.{Node}
-use Rattle.node.specs.declared.read.Place.{Place}
+use Rattle.node.specs.Place.{Place}
 use Rattle.node.specs.laws.base.Tests.{by_test}
 use Rattle.node.specs.laws.base.Results.{Holds, holds_ok, holds_bind, holds_check, checked_ok}
 use Rattle.node.specs.laws.read.Loaded.{entries_length}

@@ -1,5 +1,6 @@
 -- Laws of a slot's node packed into a block. Assumes nothing.
-use Rattle.std.specs.Prelude.{◌≡◌, List, map, Bool, true, ℕ, ◌*◌, ◌≤◌, ◌<◌, ◌^◌, length, eqb}
+use Rattle.std.specs.Prelude.{◌≡◌, refl, false, cond, Option, is_some, unwrap_or, List, map, Bool, true, ℕ, ◌*◌, ◌≤◌, ◌<◌, ◌^◌, length, eqb}
+use Rattle.std.specs.Int.{from_bool}
 use Rattle.std.proofs.Common.{sym, ap, ap₂, ◌∙◌, arith}
 use Rattle.node.specs.Bytes.{splice}
 use Rattle.node.specs.Records.{records_length, entries_of}
@@ -10,27 +11,19 @@ use Rattle.node.specs.declared.head.Head.{Head}
 use Rattle.tree.specs.State.{node_at}
 use Rattle.tree.specs.Workspace.{slot_bytes, state_of}
 use Rattle.tree.specs.internal.Bank.{node_in, live, Ready}
-use Rattle.tree.specs.internal.Block.{words_of, written_head, packed_slot}
+use Rattle.tree.specs.internal.Block.{written_head, packed_slot}
 use Rattle.tree.specs.laws.slots.Bank.{live_entries}
 use Rattle.tree.specs.laws.slots.OneSlot.{slot_long, slot_room}
 use Rattle.tree.specs.laws.slots.Tree.{node_in_lem}
-use Rattle.tree.specs.declared.block.Words.{Words}
 use Rattle.tree.specs.declared.editor.Tree.{Tree}
 
-pub words_are : (heads : List ℕ) (n : ℕ) (h : Head) → h ≡ live (head_at heads n)
-    → ◌≡◌ {A = Words} (record {
-      count = h.count;
-      placed = h.placed;
-      block = h.block;
-      named = h.named;
-      id = h.id;
-      dirty = h.dirty;
-      dead = h.dead;
-    }) (words_of (head_at heads n))
-unfolding words_of live
-words_are heads n h e = rw e
+-- a truth value as a number
+pub bool_number : (b : Bool) → from_bool b ≡ cond b 1 0
+bool_number true = refl
+bool_number false = refl
 
-pub words_written : (heads heads' : List ℕ) (n a named id : ℕ) (h : Head) → h ≡ head_at heads n
+pub words_written : (heads heads' : List ℕ) (n a named number : ℕ) (id : Option ℕ) (is : Bool) (h : Head) → h ≡ head_at heads n
+    → is_some id ≡ is → named ≡ from_bool is → number ≡ unwrap_or id 0
     → heads' ≡ splice heads (n * 9) (head_words (record {
       level = h.level;
       count = h.count;
@@ -38,13 +31,24 @@ pub words_written : (heads heads' : List ℕ) (n a named id : ℕ) (h : Head) �
       placed = 1;
       block = a;
       named = named;
-      id = id;
+      id = number;
       dirty = 0;
       dead = h.dead;
     }))
-    → heads' ≡ splice heads (n * 9) (head_words (written_head (head_at heads n) a named id))
+    → heads' ≡ splice heads (n * 9) (head_words (written_head (head_at heads n) a id))
 unfolding written_head
-words_written heads heads' n a named id h e q = q ∙ rw e
+words_written heads heads' n a named number id is h e s m i q =
+    q ∙ rw (e, i, m, s) (ap (λ (k : ℕ). splice heads (n * 9) (head_words (record {
+      level = (head_at heads n).level;
+      count = (head_at heads n).count;
+      used = (head_at heads n).used;
+      placed = 1;
+      block = a;
+      named = k;
+      id = unwrap_or id 0;
+      dirty = 0;
+      dead = (head_at heads n).dead;
+    }))) (bool_number is))
 
 module _ (size slots n : ℕ) (t : Tree) (heads bytes : List ℕ) (r : Ready size slots t.used heads bytes) (hn : n < t.used) (l : List ℕ)
     (is : l ≡ slot_bytes size bytes n) (h : Head) (eh : h ≡ live (head_at heads n)) where

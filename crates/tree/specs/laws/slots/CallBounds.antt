@@ -1,5 +1,5 @@
 -- Laws of a call: marks cleared at its start, slots brought back when it refuses. Assumes nothing.
-use Rattle.std.specs.Prelude.{◌≡◌, ℕ, ◌+◌, ◌*◌, ◌≤◌, ◌<◌, length, replicate}
+use Rattle.std.specs.Prelude.{◌≡◌, refl, true, false, ℕ, ◌+◌, ◌*◌, ◌≤◌, ◌<◌, length, replicate, Result, Ok, Err, is_err}
 use Rattle.std.proofs.Math.Path.{sym, ap}
 use Rattle.std.proofs.Common.{◌∙◌, arith, ext_get_or}
 use mathlib.Core.List.{List}
@@ -7,14 +7,18 @@ use Rattle.std.proofs.Math.ListN.{get_or, get_or-replicate}
 use Rattle.std.proofs.lemmas.List.{length-replicate}
 use Rattle.node.specs.Bytes.{window, splice}
 use Rattle.node.specs.laws.base.Seal.{length_splice, get_d_before, get_d_window, window_splice_same}
+use Rattle.node.specs.laws.base.Tests.{never}
 use Rattle.node.specs.Slot.{head_at, node_of}
 use Rattle.tree.specs.State.{no_node}
 use Rattle.tree.specs.Workspace.{slot_bytes, nodes_of, state_of}
 use Rattle.tree.specs.internal.Bank.{node_in, Ready}
 use Rattle.tree.specs.laws.slots.Bank.{length_nodes, node_at_lem}
-use Rattle.tree.specs.internal.Undo.{saved_at, origin_at, origin_in, Follows, Saved, Shadowed, Back}
+use Rattle.tree.specs.Trusts.{Stays}
+use Rattle.tree.specs.internal.Undo.{saved_at, origin_at, origin_in, Follows, Saved, Shadowed, Back, Undone}
 use Rattle.tree.specs.laws.slots.Undo.{origin_live, saved_nodes}
+use Rattle.node.specs.declared.refusal.Refusal.{Refusal}
 use Rattle.tree.specs.declared.editor.Tree.{Tree}
+use Rattle.tree.specs.declared.lent.Lent.{Lent}
 
 pub saved_state : (size slots n : ℕ) (t : Tree) (h0 b0 h1 b1 : List ℕ) → Saved size slots t.used h0 b0 h1 b1 n → t.used ≤ slots
     → state_of size t h1 b1 ≡ state_of size t h0 b0
@@ -122,3 +126,28 @@ module _ (size slots : ℕ) (t : Tree) (h0 b0 h1 : List ℕ) (r : Ready size slo
       pub back_state : state_of size t h3 b3 ≡ state_of size t h0 b0
       unfolding state_of origin_in
       back_state = rw (nodes_same size t.used h0 b0 h3 b3 (λ k q. g.node k q ∙ f.node k q ∙ ap (node_in size h1 b0) (origin k q) ∙ same_at k q))
+
+-- ---- a call undone where it is refused
+
+module _ (l : Lent) (t : Tree) (h0 b0 h1 : List ℕ) (r : Ready l.size l.slots t.used h0 b0)
+    (e : h1 ≡ splice h0 (l.slots * 18) (replicate t.used 0)) where
+  pub call_stays : Stays l t h0 b0 h1 b0
+  call_stays = (call_state l.size l.slots t h0 b0 h1 r e, call_ready l.size l.slots t h0 b0 h1 r e)
+
+  module _ (h2 b2 : List ℕ) (f : Follows l.size l.slots t.used h1 b0 h2 b2) (h3 b3 : List ℕ)
+      (g : Back l.size l.slots t.used t.used h2 b2 h3 b3) (p : length h2 ≡ length h1) (q : length b2 ≡ length b0)
+      (p' : length h3 ≡ length h2) (q' : length b3 ≡ length b2) where
+    back_stays : Stays l t h0 b0 h3 b3
+    back_stays = (
+      back_state l.size l.slots t h0 b0 h1 r e h2 b2 f h3 b3 g,
+      back_ready l.size l.slots t h0 b0 h1 r e h2 b2 f h3 b3 g p q p' q',
+    )
+
+    pub undone_refused : {T : Type 0} (a : Result T Refusal) → true ≡ is_err a → Undone l t h0 b0 h2 b2 h3 b3 a
+    undone_refused (Err x) z = back_stays
+    undone_refused (Ok x) z = never refl z
+
+pub undone_kept : {T : Type 0} (l : Lent) (t : Tree) (h0 b0 h2 b2 : List ℕ) (a : Result T Refusal) → false ≡ is_err a
+    → Undone l t h0 b0 h2 b2 h2 b2 a
+undone_kept l t h0 b0 h2 b2 (Err x) z = never z refl
+undone_kept l t h0 b0 h2 b2 (Ok x) z = (refl, refl)

@@ -1,31 +1,63 @@
--- Laws of the reader of loaded children. Assumes nothing.
-use Rattle.std.specs.Prelude.{◌≡◌, List, ℕ, Some, None}
+-- Laws of the reader of children. Assumes nothing.
+use Rattle.std.specs.Prelude.{◌≡◌, refl, List, ℕ, Option, Some, None}
 use Rattle.std.proofs.Common.{sym, ◌∙◌}
+use Rattle.std.proofs.lemmas.Option.{none-some, same_Some}
 use Rattle.std.proofs.Math.Path.{ap}
-use Rattle.node.specs.Entry.{Val}
+use Rattle.std.specs.Borrow.{Bor}
+use Rattle.node.specs.Entry.{Val, ghost, leaf, disk, mem}
 use Rattle.node.specs.Slot.{value_means, child_means}
 use Rattle.node.specs.declared.val.Val as Held
 use Rattle.node.specs.declared.val.Val.TheVariants as held
 use Rattle.node.specs.declared.val.Child as Child
 use Rattle.node.specs.declared.val.Child.TheVariants as child
 use Rattle.tree.specs.internal.Kids.{slots_of, kid_means}
+use Rattle.tree.specs.internal.Tree.{child_of}
 
-module _ (l : List ℕ) (w : Val) (v : Held.Val) (ev : value_means l v ≡ w) (n : ℕ) where
-  pub kid_ghost : v ≡ held.Ghost → kid_means (record { slot = None; next = n }) ≡ slots_of w
-  unfolding value_means slots_of kid_means
-  kid_ghost e = ap (λ (x : Held.Val). slots_of (value_means l x)) (sym e) ∙ ap slots_of ev
+some_child : (c : Child.Child) → Some c ≡ child_of (child_means c)
+unfolding child_of child_means
+some_child (child.Disk r) = refl
+some_child (child.Mem m) = refl
 
-  pub kid_leaf : (a m : ℕ) → v ≡ held.Leaf a m → kid_means (record { slot = None; next = n }) ≡ slots_of w
-  unfolding value_means slots_of kid_means
-  kid_leaf a m e = ap (λ (x : Held.Val). slots_of (value_means l x)) (sym e) ∙ ap slots_of ev
+module _ (v : Held.Val) where
+  pub child_ghost : v ≡ held.Ghost → None ≡ child_of (value_means v)
+  unfolding value_means child_of
+  child_ghost e = ap (λ (x : Held.Val). child_of (value_means x)) (sym e)
 
-  pub kid_disk : (c : Child.Child) (x : ℕ) → v ≡ held.Child c → c ≡ child.Disk x → kid_means (record { slot = None; next = n })
-      ≡ slots_of w
-  unfolding value_means child_means slots_of kid_means
-  kid_disk c x e f = ap (λ (y : Child.Child). slots_of (child_means y)) (sym f) ∙ ap (λ (y : Held.Val). slots_of (value_means l y)) (sym e)
-      ∙ ap slots_of ev
+  pub child_leaf : (a : Bor (List ℕ)) → v ≡ held.Leaf a → None ≡ child_of (value_means v)
+  unfolding value_means child_of
+  child_leaf a e = ap (λ (x : Held.Val). child_of (value_means x)) (sym e)
 
-  pub kid_mem : (c : Child.Child) (x : ℕ) → v ≡ held.Child c → c ≡ child.Mem x → kid_means (record { slot = Some x; next = n }) ≡ slots_of w
-  unfolding value_means child_means slots_of kid_means
-  kid_mem c x e f = ap (λ (y : Child.Child). slots_of (child_means y)) (sym f) ∙ ap (λ (y : Held.Val). slots_of (value_means l y)) (sym e)
-      ∙ ap slots_of ev
+  pub child_some : (c : Child.Child) → v ≡ held.Child c → Some c ≡ child_of (value_means v)
+  unfolding value_means
+  child_some c e = some_child c ∙ ap (λ (y : Held.Val). child_of (value_means y)) (sym e)
+
+pub ruleset child_read = (child_ghost, child_leaf, child_some)
+
+-- ---- its slot
+
+no_slot : (v : Val) → None ≡ child_of v → kid_means None ≡ slots_of v
+unfolding child_of kid_means slots_of
+no_slot ghost e = refl
+no_slot (leaf a) e = refl
+no_slot (disk r) e = refl
+no_slot (mem s) e = absurd (none-some _ e)
+
+slot_is : (c : Child.Child) (v : Val) → Some c ≡ child_of v → v ≡ child_means c
+unfolding child_of child_means
+slot_is c ghost e = absurd (none-some _ (sym e))
+slot_is c (leaf a) e = absurd (none-some _ (sym e))
+slot_is c (disk r) e = sym (ap child_means (same_Some _ _ e))
+slot_is c (mem s) e = sym (ap child_means (same_Some _ _ e))
+
+module _ (v : Val) (r : Option Child.Child) (er : r ≡ child_of v) where
+  pub kid_none : r ≡ None → kid_means None ≡ slots_of v
+  kid_none e = no_slot v (sym e ∙ er)
+
+  module _ (c : Child.Child) (ec : r ≡ Some c) (x : ℕ) where
+    pub kid_disk : c ≡ child.Disk x → kid_means None ≡ slots_of v
+    unfolding child_means slots_of kid_means
+    kid_disk e = ap slots_of (sym (slot_is c v (sym ec ∙ er) ∙ ap child_means e))
+
+    pub kid_mem : c ≡ child.Mem x → kid_means (Some x) ≡ slots_of v
+    unfolding child_means slots_of kid_means
+    kid_mem e = ap slots_of (sym (slot_is c v (sym ec ∙ er) ∙ ap child_means e))

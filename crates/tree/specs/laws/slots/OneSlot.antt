@@ -1,9 +1,9 @@
 -- Laws of the functions that write one slot. Assumes nothing.
-use Rattle.std.specs.Prelude.{◌≡◌, refl, Bool, true, false, ℕ, ◌+◌, ◌*◌, ◌≤◌, ◌<◌, get_or, take, drop}
+use Rattle.std.specs.Prelude.{◌≡◌, refl, Bool, true, false, ℕ, ◌+◌, ◌*◌, ◌≤◌, ◌<◌, ◌^◌, get_or, take, drop}
 use Rattle.std.proofs.Math.Path.{sym, ap}
 use Rattle.std.proofs.Common.{◌∙◌, arith, get_or-drop}
 use mathlib.Core.List.{List, [], ◌++◌}
-use Rattle.std.proofs.Math.ListN.{length, length-append, get_or-eq_default}
+use Rattle.std.proofs.Math.ListN.{length, length-append}
 use Rattle.node.specs.Bytes.{window, splice}
 use Rattle.node.specs.laws.base.Seal.{length_window, length_splice, get_d_after}
 use Rattle.node.specs.laws.base.Seal.{part_back, part_whole}
@@ -12,20 +12,20 @@ use Rattle.node.specs.laws.base.Bytes.{Bytes}
 use Rattle.node.specs.Entry.{Entry, Val, ghost, leaf, disk, mem, value_length}
 use Rattle.node.specs.Find.{val_at}
 use Rattle.node.specs.Records.{records_of, record_length, records_length, entry_of, entries_of}
-use Rattle.node.specs.laws.slot.Records.{entries_head, length_entries, records_back, entries_back, records_size, Storables}
+use Rattle.node.specs.laws.slot.Records.{entries_head, records_back, entries_back, records_size, Storables}
 use Rattle.node.specs.Read.{on_disk, spans_length, entries_from}
 use Rattle.node.specs.internal.ReadSteps.{Sound}
 use Rattle.node.specs.laws.read.Accepted.{storable_from, size_from}
 use Rattle.node.specs.laws.read.Read.{few}
 use Rattle.node.specs.Cut as cutting
-use Rattle.node.specs.Slot.{head_at, head_words, node_of, with_value, is_child}
+use Rattle.node.specs.Slot.{head_at, head_words, node_of, with_value, is_child, child_means}
 use Rattle.node.specs.laws.slot.Slot.{at_lies}
 use Rattle.node.specs.laws.slot.Head.{head_same, head_other, head_read_node}
 use Rattle.node.specs.internal.SlotSteps.{read_head}
 use Rattle.node.specs.declared.head.Head.{Head}
 use Rattle.node.specs.declared.read.Node.{Node}
-use Rattle.node.specs.internal.SlotSteps.{child_of}
-use Rattle.node.specs.laws.slot.Relink.{child_of_mem}
+use Rattle.node.specs.internal.Storable.{Held}
+use Rattle.node.specs.declared.val.Child.TheVariants as child
 use Rattle.node.specs.laws.read.Loaded.{entries_length}
 use Rattle.tree.specs.Workspace.{slot_bytes}
 use Rattle.tree.specs.State.{with_entries, marked_dirty, changed}
@@ -134,13 +134,6 @@ module _ (size slots used n : ℕ) (heads bytes : List ℕ) (r : Ready size slot
         ∙ ap (λ (j : ℕ). get_or (entries_of h.count l) j (record { key = []; value = ghost })) z
         ∙ ap (λ (x : List Entry). get_or x i (record { key = []; value = ghost })) (sym entries_are)
 
-  -- past its entries
-  pub slot_past : (i : ℕ) → h.count ≤ i → record { key = []; value = ghost } ≡ get_or (node_in size heads bytes n).entries i
-      (record { key = []; value = ghost })
-  slot_past i q =
-      sym (ap (λ (x : List Entry). get_or x i (record { key = []; value = ghost })) entries_are
-      ∙ get_or-eq_default (entries_of h.count l) (record { key = []; value = ghost }) (omega (arith, length_entries h.count l)))
-
 module _ (size slots used n : ℕ) (heads bytes : List ℕ) (r : Ready size slots used heads bytes) (hn : n < used) (k : ℕ) (ek : k ≡ 4 * size)
     (h : Head) (eh : h ≡ live (head_at heads n)) where
   abbrev l : List ℕ
@@ -198,9 +191,14 @@ pub link_used : (l d : List ℕ) (count : ℕ) → ((j : ℕ) → j ≤ count �
     → records_length count d ≡ records_length count l
 link_used l d count f = f count (omega arith)
 
-pub link_entries_lem : (l d : List ℕ) (count i c : ℕ) → entries_of count d ≡ with_value i (child_of 0xFFFD c) (entries_of count l)
+pub link_entries_lem : (l d : List ℕ) (count i c : ℕ) → entries_of count d ≡ with_value i (child_means (child.Mem c)) (entries_of count l)
     → entries_of count d ≡ with_value i (mem c) (entries_of count l)
-link_entries_lem l d count i c e = e ∙ ap (λ (x : Val). with_value i x (entries_of count l)) (child_of_mem c)
+unfolding child_means
+link_entries_lem l d count i c e = e
+
+pub link_held : (c : ℕ) → c < 2 ^ 64 → Held (child_means (child.Mem c))
+unfolding child_means
+link_held c h = h
 
 -- ---- a slot's mark set
 

@@ -1,40 +1,27 @@
 -- Laws of reading a tree's slots, and of a child brought. Assumes nothing.
-use Rattle.std.specs.Prelude.{◌≡◌, true, ℕ, ◌+◌, ◌≤◌, ◌<◌, get_or, drop}
-use Rattle.std.proofs.Math.Path.{refl, sym, ap}
+use Rattle.std.specs.Prelude.{◌≡◌, true, ℕ, ◌+◌, ◌≤◌, ◌<◌}
+use Rattle.std.proofs.Math.Path.{sym, ap}
 use Rattle.std.proofs.Common.{◌∙◌}
 use mathlib.Core.List.{List, [], ◌∷◌, ◌++◌}
 use Rattle.std.proofs.Math.Numerals.{add-one}
 use native.Mathlib.Omega.{arith}
 use Rattle.std.proofs.Math.ListN.{length, set, get_or-eq_default}
-use Rattle.node.specs.Entry.{Entry, Val, ghost, mem}
-use Rattle.node.specs.Find.{key_at, val_at}
-use Rattle.node.specs.Records.{records_length, entry_of}
+use Rattle.node.specs.Entry.{Val, ghost, mem}
+use Rattle.node.specs.Find.{val_at}
 use Rattle.node.specs.Read.{OnDisk}
-use Rattle.node.specs.Slot.{MemNode, head_at, with_value, is_child, value_means, child_means}
-use Rattle.node.specs.declared.head.Head.{Head}
-use Rattle.node.specs.declared.val.Val as Held
-use Rattle.node.specs.declared.val.Val.TheVariants as held
-use Rattle.node.specs.declared.val.Child as Child
-use Rattle.node.specs.declared.val.Child.TheVariants as child
-use Rattle.tree.specs.Workspace.{slot_bytes, nodes_of, state_of}
+use Rattle.node.specs.Slot.{MemNode, with_value, is_child}
+use Rattle.tree.specs.Workspace.{nodes_of, state_of}
 use Rattle.tree.specs.State.{State, no_node, node_at, put_node, add_node, with_nodes, with_entries}
 use Rattle.tree.specs.Load.{adopted}
 use Rattle.tree.specs.laws.state.Load.{brought}
-use Rattle.tree.specs.internal.Bank.{node_in, live, Ready, Wrote, Put}
+use Rattle.tree.specs.internal.Bank.{node_in, Ready, Wrote, Put}
 use Rattle.tree.specs.laws.slots.Bank.{length_nodes, node_at_lem, put_set, put_add, put_ready, add_ready}
 use Rattle.tree.specs.laws.slots.Undo.{put_of}
-use Rattle.tree.specs.laws.slots.OneSlot.{slot_entry, slot_past}
 use Rattle.tree.specs.internal.Tree.{child_of}
 use Rattle.tree.specs.declared.editor.Tree.{Tree}
-use Rattle.std.specs.Prelude.{Some, None}
-use Rattle.node.specs.declared.val.Child.TheVariants as child
+use Rattle.std.specs.Prelude.{None}
 
-some_child : (c : Child.Child) → Some c ≡ child_of (child_means c)
-unfolding child_of child_means
-some_child (child.Disk r) = refl
-some_child (child.Mem m) = refl
-
-none_child : (v : Val) → ghost ≡ v → None ≡ child_of v
+pub none_child : (v : Val) → ghost ≡ v → None ≡ child_of v
 unfolding child_of
 none_child v e = rw (← e)
 
@@ -53,51 +40,6 @@ module _ (size : ℕ) (t : Tree) (heads bytes : List ℕ) where
   pub node_out : (n : ℕ) → t.used ≤ n → node_at (state_of size t heads bytes) n ≡ no_node
   unfolding node_at
   node_out n h = get_or-eq_default (state_of size t heads bytes).nodes no_node (omega (arith, used_nodes))
-
-  -- ---- the key of an entry
-
-  pub key_out : (n i : ℕ) → t.used ≤ n → [] ≡ key_at (node_at (state_of size t heads bytes) n).entries i
-  unfolding key_at no_node
-  key_out n i h = sym (rw (node_out n h))
-
-  pub child_out : (n i : ℕ) → t.used ≤ n → None ≡ child_of (val_at (node_at (state_of size t heads bytes) n).entries i)
-  unfolding val_at no_node child_of
-  child_out n i h = sym (rw (node_out n h))
-
-  module _ (slots n : ℕ) (r : Ready size slots t.used heads bytes) (hn : n < t.used) (h : Head) (eh : h ≡ live (head_at heads n)) where
-    pub key_past : (i : ℕ) → h.count ≤ i → [] ≡ key_at (node_at (state_of size t heads bytes) n).entries i
-    unfolding key_at
-    key_past i q = rw (node_in_lem n hn) (ap (λ (e : Entry). e.key)
-        (slot_past size slots t.used n heads bytes r hn (slot_bytes size bytes n) refl h eh i q))
-
-    pub child_past : (i : ℕ) → h.count ≤ i → None ≡ child_of (val_at (node_at (state_of size t heads bytes) n).entries i)
-    unfolding val_at
-    child_past i q =
-        let z : ghost ≡ (get_or (node_in size heads bytes n).entries i (record { key = []; value = ghost })).value = ap (λ (e : Entry). e.value)
-        (slot_past size slots t.used n heads bytes r hn (slot_bytes size bytes n) refl h eh i q) in
-        rw (node_in_lem n hn) (none_child (get_or (node_in size heads bytes n).entries i (record { key = []; value = ghost })).value z)
-
-    module _ (l : List ℕ) (is : l ≡ slot_bytes size bytes n) (i at : ℕ) (hi : i < h.count) (ea : at ≡ records_length i l) where
-      pub key_found : (k : List ℕ) → k ≡ (entry_of (drop at l)).key → k ≡ key_at (node_at (state_of size t heads bytes) n).entries i
-      unfolding key_at
-      key_found k e = rw (node_in_lem n hn) (e ∙ ap (λ (x : Entry). x.key) (slot_entry size slots t.used n heads bytes r hn l is h eh i at hi ea))
-
-      val_found : (entry_of (drop at l)).value ≡ val_at (node_at (state_of size t heads bytes) n).entries i
-      unfolding val_at
-      val_found = rw (node_in_lem n hn) (ap (λ (x : Entry). x.value) (slot_entry size slots t.used n heads bytes r hn l is h eh i at hi ea))
-
-      module _ (v : Held.Val) (ev : value_means l v ≡ (entry_of (drop at l)).value) where
-        pub child_ghost : v ≡ held.Ghost → None ≡ child_of (val_at (node_at (state_of size t heads bytes) n).entries i)
-        unfolding value_means child_of
-        child_ghost e = ap (λ (x : Held.Val). child_of (value_means l x)) (sym e) ∙ ap child_of (ev ∙ val_found)
-
-        pub child_leaf : (a m : ℕ) → v ≡ held.Leaf a m → None ≡ child_of (val_at (node_at (state_of size t heads bytes) n).entries i)
-        unfolding value_means child_of
-        child_leaf a m e = ap (λ (x : Held.Val). child_of (value_means l x)) (sym e) ∙ ap child_of (ev ∙ val_found)
-
-        pub child_some : (c : Child.Child) → v ≡ held.Child c → Some c ≡ child_of (val_at (node_at (state_of size t heads bytes) n).entries i)
-        unfolding value_means
-        child_some c e = some_child c ∙ ap (λ (y : Held.Val). child_of (value_means l y)) (sym e) ∙ ap child_of (ev ∙ val_found)
 
 pub child_in : (size : ℕ) (t : Tree) (heads bytes : List ℕ) (n i : ℕ) → n < t.used
     → is_child (val_at (node_at (state_of size t heads bytes) n).entries i) ≡ true → is_child (val_at (node_in size heads bytes n).entries i) ≡ true

@@ -16,7 +16,7 @@ use Rattle.node.specs.Read.{OnDisk, on_disk, parsed, flags_hold, layout_holds, s
 use Rattle.node.specs.Read.{keys_hold, read_node}
 use Rattle.node.specs.Slot.{MemNode, is_child, suit, value_holds, entry_holds, revalued, with_value}
 use Rattle.node.specs.declared.read.Node.{Node}
-use Rattle.node.specs.declared.read.Place.{Place}
+use Rattle.node.specs.Place.{Place}
 use Rattle.node.specs.declared.info.BTreeInfo.{BTreeInfo}
 use Rattle.node.specs.laws.base.Tests.{by_test, never, and_split, and_left, and_right, and_both}
 use Rattle.node.specs.laws.base.Results.{checked_ok}

@@ -1,6 +1,6 @@
 -- On the way of an upsert each index key fits where it is set, and each cut finds its parent with room: what `index_keys` and `cuts` ask. Assumes
 -- nothing.
-use Rattle.std.specs.Prelude.{◌≡◌, get_or}
+use Rattle.std.specs.Prelude.{◌≡◌}
 use Rattle.std.proofs.Common.{sym, ap, ◌∙◌, le_refl, le_trans, arith}
 use Rattle.std.proofs.Math.Path.{subst}
 use mathlib.Core.List.{List, [], ◌∷◌}
@@ -37,11 +37,13 @@ use Rattle.tree.specs.laws.upsert.Room.{leaf_other, put_inner, put_indexed}
 use Rattle.tree.specs.declared.editor.Tree.{Tree}
 use Rattle.tree.specs.laws.upsert.WayKept.{from_step, from_each, from_two, touch_dead, leaf_dead, index_dead, index_long, touch_count, leaf_count, leaf_like, index_info, cuts_like, sized_like}
 use Rattle.tree.specs.laws.upsert.WayKept.{down_tail, down_first, down_child, down_some, indexed_tail, indexed_first, two_off, two_apart}
+use Rattle.tree.specs.declared.way.Step as code
+use Rattle.tree.specs.internal.Way.{nth_step}
 
-module _ (l : lent.Lent) (k : List ℕ) (v : Val) (s : State) (way kids : List ℕ) (steps : ℕ) (st : Stands all all s)
-    (down : Down s (steps_from way kids 0 steps)) (roomy : Roomy (2 * l.size) s) where
+module _ (l : lent.Lent) (k : List ℕ) (v : Val) (s : State) (way : List code.Step) (st : Stands all all s)
+    (down : Down s (steps_from way 0 (length way))) (roomy : Roomy (2 * l.size) s) where
   abbrev ps : List Step
-  ps = steps_from way kids 0 steps
+  ps = steps_from way 0 (length way)
 
   abbrev put : State
   put = put_in_leaf (touch ps s) (leaf_of ps) k v
@@ -49,11 +51,11 @@ module _ (l : lent.Lent) (k : List ℕ) (v : Val) (s : State) (way kids : List �
   abbrev keyed : State
   keyed = index_keys ps put
 
-  down_from : (j : ℕ) → j < steps → Down s (steps_from way kids j (steps - j))
-  down_from = from_each way kids steps (Down s) (down_tail s) down
+  down_from : (j : ℕ) → j < length way → Down s (steps_from way j (length way - j))
+  down_from = from_each way (Down s) (down_tail s) down
 
-  inner_from : (j : ℕ) → j < steps → (c : ℕ) → inner c (steps_from way kids j (steps - j)) ≤ inner c ps
-  inner_from = from_each way kids steps (λ xs. (c : ℕ) → inner c xs ≤ inner c ps) (λ x y xs f c. omega (arith, f c)) (λ c. le_refl _)
+  inner_from : (j : ℕ) → j < length way → (c : ℕ) → inner c (steps_from way j (length way - j)) ≤ inner c ps
+  inner_from = from_each way (λ xs. (c : ℕ) → inner c xs ≤ inner c ps) (λ x y xs f c. omega (arith, f c)) (λ c. le_refl _)
 
   dead_put_lem : (c : ℕ) → (node_at put c).dead ≡ (node_at s c).dead
   dead_put_lem c = leaf_dead (touch ps s) (leaf_of ps) k v c ∙ touch_dead ps s c
@@ -89,33 +91,33 @@ module _ (l : lent.Lent) (k : List ℕ) (v : Val) (s : State) (way kids : List �
       ((each_touch (keys_at_most b) ps s f).at (leaf_of ps) d))
       (each_touch (keys_at_most b) ps s f))
 
-  module _ (i : ℕ) (h : suc i < steps) where
+  module _ (i : ℕ) (h : suc i < length way) where
     abbrev x : Step
-    x = step_at way kids i
+    x = step_at way i
 
     abbrev y : Step
-    y = step_at way kids (suc i)
+    y = step_at way (suc i)
 
     abbrev xs : List Step
-    xs = steps_from way kids (suc (suc i)) (steps - suc (suc i))
+    xs = steps_from way (suc (suc i)) (length way - suc (suc i))
 
     down_two : Down s (x ∷ y ∷ xs)
-    down_two = from_two way kids steps (Down s) i h (down_from i (omega arith))
+    down_two = from_two way (Down s) i h (down_from i (omega arith))
 
     once_two : (c : ℕ) → on_way c (x ∷ y ∷ xs) ≤ 1
     once_two c = down_once all all s (x ∷ y ∷ xs) c st down_two
 
     inner_two : 1 ≤ inner x.slot ps
     inner_two =
-        let f = from_two way kids steps (λ zs. (c : ℕ) → inner c zs ≤ inner c ps) i h (inner_from i (omega arith)) in
+        let f = from_two way (λ zs. (c : ℕ) → inner c zs ≤ inner c ps) i h (inner_from i (omega arith)) in
         omega (arith, f x.slot, names_same x.slot)
 
   -- ---- index keys
 
   module _ (short : length k ≤ 65535) (small : length k ≤ 2 * l.size) (few : Each (keys_at_most 65535) s) (scratch : ℕ)
       (wide : 2 * l.size ≤ scratch) where
-    index_fits : (i : ℕ) → suc i < steps
-        → KeyFits l.size (index_keys (steps_from way kids (suc i) (steps - suc i)) put) (get_or way i 0) (get_or way (suc i) 0) scratch
+    index_fits : (i : ℕ) → suc i < length way
+        → KeyFits l.size (index_keys (steps_from way (suc i) (length way - suc i)) put) (nth_step way i).slot (nth_step way (suc i)).slot scratch
     unfolding step_at
     index_fits i h =
         let u : State = index_keys (y i h ∷ xs i h) put in
@@ -125,8 +127,8 @@ module _ (l : lent.Lent) (k : List ℕ) (v : Val) (s : State) (way kids : List �
         let w : weight (node_at u (x i h).slot).entries + length (key_at (node_at u (y i h).slot).entries 0) ≤ 2 * (2 * l.size) =
         index_room (2 * l.size) (x i h) (y i h) (xs i h) put (two_off (x i h) (y i h) (xs i h) (once_two i h))
         (put_inner (2 * l.size) k v s ps st down roomy (x i h).slot (inner_two i h)) big live in
-        subst (λ (zs : List Step). KeyFits l.size (index_keys zs put) (get_or way i 0) (get_or way (suc i) 0) scratch)
-        (sym (from_step way kids steps (suc i) h))
+        subst (λ (zs : List Step). KeyFits l.size (index_keys zs put) (nth_step way i).slot (nth_step way (suc i)).slot scratch)
+        (sym (from_step way (suc i) h))
         (record {
           slot = omega (arith, weight_size (node_at u (x i h).slot).entries);
           short = let m = (keys_indexes 65535 (y i h ∷ xs i h) put (keys_after 65535 short few)).most (y i h).slot 0 live in omega arith;
@@ -134,12 +136,13 @@ module _ (l : lent.Lent) (k : List ℕ) (v : Val) (s : State) (way kids : List �
         })
 
     pub upsert_index_room : (t : Tree) (heads bytes : List ℕ) → state_of l.size t heads bytes ≡ put
-        → IndexRoom l.size t heads bytes way kids steps scratch
+        → IndexRoom l.size t heads bytes way scratch
     upsert_index_room t heads bytes q =
         record {
           turn = λ j u w.
               let z : suc (j - 1) ≡ j = omega arith in
-              rw q (subst (λ (n : ℕ). KeyFits l.size (index_keys (steps_from way kids n (steps - n)) put) (get_or way (j - 1) 0) (get_or way n 0)
+              rw q (subst (λ (n : ℕ). KeyFits l.size (index_keys (steps_from way n (length way - n)) put) (nth_step way (j - 1)).slot
+              (nth_step way n).slot
               scratch) z (index_fits (j - 1) (omega arith)));
         }
 
@@ -148,20 +151,20 @@ module _ (l : lent.Lent) (k : List ℕ) (v : Val) (s : State) (way kids : List �
   put_used : (c : ℕ) → 1 ≤ on_way c ps → c < length put.nodes
   put_used c h = omega (arith, put_long, falls_used s ps (down_falls all all s ps st down) c h)
 
-  indexed_from : (j : ℕ) → j < steps → Indexed (2 * l.size) keyed (steps_from way kids j (steps - j))
-  indexed_from = from_each way kids steps (Indexed (2 * l.size) keyed) (indexed_tail (2 * l.size) keyed)
+  indexed_from : (j : ℕ) → j < length way → Indexed (2 * l.size) keyed (steps_from way j (length way - j))
+  indexed_from = from_each way (Indexed (2 * l.size) keyed) (indexed_tail (2 * l.size) keyed)
       (put_indexed (2 * l.size) k v s ps st down roomy put_used)
 
-  module _ (j : ℕ) (h : j < steps) (u : State)
-      (e : cuts l (step_at way kids j ∷ []) (steps_from way kids (suc j) (steps - suc j)) keyed ≡ ok u) where
+  module _ (j : ℕ) (h : j < length way) (u : State)
+      (e : cuts l (step_at way j ∷ []) (steps_from way (suc j) (length way - suc j)) keyed ≡ ok u) where
     abbrev n : Step
-    n = step_at way kids j
+    n = step_at way j
 
     abbrev ns : List Step
-    ns = steps_from way kids (suc j) (steps - suc j)
+    ns = steps_from way (suc j) (length way - suc j)
 
     down_at : Down s (n ∷ ns)
-    down_at = subst (Down s) (from_step way kids steps j h) (down_from j h)
+    down_at = subst (Down s) (from_step way j h) (down_from j h)
 
     used_at : (c : ℕ) → 1 ≤ on_way c (n ∷ ns) → c < length keyed.nodes
     used_at c z = omega (arith, keyed_long, falls_used s (n ∷ ns) (down_falls all all s (n ∷ ns) st down_at) c z)
@@ -170,7 +173,7 @@ module _ (l : lent.Lent) (k : List ℕ) (v : Val) (s : State) (way kids : List �
     aside =
         (cuts_aside l n ns keyed (λ c. down_once all all s (n ∷ ns) c st down_at) used_at
         (λ c z.
-        let w : 1 ≤ inner c ps = le_trans z (subst (λ (zs : List Step). inner c zs ≤ inner c ps) (from_step way kids steps j h) (inner_from j h c)) in
+        let w : 1 ≤ inner c ps = le_trans z (subst (λ (zs : List Step). inner c zs ≤ inner c ps) (from_step way j h) (inner_from j h c)) in
         omega (arith, entries_keyed c w, down_some s (n ∷ ns) down_at c z))).at u e
 
     like_cut : Like s.info u.info
@@ -179,9 +182,9 @@ module _ (l : lent.Lent) (k : List ℕ) (v : Val) (s : State) (way kids : List �
     node_used : n.slot < length u.nodes
     node_used = le_trans (used_at n.slot (omega (arith, names_same n.slot))) aside.longer
 
-  parent_fits : (i : ℕ) (h : suc i < steps) (u : State)
-      → cuts l (step_at way kids (suc i) ∷ []) (steps_from way kids (suc (suc i)) (steps - suc (suc i))) keyed ≡ ok u
-      → ParentFits l.size u (step_at way kids i) (step_at way kids (suc i)).slot
+  parent_fits : (i : ℕ) (h : suc i < length way) (u : State)
+      → cuts l (step_at way (suc i) ∷ []) (steps_from way (suc (suc i)) (length way - suc (suc i))) keyed ≡ ok u
+      → ParentFits l.size u (step_at way i) (step_at way (suc i)).slot
   parent_fits i h u e =
       let o : on_way (x i h).slot (y i h ∷ xs i h) ≡ 0 = two_off (x i h) (y i h) (xs i h) (once_two i h) in
       let a : (x i h).slot ≡ (y i h).slot → ⊥ = two_apart (x i h) (y i h) (xs i h) (once_two i h) in
@@ -204,24 +207,24 @@ module _ (l : lent.Lent) (k : List ℕ) (v : Val) (s : State) (way kids : List �
           down_child s (x i h) (y i h) (xs i h) (down_two i h),
         );
         room = cuts_room (2 * l.size) (x i h) (y i h) (xs i h) keyed u (once_two i h) used g
-            (indexed_first (2 * l.size) keyed (x i h) (y i h) (xs i h) (from_two way kids steps (Indexed (2 * l.size) keyed) i h
+            (indexed_first (2 * l.size) keyed (x i h) (y i h) (xs i h) (from_two way (Indexed (2 * l.size) keyed) i h
             (indexed_from i (omega arith))));
       }
 
   no_parent : {C : Type 0} (z : Step) → ◌≡◌ {A = List Step} [] (z ∷ []) → C
   no_parent z q = let y : ◌≡◌ {A = ℕ} 0 1 = cc in absurd (omega arith)
 
-  parent_at : (j : ℕ) (h : j < steps) (u : State)
-      → cuts l (step_at way kids j ∷ []) (steps_from way kids (suc j) (steps - suc j)) keyed ≡ ok u
-      → (z : Step) → above_of way kids j ≡ z ∷ [] → ParentFits l.size u z (step_at way kids j).slot
+  parent_at : (j : ℕ) (h : j < length way) (u : State)
+      → cuts l (step_at way j ∷ []) (steps_from way (suc j) (length way - suc j)) keyed ≡ ok u
+      → (z : Step) → above_of way j ≡ z ∷ [] → ParentFits l.size u z (step_at way j).slot
   unfolding above_of
   parent_at zero h u e z q = no_parent z q
   parent_at (suc i) h u e z q =
-      let p : step_at way kids i ≡ z = cc in
-      subst (λ (w : Step). ParentFits l.size u w (step_at way kids (suc i)).slot) p (parent_fits i h u e)
+      let p : step_at way i ≡ z = cc in
+      subst (λ (w : Step). ParentFits l.size u w (step_at way (suc i)).slot) p (parent_fits i h u e)
 
   -- when a slot of the way comes to be cut, its parent is in use and live, has it as a child, and takes at most two blocks' worth and its first key
-  pub upsert_cuts_fit : Sized s.info → s.info.node_size ≡ l.size → CutsFit l keyed way kids steps
+  pub upsert_cuts_fit : Sized s.info → s.info.node_size ≡ l.size → CutsFit l keyed way
   unfolding step_at
   upsert_cuts_fit sized size =
       record {

@@ -1,6 +1,6 @@
 -- What the steps of an upsert rest on: of what is lent cuts look at the slots alone, keys in records are short, and a key that is there is as long as
 -- the one looked for. Assumes nothing.
-use Rattle.std.specs.Prelude.{◌≡◌, Bool, true, false, not, ◌||◌, ◌&&◌, ℕ, zero, suc, ◌+◌, ◌*◌, ◌≤◌, ◌<◌, length, get_or, ltb, eqb}
+use Rattle.std.specs.Prelude.{◌≡◌, Bool, true, false, not, ◌||◌, ◌&&◌, ℕ, zero, suc, ◌+◌, ◌*◌, ◌≤◌, ◌<◌, length, ltb, eqb}
 use Rattle.std.proofs.Math.Path.{refl, ap}
 use Rattle.std.proofs.Common.{sym, ◌∙◌, arith, ltb-true, ltb-false, eqb-true, eq-eqb}
 use mathlib.Core.List.{List, [], ◌∷◌, ◌++◌}
@@ -25,7 +25,7 @@ use Rattle.tree.specs.Upsert.{upsert_on}
 use Rattle.tree.specs.Workspace.{slot_bytes, state_of}
 use Rattle.tree.specs.internal.Bank.{node_in, live, Lies, Ready}
 use Rattle.tree.specs.internal.Undo.{Follows}
-use Rattle.tree.specs.internal.Way.{steps_of}
+use Rattle.tree.specs.internal.Way.{nth_step, steps_of}
 use Rattle.tree.specs.laws.slots.Bank.{live_entries}
 use Rattle.tree.specs.laws.slots.Undo.{follows_on}
 use Rattle.tree.specs.laws.slots.OneSlot.{ready_part, part_long}
@@ -34,6 +34,7 @@ use Rattle.tree.specs.laws.trust.Named.{names, names_same}
 use Rattle.tree.specs.laws.trust.Edit.{on_way}
 use Rattle.tree.specs.laws.room.Each.{Each, keys_at_most}
 use Rattle.tree.specs.declared.editor.Tree.{Tree}
+use Rattle.tree.specs.declared.way.Step as code
 
 -- ---- of what is lent, cuts look at the number of slots alone
 
@@ -146,17 +147,17 @@ on_append : (c : ℕ) (a b : List Step) → on_way c (a ++ b) ≡ on_way c a + o
 on_append c [] b = omega arith
 on_append c (x ∷ a) b = let k = on_append c a b in omega arith
 
-pub on_steps : (way kids : List ℕ) (k j : ℕ) → j < k → 1 ≤ on_way (get_or way j 0) (steps_of way kids k)
+pub on_steps : (way : List code.Step) (k j : ℕ) → j < k → 1 ≤ on_way (nth_step way j).slot (steps_of way k)
 unfolding steps_of
-on_steps way kids zero j h = absurd (omega arith)
-on_steps way kids (suc k) j h =
-    let x : Step = record { slot = get_or way k 0; child = get_or kids k 0 } in
-    let a = on_append (get_or way j 0) (steps_of way kids k) (x ∷ []) in
+on_steps way zero j h = absurd (omega arith)
+on_steps way (suc k) j h =
+    let x : Step = record { slot = (nth_step way k).slot; child = (nth_step way k).child } in
+    let a = on_append (nth_step way j).slot (steps_of way k) (x ∷ []) in
     by_test (ltb j k)
-    (λ t. omega (arith, on_steps way kids k j (ltb-true j k t)))
+    (λ t. omega (arith, on_steps way k j (ltb-true j k t)))
     (λ t. let e : j ≡ k = omega (arith, ltb-false j k t) in
-    let z : names (get_or way j 0) (mem (get_or way k 0)) ≡ 1 = ap (λ (i : ℕ). names (get_or way i 0) (mem (get_or way k 0))) e
-    ∙ names_same (get_or way k 0) in
+    let z : names (nth_step way j).slot (mem (nth_step way k).slot) ≡ 1 = ap (λ (i : ℕ). names (nth_step way i).slot (mem (nth_step way k).slot)) e
+    ∙ names_same (nth_step way k).slot in
     omega arith)
 
 -- ---- undo

@@ -1,26 +1,28 @@
--- An entry put in its leaf as the code puts it: whether it fits, its mark, the tree's numbers, the slot's records. Assumes nothing.
+-- An entry put in its leaf as the code puts it: whether it fits, what it holds, the tree's numbers, the slot's records. Assumes nothing.
 use Rattle.std.specs.Prelude.{◌≡◌, refl, Bool, cond, not, ◌&&◌, ◌||◌, take, leb, ltb, eqb, max}
 use Rattle.std.specs.Prelude.{Option, Some, None}
 use Rattle.std.specs.Borrow.{Bor}
 use Rattle.std.proofs.Math.Path.{sym, ap}
 use Rattle.std.proofs.Common.{ap₂, ◌∙◌, arith}
-use mathlib.Core.List.{List, []}
+use mathlib.Core.List.{List}
 use Rattle.std.proofs.Math.Bool.{true, false}
 use Prim.Native.Nat.{ℕ, ◌+◌, ◌-◌, ◌*◌, ◌^◌, ◌≤◌, ◌<◌}
 use Rattle.std.proofs.Math.ListN.{length, set}
-use borrow.Author.Tests.{leb-true, leb-false, le-leb, ltb-true, ltb-false, lt-ltb, le-ltb, eqb-true, eqb-false, not-true, not-false}
-use Rattle.node.specs.Entry.{Entry, Val, ghost, leaf, value_length, value_bytes}
+use borrow.Author.Tests.{leb-true, leb-false, ltb-true, ltb-false, lt-ltb, le-ltb, eqb-true, eqb-false, not-true, not-false}
+use Rattle.node.specs.Entry.{Entry, Val, ghost, leaf, value_length}
 use Rattle.node.specs.Order.{keyed_length, keyed}
 use Rattle.node.specs.Find.{place_of, is_there}
 use Rattle.node.specs.Fit.{greater, fixed}
-use Rattle.node.specs.Records.{mark_of, mark_length, value_of, records_length, entries_of}
-use Rattle.node.specs.Slot.{MemNode, head_at, insert_at, with_value, is_child, key_length_holds, value_length_holds}
+use Rattle.node.specs.Records.{records_length, entries_of}
+use Rattle.node.specs.Slot.{MemNode, head_at, insert_at, with_value, is_child, key_length_holds, value_length_holds, value_means}
+use Rattle.node.specs.internal.Storable.{Held}
+use Rattle.node.specs.declared.val.Val.TheVariants as held
 use Rattle.node.specs.declared.head.Head.{Head}
 use Rattle.node.specs.declared.info.BTreeInfo.{BTreeInfo}
 use Rattle.node.specs.declared.refusal.Refusal.TheVariants as is
 use Rattle.node.specs.declared.slot.Found.{Found}
 use Rattle.node.specs.laws.base.Tests.{by_test}
-use Rattle.node.specs.laws.slot.Records.{value_length_lem, entries_front, records_less}
+use Rattle.node.specs.laws.slot.Records.{entries_front, records_less}
 use Rattle.tree.specs.State.{State, node_at, put_node, with_nodes, with_info, with_counts, with_longest, with_entries}
 use Rattle.tree.specs.Hold.{key_fits, value_fits}
 use Rattle.tree.specs.Upsert.{put_entry, grown_longest, put_in_leaf, entry_fits}
@@ -135,46 +137,20 @@ module _ (size : ℕ) (t : Tree) (heads bytes key : List ℕ) where
     unfolding lent_value put_value
     fits_value v x r n e q = q ∙ sym (rw e (leaf_is x.now ∙ rw (← ek, not-false k n)))
 
--- ---- the entry's mark and bytes
+-- ---- what is put
 
-pub mark_none : (v : Option (Bor (List ℕ))) → v ≡ None → 0xFFFF ≡ mark_of (lent_value v)
-unfolding lent_value put_value mark_of
-mark_none v e = sym (rw e)
+pub lent_none : lent_value None ≡ value_means held.Ghost
+unfolding lent_value put_value value_means
+lent_none = refl
 
-pub mark_some : (v : Option (Bor (List ℕ))) (x : Bor (List ℕ)) → v ≡ Some x → length x.now ≡ mark_of (lent_value v)
-unfolding lent_value put_value mark_of
-mark_some v x e = sym (rw e)
+pub lent_some : (x : Bor (List ℕ)) → lent_value (Some x) ≡ value_means (held.Leaf x)
+unfolding lent_value put_value value_means
+lent_some x = refl
 
-pub bytes_none : (v : Option (Bor (List ℕ))) → v ≡ None → [] ≡ value_bytes (lent_value v)
-unfolding lent_value put_value value_bytes
-bytes_none v e = sym (rw e)
-
-pub bytes_some : (v : Option (Bor (List ℕ))) (x : Bor (List ℕ)) → v ≡ Some x → x.now ≡ value_bytes (lent_value v)
-unfolding lent_value put_value value_bytes
-bytes_some v x e = sym (rw e)
-
-pub bytes_long : (v : Option (Bor (List ℕ))) (bytes : List ℕ) → bytes ≡ value_bytes (lent_value v) → length bytes ≡ value_length (lent_value v)
-unfolding lent_value put_value value_bytes value_length
-bytes_long None bytes e = ap length e
-bytes_long (Some x) bytes e = ap length e
-
-module _ (mark : ℕ) (bytes : List ℕ) where
-  pub mark_short : (v : Option (Bor (List ℕ))) → mark ≡ mark_of (lent_value v) → value_length (lent_value v) ≤ 0xFFFC → mark < 2 ^ 16
-  unfolding lent_value put_value mark_of value_length
-  mark_short None e h = omega arith
-  mark_short (Some x) e h = omega arith
-
-  pub mark_long : (v : Option (Bor (List ℕ))) → mark ≡ mark_of (lent_value v) → bytes ≡ value_bytes (lent_value v)
-      → value_length (lent_value v) ≤ 0xFFFC → mark_length mark ≡ length bytes
-  unfolding lent_value put_value mark_of value_bytes value_length mark_length
-  mark_long None e q h = rw (e, q)
-  mark_long (Some x) e q h = rw (e, q, le-leb (length x.now) 0xFFFC h)
-
-  pub mark_value_lem : (v : Option (Bor (List ℕ))) → mark ≡ mark_of (lent_value v) → bytes ≡ value_bytes (lent_value v)
-      → value_length (lent_value v) ≤ 0xFFFC → value_of mark bytes ≡ lent_value v
-  unfolding lent_value put_value mark_of value_bytes value_length value_of
-  mark_value_lem None e q h = rw e
-  mark_value_lem (Some x) e q h = rw (e, q, le-leb (length x.now) 0xFFFC h)
+pub lent_held : (v : Option (Bor (List ℕ))) → value_length (lent_value v) ≤ 0xFFFC → Held (lent_value v)
+unfolding lent_value put_value value_length
+lent_held None h = search
+lent_held (Some x) h = h
 
 -- ---- room
 
@@ -230,43 +206,36 @@ module _ (size slots n : ℕ) (t t' : Tree) (h0 b0 h1 b1 : List ℕ) (i : BTreeI
   pub leaf_ready : length h1 ≡ length h0 → length b1 ≡ length b0 → Ready size slots t'.used h1 b1
   leaf_ready a b = rw e (put_ready size slots h0 b0 h1 b1 n m p t.used r a b)
 
-  module _ (key value : List ℕ) (f : Found) (mark : ℕ) (em : mark_length mark ≡ length value)
-      (g : FoundAt size (state_of size t h0 b0) h0 b0 n key f) where
+  module _ (key : List ℕ) (v : Val) (k : ℕ) (ek : k ≡ value_length v) (f : Found) (g : FoundAt size (state_of size t h0 b0) h0 b0 n key f) where
     abbrev s : State
     s = state_of size t h0 b0
 
     node : node_at (state_of size t h0 b0) n ≡ node_in size h0 b0 n
     node = node_in_lem size t h0 b0 n hn
 
-    value_long : length value ≡ value_length (value_of mark value)
-    value_long = sym (value_length_lem mark value (sym em) ∙ em)
-
     pub leaf_old : f.found ≡ true
-        → m ≡ edited false (node_in size h0 b0 n) (with_value f.index (value_of mark value) (node_in size h0 b0 n).entries)
-        → i ≡ with_longest (with_counts t.info t.info.key_count t.info.node_count) t.info.longest_key
-        (greater t.info.longest_val (length value))
-        → state_of size t' h1 b1 ≡ put_in_leaf (state_of size t h0 b0) n key (value_of mark value)
+        → m ≡ edited false (node_in size h0 b0 n) (with_value f.index v (node_in size h0 b0 n).entries)
+        → i ≡ with_longest (with_counts t.info t.info.key_count t.info.node_count) t.info.longest_key (greater t.info.longest_val k)
+        → state_of size t' h1 b1 ≡ put_in_leaf (state_of size t h0 b0) n key v
     unfolding state_of put_entry
     leaf_old q em' ei =
         let there : is_there t.order key (node_at (state_of size t h0 b0) n).entries ≡ true = sym g.there ∙ q in
-        put_state ∙ put_is (state_of size t h0 b0) n key (value_of mark value) m i
+        put_state ∙ put_is (state_of size t h0 b0) n key v m i
         (em' ∙ rw (← node, there, g.place))
-        (ei ∙ info_old t.info (is_there t.order key (node_at (state_of size t h0 b0) n).entries) key (value_of mark value) (length value) there
-        value_long)
+        (ei ∙ info_old t.info (is_there t.order key (node_at (state_of size t h0 b0) n).entries) key v k there ek)
 
     pub leaf_new : f.found ≡ false
         → m ≡ edited false (node_in size h0 b0 n)
-        (insert_at f.index (record { key = key; value = value_of mark value }) (node_in size h0 b0 n).entries)
+        (insert_at f.index (record { key = key; value = v }) (node_in size h0 b0 n).entries)
         → i ≡ with_longest (with_counts t.info (t.info.key_count + 1) t.info.node_count) (greater t.info.longest_key (length key))
-        (greater t.info.longest_val (length value))
-        → state_of size t' h1 b1 ≡ put_in_leaf (state_of size t h0 b0) n key (value_of mark value)
+        (greater t.info.longest_val k)
+        → state_of size t' h1 b1 ≡ put_in_leaf (state_of size t h0 b0) n key v
     unfolding state_of put_entry
     leaf_new q em' ei =
         let there : is_there t.order key (node_at (state_of size t h0 b0) n).entries ≡ false = sym g.there ∙ q in
-        put_state ∙ put_is (state_of size t h0 b0) n key (value_of mark value) m i
+        put_state ∙ put_is (state_of size t h0 b0) n key v m i
         (em' ∙ rw (← node, there, g.place))
-        (ei ∙ info_new t.info (is_there t.order key (node_at (state_of size t h0 b0) n).entries) key (value_of mark value) (length value) there
-        value_long)
+        (ei ∙ info_new t.info (is_there t.order key (node_at (state_of size t h0 b0) n).entries) key v k there ek)
 
 -- ---- a place found stays found while the entries are the same
 
@@ -303,3 +272,6 @@ module _ (size slots n : ℕ) (t : Tree) (h0 b0 h1 b1 key : List ℕ) (f : Found
         upto = omega (arith, g.upto, count_same);
         within = λ q. omega (arith, g.within q, count_same);
       }
+
+-- what the code takes of these
+pub ruleset lent = (lent_none, lent_some)

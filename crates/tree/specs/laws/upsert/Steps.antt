@@ -5,7 +5,7 @@ use Rattle.std.proofs.Common.{ap₂, ◌∙◌, arith}
 use mathlib.Core.List.{List, [], ◌∷◌}
 use Rattle.std.proofs.Math.Bool.{false}
 use Prim.Native.Nat.{ℕ, suc, ◌+◌, ◌-◌, ◌*◌, ◌^◌, ◌≤◌, ◌<◌}
-use Rattle.std.proofs.Math.ListN.{length, get_or}
+use Rattle.std.proofs.Math.ListN.{length}
 use Rattle.std.proofs.Math.Dec.{ltb}
 use borrow.Author.Tests.{ltb-true, ltb-false, lt-leb, not-true, not-false}
 use Rattle.node.specs.Entry.{Entry, Val, value_length, every}
@@ -29,7 +29,7 @@ use Rattle.tree.specs.Workspace.{state_of}
 use Rattle.tree.specs.Answers.{edited_of}
 use Rattle.tree.specs.internal.Bank.{live}
 use Rattle.tree.specs.internal.Room.{Roomy}
-use Rattle.tree.specs.internal.Way.{steps_of, WayIn, Touched}
+use Rattle.tree.specs.internal.Way.{nth_step, steps_of, steps_in, WayIn, Touched}
 use Rattle.tree.specs.internal.Found.{FoundAt}
 use Rattle.tree.specs.internal.Index.{steps_from, IndexRoom, Rewritten}
 use Rattle.tree.specs.internal.Edits.{CutsFit}
@@ -60,19 +60,20 @@ use Rattle.std.specs.Prelude.{Err}
 use Rattle.node.specs.Refusals.{number_of}
 use Rattle.node.specs.declared.refusal.Refusal.{Refusal}
 use Rattle.node.specs.declared.refusal.Refusal.TheVariants as is
+use Rattle.tree.specs.declared.way.Step as code
 
-module _ (l : Lent) (t : Tree) (h0 b0 way kids : List ℕ) (steps : ℕ) (key : List ℕ) (v : Val) (g : Gone l t h0 b0 way kids steps key v) where
+module _ (l : Lent) (t : Tree) (h0 b0 : List ℕ) (way : List code.Step) (key : List ℕ) (v : Val) (g : Gone l t h0 b0 way key v) where
   abbrev s : State
   s = state_of l.size t h0 b0
 
   abbrev ps : List Step
-  ps = steps_of way kids steps
+  ps = steps_in way
 
   abbrev m : lent.Lent
   m = lent_of g.image l
 
   loaded : WayLoaded (lent_of g.image l) all all g.from g.from.root s ps
-  loaded = (way_root m g.from key (trusted_of m g.from g.trust).1).at (way_gone l.size t h0 b0 way kids steps) g.went
+  loaded = (way_root m g.from key (trusted_of m g.from g.trust).1).at (way_gone l.size t h0 b0 way) g.went
 
   stands : Stands all all s
   stands = loaded.loaded.stands
@@ -81,7 +82,7 @@ module _ (l : Lent) (t : Tree) (h0 b0 way kids : List ℕ) (steps : ℕ) (key : 
   down = loaded.down
 
   trust : trusted m s ≡ true
-  trust = (trusted_way m g.from key g.trust).at (way_gone l.size t h0 b0 way kids steps) g.went
+  trust = (trusted_way m g.from key g.trust).at (way_gone l.size t h0 b0 way) g.went
 
   held : Held m s
   held = (trusted_of m s trust).0
@@ -96,7 +97,7 @@ module _ (l : Lent) (t : Tree) (h0 b0 way kids : List ℕ) (steps : ℕ) (key : 
 
   roomy : Roomy (2 * l.size) s
   unfolding lent_of
-  roomy = (roomy_way m g.from key g.trust g.roomy).at (way_gone l.size t h0 b0 way kids steps) g.went
+  roomy = (roomy_way m g.from key g.trust g.roomy).at (way_gone l.size t h0 b0 way) g.went
 
   fit : entry_holds s.order s.info true (record { key = key; value = v }) ≡ true
   fit = let a = loaded.loaded.loads in rw (a.order, a.info) (entry_fits_lem g.from key v g.fits).0
@@ -106,28 +107,30 @@ module _ (l : Lent) (t : Tree) (h0 b0 way kids : List ℕ) (steps : ℕ) (key : 
 
   -- ---- the way
 
-  pub gone_some : 1 ≤ steps
-  gone_some = let z = ap length loaded.steps in omega (arith, steps_long way kids steps)
+  pub gone_some : 1 ≤ length way
+  gone_some = let z = ap length loaded.steps in omega (arith, steps_long way (length way))
 
-  pub gone_within : steps - 1 < length way
-  gone_within = omega (arith, gone_some, g.long)
+  pub gone_within : length way - 1 < length way
+  gone_within = omega (arith, gone_some)
 
-  leaf_at : leaf_of ps ≡ get_or way (steps - 1) 0
+  leaf_at : leaf_of ps ≡ (nth_step way (length way - 1)).slot
   unfolding steps_of
   leaf_at =
-      let z : steps ≡ suc (steps - 1) = omega (arith, gone_some) in
-      ap (λ (k : ℕ). leaf_of (steps_of way kids k)) z
-      ∙ leaf_last (steps_of way kids (steps - 1)) (record { slot = get_or way (steps - 1) 0; child = get_or kids (steps - 1) 0 })
+      let z : length way ≡ suc (length way - 1) = omega (arith, gone_some) in
+      ap (λ (k : ℕ). leaf_of (steps_of way k)) z
+      ∙ leaf_last (steps_of way (length way - 1)) (record {
+        slot = (nth_step way (length way - 1)).slot;
+        child = (nth_step way (length way - 1)).child;
+      })
 
-  pub gone_way : WayIn t.used way steps
+  pub gone_way : WayIn t.used way
   gone_way =
       record {
-        long = g.long;
         slot = λ j h. omega (
           arith,
           used_nodes l.size t h0 b0,
-          falls_used s ps (down_falls all all s ps stands down) (get_or way j 0)
-              (on_steps way kids steps j h),
+          falls_used s ps (down_falls all all s ps stands down) (nth_step way j).slot
+              (on_steps way (length way) j h),
         );
       }
 
@@ -135,16 +138,16 @@ module _ (l : Lent) (t : Tree) (h0 b0 way kids : List ℕ) (steps : ℕ) (key : 
   unfolding state_of
   gone_root = omega (arith, used_nodes l.size t h0 b0, stands_used all all (state_of l.size t h0 b0) stands)
 
-  pub gone_leaf : get_or way (steps - 1) 0 < t.used
-  gone_leaf = gone_way.slot (steps - 1) (omega (arith, gone_some))
+  pub gone_leaf : (nth_step way (length way - 1)).slot < t.used
+  gone_leaf = gone_way.slot (length way - 1) (omega (arith, gone_some))
 
-  pub gone_words : (get_or way (steps - 1) 0 + 1) * 9 ≤ length h0
+  pub gone_words : ((nth_step way (length way - 1)).slot + 1) * 9 ≤ length h0
   gone_words = omega (arith, gone_leaf, g.ready.words, g.ready.within)
 
-  down₀ : Down s (steps_from way kids 0 steps)
-  down₀ = subst (Down s) (from_start way kids steps) down
+  down₀ : Down s (steps_from way 0 (length way))
+  down₀ = subst (Down s) (from_start way (length way)) down
 
-  module _ (n : ℕ) (en : n ≡ get_or way (steps - 1) 0) where
+  module _ (n : ℕ) (en : n ≡ (nth_step way (length way - 1)).slot) where
     leaf_n : leaf_of ps ≡ n
     leaf_n = leaf_at ∙ sym en
 
@@ -156,9 +159,9 @@ module _ (l : Lent) (t : Tree) (h0 b0 way kids : List ℕ) (steps : ℕ) (key : 
 
     -- ---- touched
 
-    module _ (h1 b1 : List ℕ) (q : Touched l.size l.slots t way steps h0 b0 h1 b1) where
+    module _ (h1 b1 : List ℕ) (q : Touched l.size l.slots t way h0 b0 h1 b1) where
       state₁ : state_of l.size t h1 b1 ≡ touch ps s
-      state₁ = q.state kids
+      state₁ = q.state
 
       entries₁ : (node_at (state_of l.size t h1 b1) n).entries ≡ (node_at s n).entries
       entries₁ = ap (λ (u : State). (node_at u n).entries) state₁ ∙ (touch_marks ps s).entries n
@@ -170,56 +173,53 @@ module _ (l : Lent) (t : Tree) (h0 b0 way kids : List ℕ) (steps : ℕ) (key : 
       pub on_alive : (node_at (state_of l.size t h1 b1) n).dead ≡ false
       on_alive = ap (λ (u : State). (node_at u n).dead) state₁ ∙ touch_dead ps s n ∙ leaf_live
 
-      pub on_room : (len : ℕ) → len ≡ value_length v → 4 + length key + value_length v + 56 ≤ l.size
-          → (live (head_at h1 n)).used + (4 + length key + len) ≤ 4 * l.size
-      on_room len el k =
+      pub on_room : 4 + length key + value_length v + 56 ≤ l.size
+          → (live (head_at h1 n)).used + (4 + length key + value_length v) ≤ 4 * l.size
+      on_room k =
           let a : weight (node_at (state_of l.size t h1 b1) n).entries ≡ weight (node_at s n).entries = ap weight entries₁ in
           omega (arith, node_weight l.size l.slots t h1 b1 q.ready n leaf_used, roomy.most n leaf_live)
 
       pub on_short : 4 + length key + value_length v + 56 ≤ l.size → length key < 2 ^ 16
       on_short k = omega (arith, g.ready.most)
 
-      pub on_slim : 4 + length key + value_length v + 56 ≤ l.size → value_length v ≤ 0xFFFC
-      on_slim k = omega (arith, g.ready.most)
-
       -- ---- the entry put
 
-      module _ (t2 : Tree) (h2 b2 : List ℕ) (x : Val) (ex : x ≡ v)
-          (a : state_of l.size t2 h2 b2 ≡ put_in_leaf (state_of l.size t h1 b1) n key x) (u : t2.used ≡ t.used) where
+      module _ (t2 : Tree) (h2 b2 : List ℕ) (a : state_of l.size t2 h2 b2 ≡ put_in_leaf (state_of l.size t h1 b1) n key v)
+          (u : t2.used ≡ t.used) where
         state₂ : state_of l.size t2 h2 b2 ≡ put_in_leaf (touch ps s) (leaf_of ps) key v
-        state₂ = a ∙ ap (λ (y : State). put_in_leaf y n key x) state₁ ∙ ap₂ (λ (k : ℕ) (y : Val). put_in_leaf (touch ps s) k key y) (sym leaf_n) ex
+        state₂ = a ∙ ap (λ (y : State). put_in_leaf y n key v) state₁ ∙ ap (λ (k : ℕ). put_in_leaf (touch ps s) k key v) (sym leaf_n)
 
-        pub on_way_lem : WayIn t2.used way steps
+        pub on_way_lem : WayIn t2.used way
         on_way_lem = rw u gone_way
 
         pub on_index : (scratch : ℕ) → Bytes b0 → 4 + length key + value_length v + 56 ≤ l.size → 2 * l.size ≤ scratch
-            → IndexRoom l.size t2 h2 b2 way kids steps scratch
+            → IndexRoom l.size t2 h2 b2 way scratch
         unfolding lent_of
         on_index scratch k e z =
-            upsert_index_room (lent_of [] l) key v s way kids steps stands down₀ roomy (omega (arith, g.ready.most)) (omega arith)
+            upsert_index_room (lent_of [] l) key v s way stands down₀ roomy (omega (arith, g.ready.most)) (omega arith)
             (short_keys l.size l.slots t h0 b0 g.ready k) scratch z t2 h2 b2
-            (subst (λ (xs : List Step). state_of l.size t2 h2 b2 ≡ put_in_leaf (touch xs s) (leaf_of xs) key v) (from_start way kids steps) state₂)
+            (subst (λ (xs : List Step). state_of l.size t2 h2 b2 ≡ put_in_leaf (touch xs s) (leaf_of xs) key v) (from_start way (length way)) state₂)
 
         -- ---- index keys set
 
-        module _ (h3 b3 : List ℕ) (w : Rewritten l.size l.slots t2 h2 b2 h3 b3 (index_keys (steps_of way kids steps)
+        module _ (h3 b3 : List ℕ) (w : Rewritten l.size l.slots t2 h2 b2 h3 b3 (index_keys (steps_in way)
             (state_of l.size t2 h2 b2))) where
           state₃ : state_of l.size t2 h3 b3 ≡ index_keys ps (put_in_leaf (touch ps s) (leaf_of ps) key v)
           state₃ = w.state ∙ ap (index_keys ps) state₂
 
-          pub on_cuts : CutsFit (lent_of [] l) (state_of l.size t2 h3 b3) way kids steps
+          pub on_cuts : CutsFit (lent_of [] l) (state_of l.size t2 h3 b3) way
           unfolding lent_of
           on_cuts =
-              subst (λ (y : State). CutsFit (lent_of [] l) y way kids steps)
+              subst (λ (y : State). CutsFit (lent_of [] l) y way)
               (sym (subst (λ (xs : List Step). state_of l.size t2 h3 b3 ≡ index_keys xs (put_in_leaf (touch xs s) (leaf_of xs) key v))
-              (from_start way kids steps) state₃))
-              (upsert_cuts_fit (lent_of [] l) key v s way kids steps stands down₀ roomy sized size_is)
+              (from_start way (length way)) state₃))
+              (upsert_cuts_fit (lent_of [] l) key v s way stands down₀ roomy sized size_is)
 
-          pub on_done : (r : Result State) → r ≡ cuts (lent_of [] l) [] (steps_from way kids 0 steps) (state_of l.size t2 h3 b3)
-              → r ≡ cuts (lent_of [] l) [] (steps_of way kids steps) (index_keys (steps_of way kids steps)
-              (put_in_leaf (touch (steps_of way kids steps) (state_of l.size t h0 b0)) n key v))
+          pub on_done : (r : Result State) → r ≡ cuts (lent_of [] l) [] (steps_in way) (state_of l.size t2 h3 b3)
+              → r ≡ cuts (lent_of [] l) [] (steps_in way) (index_keys (steps_in way)
+              (put_in_leaf (touch (steps_in way) (state_of l.size t h0 b0)) n key v))
           on_done r e =
-              e ∙ ap₂ (cuts (lent_of [] l) []) (sym (from_start way kids steps))
+              e ∙ ap (cuts (lent_of [] l) [] (steps_in way))
               (state₃ ∙ ap (λ (k : ℕ). index_keys ps (put_in_leaf (touch ps s) k key v)) leaf_n)
 
     -- ---- refused, or put
@@ -234,12 +234,12 @@ module _ (l : Lent) (t : Tree) (h0 b0 way kids : List ℕ) (steps : ℕ) (key : 
       passes = ap (λ (b : Bool). b || ltb t.info.key_count (2 ^ 64 - 1)) there_is ∙ sym ec
 
       pub on_count : not c ≡ true
-          → edited_of l.size h0 b0 (Err is.Count) ≡ upsert_on (lent_of [] l) key v (way_gone l.size t h0 b0 way kids steps)
+          → edited_of l.size h0 b0 (Err is.Count) ≡ upsert_on (lent_of [] l) key v (way_gone l.size t h0 b0 way)
       unfolding edited_of upsert_on
       on_count z = sym (rw (passes, not-true c z))
 
       module _ (z : not c ≡ false) where
-        on_passed : upsert_on (lent_of [] l) key v (way_gone l.size t h0 b0 way kids steps)
+        on_passed : upsert_on (lent_of [] l) key v (way_gone l.size t h0 b0 way)
             ≡ cuts (lent_of [] l) [] ps (index_keys ps (put_in_leaf (touch ps s) (leaf_of ps) key v))
         unfolding upsert_on
         on_passed = rw (passes, not-false c z)
@@ -249,9 +249,9 @@ module _ (l : Lent) (t : Tree) (h0 b0 way kids : List ℕ) (steps : ℕ) (key : 
             let y : c ≡ ltb t.info.key_count (2 ^ 64 - 1) = rw e at ec in
             ltb-true t.info.key_count (2 ^ 64 - 1) (sym y ∙ not-false c z)
 
-        pub on_put : (r : Result State) → r ≡ cuts (lent_of [] l) [] (steps_of way kids steps) (index_keys (steps_of way kids steps)
-            (put_in_leaf (touch (steps_of way kids steps) (state_of l.size t h0 b0)) n key v))
-            → r ≡ upsert_on (lent_of [] l) key v (way_gone l.size t h0 b0 way kids steps)
+        pub on_put : (r : Result State) → r ≡ cuts (lent_of [] l) [] (steps_in way) (index_keys (steps_in way)
+            (put_in_leaf (touch (steps_in way) (state_of l.size t h0 b0)) n key v))
+            → r ≡ upsert_on (lent_of [] l) key v (way_gone l.size t h0 b0 way)
         on_put r e = e ∙ ap (λ (k : ℕ). cuts (lent_of [] l) [] ps (index_keys ps (put_in_leaf (touch ps s) k key v))) (sym leaf_n) ∙ sym on_passed
 
         abbrev es : List Entry
@@ -295,7 +295,7 @@ module _ (l : Lent) (t : Tree) (h0 b0 way kids : List ℕ) (steps : ℕ) (key : 
 
         pub on_large : (h : Head) (b : Bool) (len : ℕ) (x : Refusal) → h ≡ live (head_at h0 n) → b ≡ ltb l.size (4 + length key + len + 56) → b ≡ true
             → len ≡ value_length v → x ≡ cond (ltb 1 (h.count + cond f.found 0 1)) is.NoCut is.Single
-            → edited_of l.size h0 b0 (Err x) ≡ upsert_on (lent_of [] l) key v (way_gone l.size t h0 b0 way kids steps)
+            → edited_of l.size h0 b0 (Err x) ≡ upsert_on (lent_of [] l) key v (way_gone l.size t h0 b0 way)
         unfolding edited_of
         on_large h b len x eh eb q k ex =
             sym (on_passed ∙ large_cut (large len k (ltb-true l.size (4 + length key + len + 56) (sym eb ∙ q)))

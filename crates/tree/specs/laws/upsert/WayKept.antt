@@ -33,28 +33,29 @@ use Rattle.tree.specs.laws.trust.Cut.{by_cut}
 use Rattle.tree.specs.laws.trust.Upsert.{inner}
 use Rattle.tree.specs.laws.room.Weight.{weight}
 use Rattle.tree.specs.laws.room.Edit.{Indexed, more}
+use Rattle.tree.specs.declared.way.Step as code
 
 -- ---- the steps of a way, from each on
 
-module _ (way kids : List ℕ) (steps : ℕ) where
-  pub from_step : (j : ℕ) → j < steps → steps_from way kids j (steps - j) ≡ step_at way kids j ∷ steps_from way kids (suc j) (steps - suc j)
+module _ (way : List code.Step) where
+  pub from_step : (j : ℕ) → j < length way → steps_from way j (length way - j) ≡ step_at way j ∷ steps_from way (suc j) (length way - suc j)
   unfolding steps_from step_at
-  from_step j h = let z : steps - j ≡ suc (steps - suc j) = omega arith in rw z
+  from_step j h = let z : length way - j ≡ suc (length way - suc j) = omega arith in rw z
 
   -- what a way keeps when its first step is taken off, each rest of it has
-  pub from_each : (P : List Step → Type 0) → ((x y : Step) (xs : List Step) → P (x ∷ y ∷ xs) → P (y ∷ xs)) → P (steps_from way kids 0 steps)
-      → (j : ℕ) → j < steps → P (steps_from way kids j (steps - j))
-  from_each P f p zero h = let z : steps - 0 ≡ steps = omega arith in subst (λ (m : ℕ). P (steps_from way kids 0 m)) (sym z) p
+  pub from_each : (P : List Step → Type 0) → ((x y : Step) (xs : List Step) → P (x ∷ y ∷ xs) → P (y ∷ xs)) → P (steps_from way 0 (length way))
+      → (j : ℕ) → j < length way → P (steps_from way j (length way - j))
+  from_each P f p zero h = let z : length way - 0 ≡ length way = omega arith in subst (λ (m : ℕ). P (steps_from way 0 m)) (sym z) p
   from_each P f p (suc j) h =
       let d = from_step (suc j) h in
-      let e = from_step j (omega arith) ∙ ap (λ (xs : List Step). step_at way kids j ∷ xs) d in
-      subst P (sym d) (f (step_at way kids j) (step_at way kids (suc j)) _ (subst P e (from_each P f p j (omega arith))))
+      let e = from_step j (omega arith) ∙ ap (λ (xs : List Step). step_at way j ∷ xs) d in
+      subst P (sym d) (f (step_at way j) (step_at way (suc j)) _ (subst P e (from_each P f p j (omega arith))))
 
   -- two steps, and the rest
-  pub from_two : (P : List Step → Type 0) (j : ℕ) → suc j < steps → P (steps_from way kids j (steps - j))
-      → P (step_at way kids j ∷ step_at way kids (suc j) ∷ steps_from way kids (suc (suc j)) (steps - suc (suc j)))
+  pub from_two : (P : List Step → Type 0) (j : ℕ) → suc j < length way → P (steps_from way j (length way - j))
+      → P (step_at way j ∷ step_at way (suc j) ∷ steps_from way (suc (suc j)) (length way - suc (suc j)))
   from_two P j h p =
-      subst P (from_step j (omega arith) ∙ ap (λ (xs : List Step). step_at way kids j ∷ xs) (from_step (suc j) h)) p
+      subst P (from_step j (omega arith) ∙ ap (λ (xs : List Step). step_at way j ∷ xs) (from_step (suc j) h)) p
 
 -- ---- what a change of one slot leaves as it was
 

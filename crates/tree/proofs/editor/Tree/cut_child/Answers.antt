@@ -8,7 +8,7 @@ use Rattle.tree.proofs.editor.Tree.cut_child.Goals as goal
 pub returns-in_err-room_for-clause-answer : goal.returns-in_err-room_for-clause-answer
 returns-in_err-room_for-clause-answer c =
     let a = c.args in
-    rw (handed_on c.from_residual.result _ c.from_residual.ensures.1) (child_full a.lent a.self _ _ a.up _ _ a.at _ c.in_err-room_for.ensures)
+    rw (handed_on c.from_residual.result _ c.from_residual.ensures.1) (child_full a.lent a.self _ _ a.up _ _ a.found.at _ c.in_err-room_for.ensures)
 
 pub part-t-requires : goal.part-t-requires
 part-t-requires c =
@@ -18,14 +18,14 @@ part-t-requires c =
 
 pub overflow_add-up : goal.overflow_add-up
 overflow_add-up c =
-    let p = c.requires in let a = c.args in omega (arith, child_next a.lent a.self _ _ a.up _ _ a.at p.ready.0 p.room.0 p.room.1)
+    let p = c.requires in let a = c.args in omega (arith, child_next a.lent a.self _ _ a.up _ _ a.found.at p.ready.0 p.room.0 p.room.1)
 
 pub link_child-requires : goal.link_child-requires
 link_child-requires c =
     let p = c.requires in
     let a = c.args in
     let g = c.part-t in
-    record { ready = g.ensures.ready; room = parted_child a.lent a.self _ _ _ _ _ _ p.ready.0 p.room.0 p.room.1 _ _ _ g.ensures.after _ _ (child_parent a.lent a.self _ _ a.up _ _ a.at p.room.0 p.room.1) p.ready.1 }
+    record { ready = g.ensures.ready; room = parted_child a.lent a.self _ _ _ _ _ _ p.ready.0 p.room.0 p.room.1 _ _ _ g.ensures.after _ _ (child_parent a.lent a.self _ _ a.up _ _ a.found.at p.room.0 p.room.1) p.ready.1 }
 
 pub more_nodes-requires : goal.more_nodes-requires
 more_nodes-requires c =
@@ -38,4 +38,4 @@ returns c =
     let g = c.part-t in
     let w = c.link_child in
     let m = c.more_nodes.ensures in
-    record { answer = child_done a.lent a.self _ _ a.up _ _ a.at _ c.in_ok-room_for.ensures _ _ _ _ _ _ g.ensures.after w.ensures m; ready = counted_ready _ _ _ _ _ _ _ m w.ensures.ready; follows = follows_on _ _ _ _ _ _ _ _ _ _ g.ensures.follows w.ensures.follows (omega (arith, parted_used a.lent a.self _ _ _ _ _ _ p.ready.0 p.room.0 p.room.1 _ _ _ g.ensures.after)) }
+    record { answer = child_done a.lent a.self _ _ a.up _ _ a.found.at _ c.in_ok-room_for.ensures _ _ _ _ _ _ g.ensures.after w.ensures m; ready = counted_ready _ _ _ _ _ _ _ m w.ensures.ready; follows = follows_on _ _ _ _ _ _ _ _ _ _ g.ensures.follows w.ensures.follows (omega (arith, parted_used a.lent a.self _ _ _ _ _ _ p.ready.0 p.room.0 p.room.1 _ _ _ g.ensures.after)) }

@@ -9,7 +9,7 @@ pub fits_at-requires : goal.fits_at-requires
 fits_at-requires c =
     let p = c.requires in
     let a = c.args in
-    record { ready = p.ready.0; sized = (node_sized a.lent a.self _ _ _ _ p.ready.0 p.room, node_used a.lent a.self _ _ _ _ p.ready.0 p.room) }
+    record { sized = (node_sized a.lent a.self _ _ _ _ p.ready.0 p.room, node_used a.lent a.self _ _ _ _ p.ready.0 p.room) }
 
 pub returns-then-fits_at : goal.returns-then-fits_at
 returns-then-fits_at c =
@@ -29,27 +29,31 @@ pub invariant_of-records : goal.invariant_of-records
 invariant_of-records c =
     let p = c.requires in
     let a = c.args in
-    record { within = node_room a.lent a.self _ _ _ _ p.ready.0 p.room _ c.fits_at.ensures c.if-fits_at.false _ c.load-h.ensures _ c.slot_of.ensures }
+    record { within = node_room a.lent a.self _ _ _ _ p.ready.0 p.room _ c.fits_at.ensures c.if-fits_at.false _ c.load-h.ensures _ c.slot_of.ensures.slot }
 
 pub cut-requires : goal.cut-requires
 cut-requires c =
     let p = c.requires in
     let a = c.args in
-    record { tree = node_sized a.lent a.self _ _ _ _ p.ready.0 p.room; small = node_long a.lent a.self _ _ _ _ p.ready.0 p.room _ c.fits_at.ensures c.if-fits_at.false _ c.load-h.ensures _ c.slot_of.ensures }
+    node_long a.lent a.self _ _ _ _ p.ready.0 p.room _ c.fits_at.ensures c.if-fits_at.false _ c.load-h.ensures _ c.slot_of.ensures.slot
+
+pub invariant_of-shape : goal.invariant_of-shape
+invariant_of-shape c =
+    let p = c.requires in let a = c.args in record { sized = node_sized a.lent a.self _ _ _ _ p.ready.0 p.room }
 
 pub returns-in_err-found-clause-answer : goal.returns-in_err-found-clause-answer
 returns-in_err-found-clause-answer c =
     let p = c.requires in
     let a = c.args in
     rw (handed_on c.from_residual.result _ c.from_residual.ensures.1)
-    (node_uncut a.lent a.self _ _ _ _ p.ready.0 p.room _ c.fits_at.ensures c.if-fits_at.false _ c.load-h.ensures _ c.slot_of.ensures _ c.cut.ensures.place _ c.in_err-found.was)
+    (node_uncut a.lent a.self _ _ _ _ p.ready.0 p.room _ c.fits_at.ensures c.if-fits_at.false _ c.load-h.ensures _ c.slot_of.ensures.slot _ c.cut.ensures.place _ c.in_err-found.was)
 
 pub cut_root-requires : goal.cut_root-requires
 cut_root-requires c =
     let p = c.requires in
     let a = c.args in
     let x = c.cut in
-    record { ready = (p.ready.0, p.ready.1); room = (top_fits a.lent _ _ _ c.in-None.is p.room, node_cut a.lent a.self _ _ _ _ p.ready.0 p.room _ c.fits_at.ensures c.if-fits_at.false _ c.load-h.ensures _ c.slot_of.ensures _ x.ensures.place _ c.in_ok-found.was x.ensures.start) }
+    record { ready = (p.ready.0, p.ready.1); room = (top_fits a.lent _ _ _ c.in-None.is p.room, node_cut a.lent a.self _ _ _ _ p.ready.0 p.room _ c.fits_at.ensures c.if-fits_at.false _ c.load-h.ensures _ c.slot_of.ensures.slot _ x.ensures.place _ c.in_ok-found.was x.ensures.start) }
 
 pub returns-in-None : goal.returns-in-None
 returns-in-None c =
@@ -57,14 +61,14 @@ returns-in-None c =
     let a = c.args in
     let x = c.cut in
     let w = c.cut_root in
-    record { answer = node_after a.lent a.self _ _ _ _ p.ready.0 p.room _ c.fits_at.ensures c.if-fits_at.false _ c.load-h.ensures _ c.slot_of.ensures _ x.ensures.place _ c.in_ok-found.was _ _ _ (top_answer a.lent _ _ _ _ _ c.in-None.is w.ensures.answer); ready = w.ensures.ready; follows = w.ensures.follows }
+    record { answer = node_after a.lent a.self _ _ _ _ p.ready.0 p.room _ c.fits_at.ensures c.if-fits_at.false _ c.load-h.ensures _ c.slot_of.ensures.slot _ x.ensures.place _ c.in_ok-found.was _ _ _ (top_answer a.lent _ _ _ _ _ c.in-None.is w.ensures.answer); ready = w.ensures.ready; follows = w.ensures.follows }
 
 pub cut_child-requires : goal.cut_child-requires
 cut_child-requires c =
     let p = c.requires in
     let a = c.args in
     let x = c.cut in
-    record { ready = (p.ready.0, p.ready.1); room = (child_fits a.lent _ _ _ _ c.in-Some.is p.room, node_cut a.lent a.self _ _ _ _ p.ready.0 p.room _ c.fits_at.ensures c.if-fits_at.false _ c.load-h.ensures _ c.slot_of.ensures _ x.ensures.place _ c.in_ok-found.was x.ensures.start) }
+    record { ready = (p.ready.0, p.ready.1); room = (child_fits a.lent _ _ _ _ c.in-Some.is p.room, node_cut a.lent a.self _ _ _ _ p.ready.0 p.room _ c.fits_at.ensures c.if-fits_at.false _ c.load-h.ensures _ c.slot_of.ensures.slot _ x.ensures.place _ c.in_ok-found.was x.ensures.start) }
 
 pub returns-in-Some : goal.returns-in-Some
 returns-in-Some c =
@@ -72,4 +76,4 @@ returns-in-Some c =
     let a = c.args in
     let x = c.cut in
     let w = c.cut_child in
-    record { answer = node_after a.lent a.self _ _ _ _ p.ready.0 p.room _ c.fits_at.ensures c.if-fits_at.false _ c.load-h.ensures _ c.slot_of.ensures _ x.ensures.place _ c.in_ok-found.was _ _ _ (child_answer a.lent _ _ _ _ _ _ c.in-Some.is w.ensures.answer); ready = w.ensures.ready; follows = w.ensures.follows }
+    record { answer = node_after a.lent a.self _ _ _ _ p.ready.0 p.room _ c.fits_at.ensures c.if-fits_at.false _ c.load-h.ensures _ c.slot_of.ensures.slot _ x.ensures.place _ c.in_ok-found.was _ _ _ (child_answer a.lent _ _ _ _ _ _ c.in-Some.is w.ensures.answer); ready = w.ensures.ready; follows = w.ensures.follows }

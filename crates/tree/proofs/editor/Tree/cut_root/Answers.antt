@@ -7,21 +7,23 @@ use Rattle.std.proofs.Common.{ap}
 use mathlib.Core.Bool.{not}
 use Rattle.tree.proofs.editor.Tree.cut_root.Goals as goal
 
-pub new_root_holds-requires-clause-sized : goal.new_root_holds-requires-clause-sized
-new_root_holds-requires-clause-sized c =
+pub new_root_holds-holds-requires : goal.new_root_holds-holds-requires
+new_root_holds-holds-requires c =
     let p = c.requires in
     let a = c.args in
-    (cut_sized a.lent a.self _ _ _ _ _ _ p.ready.0 p.room.0 p.room.1, cut_used a.lent a.self _ _ _ _ _ _ p.ready.0 p.room.0 p.room.1, cut_first a.lent a.self _ _ _ _ _ _ p.ready.0 p.room.0 p.room.1)
+    record { sized = (cut_sized a.lent a.self _ _ _ _ _ _ p.ready.0 p.room.0 p.room.1, cut_used a.lent a.self _ _ _ _ _ _ p.ready.0 p.room.0 p.room.1, cut_first a.lent a.self _ _ _ _ _ _ p.ready.0 p.room.0 p.room.1) }
 
-pub returns-then-not-new_root_holds-clause-answer : goal.returns-then-not-new_root_holds-clause-answer
-returns-then-not-new_root_holds-clause-answer c =
-    let a = c.args in top_not a.lent a.self _ _ _ _ _ c.new_root_holds.ensures (ap not c.if-not-new_root_holds.true)
+pub returns-in_err-check-clause-answer : goal.returns-in_err-check-clause-answer
+returns-in_err-check-clause-answer c =
+    let a = c.args in
+    rw (handed_on c.from_residual.result _ c.from_residual.ensures.1, c.in_err-check.ensures.1)
+    (top_not a.lent a.self _ _ _ _ _ c.new_root_holds-holds.ensures (ap not c.in_err-check.ensures.0))
 
 pub returns-in_err-room_for-clause-answer : goal.returns-in_err-room_for-clause-answer
 returns-in_err-room_for-clause-answer c =
     let a = c.args in
-    rw (handed_on c.from_residual.result _ c.from_residual.ensures.1)
-    (top_full a.lent a.self _ _ _ _ _ c.new_root_holds.ensures (ap not c.if-not-new_root_holds.false) _ c.in_err-room_for.ensures)
+    rw (handed_on c.from_residual-in_err-room_for.result _ c.from_residual-in_err-room_for.ensures.1)
+    (top_full a.lent a.self _ _ _ _ _ c.new_root_holds-holds.ensures (ap not c.in_ok-check.ensures) _ c.in_err-room_for.ensures)
 
 pub part-t-requires-clause-used_lt_slots : goal.part-t-requires-clause-used_lt_slots
 part-t-requires-clause-used_lt_slots c =
@@ -41,7 +43,7 @@ grow_root-top-requires-clause-room c =
     let p = c.requires in
     let a = c.args in
     let g = c.part-t in
-    parted_root a.lent a.self _ _ _ _ _ _ p.ready.0 p.room.0 p.room.1 _ _ _ g.ensures.after _ (top_low a.lent a.self _ _ _ _ _ c.new_root_holds.ensures (ap not c.if-not-new_root_holds.false) (cut_used a.lent a.self _ _ _ _ _ _ p.ready.0 p.room.0 p.room.1)) p.ready.1
+    parted_root a.lent a.self _ _ _ _ _ _ p.ready.0 p.room.0 p.room.1 _ _ _ g.ensures.after _ (top_low a.lent a.self _ _ _ _ _ c.new_root_holds-holds.ensures (ap not c.in_ok-check.ensures) (cut_used a.lent a.self _ _ _ _ _ _ p.ready.0 p.room.0 p.room.1)) p.ready.1
 
 pub more_nodes-requires : goal.more_nodes-requires
 more_nodes-requires c =
@@ -52,7 +54,7 @@ returns-clause-answer c =
     let a = c.args in
     let g = c.part-t in
     let w = c.grow_root-top in
-    top_done a.lent a.self _ _ _ _ _ c.new_root_holds.ensures (ap not c.if-not-new_root_holds.false) _ c.in_ok-room_for.ensures _ _ _ _ _ _ _ g.ensures.after w.ensures.after c.more_nodes.ensures
+    top_done a.lent a.self _ _ _ _ _ c.new_root_holds-holds.ensures (ap not c.in_ok-check.ensures) _ c.in_ok-room_for.ensures _ _ _ _ _ _ _ g.ensures.after w.ensures.after c.more_nodes.ensures
 
 pub returns-clause-ready : goal.returns-clause-ready
 returns-clause-ready c = counted_ready _ _ _ _ _ _ _ c.more_nodes.ensures c.grow_root-top.ensures.ready

@@ -10,12 +10,12 @@ returns-in_err-r-clause-answer c =
     rw (handed_on c.from_residual.result _ c.from_residual.ensures.1)
     (dropped_refused a.image.now a.lent a.self _ _ _ _ _ _ c.level_at-level.ensures c.pair_key.ensures c.versions_end-end.ensures _ _ _ c.range_from.ensures.answer _ c.in_err-r.was)
 
-pub range_out-requires-clause-n_in_bounds : goal.range_out-requires-clause-n_in_bounds
-range_out-requires-clause-n_in_bounds c =
+pub range_out-requires : goal.range_out-requires
+range_out-requires c =
     let a = c.args in
     let p = c.requires in
     let r = c.range_from.ensures in
-    ranged_room a.image.now a.lent a.self _ _ _ _ _ _ c.level_at-level.ensures c.pair_key.ensures c.versions_end-end.ensures _ _ _ r.answer p.trusts _ c.in_ok-r.was r.ready _ p.room
+    record { n_in_bounds = ranged_room a.image.now a.lent a.self _ _ _ _ _ _ c.level_at-level.ensures c.pair_key.ensures c.versions_end-end.ensures _ _ _ r.answer p.trusts _ c.in_ok-r.was r.ready _ p.room }
 
 pub remove_all-requires-clause-trusts : goal.remove_all-requires-clause-trusts
 remove_all-requires-clause-trusts c =

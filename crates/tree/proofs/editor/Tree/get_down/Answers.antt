@@ -1,54 +1,27 @@
-use mathlib.Core.Path.{◌∙◌}
-use Rattle.tree.specs.laws.lookup.GetCall.{in_argument, in_argument_same, in_answer, in_output, in_trusted, got_refused, got_undone, got_kept}
-use Rattle.tree.specs.laws.slots.CallBounds.{call_ready, call_state, call_shadowed, back_ready, back_state}
+use Rattle.tree.specs.laws.lookup.GetCall.{in_argument, in_argument_same, way_in, in_output, got_undone, got_left}
 use borrow.Author.Rules.{rules}
-use Rattle.std.proofs.Common.{ap}
-use mathlib.Core.Bool.{not}
+use Rattle.std.proofs.Common.{◌∙◌}
 use Rattle.tree.proofs.editor.Tree.get_down.Goals as goal
 
-pub returns-then-not-keyed-clause-answer : goal.returns-then-not-keyed-clause-answer
-returns-then-not-keyed-clause-answer c = search (rules, in_argument)
+pub returns-in_err-check-clause-answer : goal.returns-in_err-check-clause-answer
+returns-in_err-check-clause-answer c = search (rules, in_argument)
 
-pub returns-then-not-keyed-clause-output : goal.returns-then-not-keyed-clause-output
-returns-then-not-keyed-clause-output c = search (rules, in_argument_same)
+pub returns-in_err-check-clause-output : goal.returns-in_err-check-clause-output
+returns-in_err-check-clause-output c = search (rules, in_argument_same)
 
-pub get_way-got-requires : goal.get_way-got-requires
-get_way-got-requires c =
-    let a = c.args in
-    let p = c.requires.trusts in
-    let m = c.clear_marks.ensures in
-    record {
-      ready_2 = call_ready _ _ a.self _ _ _ p.ready m;
-      bytes_value = in_trusted _ _ a.self _ _ _ (call_state _ a.lent.slots a.self _ _ _ p.ready m) p.trust;
-    }
+pub returns-clause-answer : goal.returns-clause-answer
+returns-clause-answer c =
+    let (h, b, h', b', s, p, u) = c.undone.ensures in
+    got_undone c.args.lent c.args.self _ _ h'.now b'.now _ _ _ _ u
+    ∙ search rules
+    ∙ way_in _ _ c.args.self _ _ _ _ c.keyed.ensures c.in_ok-check.ensures _ h.now b.now s.0
 
-pub restore-requires : goal.restore-requires
-restore-requires c =
-    let w = c.get_way-got in
-    call_shadowed _ _ c.args.self _ _ _ c.requires.trusts.ready c.clear_marks.ensures _ _ w.ensures.follows w.auto.heads w.auto.bytes
+pub returns-clause-output : goal.returns-clause-output
+returns-clause-output c =
+    let (h, b, h', b', s, p, u) = c.undone.ensures in
+    in_output _ _ c.args.self _ _ c.args.key.now _ c.keyed.ensures c.in_ok-check.ensures _ h.now b.now s.0 _ _ (search rules)
 
-pub returns-then-is_err : goal.returns-then-is_err
-returns-then-is_err c =
-    let a = c.args in
-    let r = c.requires.trusts.ready in
-    let m = c.clear_marks.ensures in
-    let w = c.get_way-got in
-    let b = c.restore in
-    record {
-      answer = got_refused _ _ _ _ _ _ _ c.if-is_err.ensures.value
-          ∙ in_answer _ _ c.args.self _ _ _ _ c.keyed.ensures (ap not c.if-not-keyed.false) _ _ (call_state _ c.args.lent.slots c.args.self _ _ _ c.requires.trusts.ready c.clear_marks.ensures) _ c.get_way-got.ensures.answer;
-      output = in_output _ _ c.args.self _ _ _ _ c.keyed.ensures (ap not c.if-not-keyed.false) _ _ (call_state _ c.args.lent.slots c.args.self _ _ _ c.requires.trusts.ready c.clear_marks.ensures) _ _ c.get_way-got.ensures.output;
-      left = got_undone a.image.now a.lent a.self _ _ c.requires.trusts _ _ _ c.if-is_err.ensures.value
-          (back_state _ a.lent.slots a.self _ _ _ r m _ _ w.ensures.follows _ _ b.ensures)
-          (back_ready _ _ a.self _ _ _ r m _ _ w.ensures.follows _ _ b.ensures w.auto.heads w.auto.bytes b.auto.heads b.auto.bytes);
-    }
-
-pub returns-else-is_err : goal.returns-else-is_err
-returns-else-is_err c =
-    let a = c.args in
-    let e = in_answer _ _ c.args.self _ _ _ _ c.keyed.ensures (ap not c.if-not-keyed.false) _ _ (call_state _ c.args.lent.slots c.args.self _ _ _ c.requires.trusts.ready c.clear_marks.ensures) _ c.get_way-got.ensures.answer in
-    record {
-      answer = e;
-      output = in_output _ _ c.args.self _ _ _ _ c.keyed.ensures (ap not c.if-not-keyed.false) _ _ (call_state _ c.args.lent.slots c.args.self _ _ _ c.requires.trusts.ready c.clear_marks.ensures) _ _ c.get_way-got.ensures.output;
-      left = got_kept a.image.now a.lent a.self _ _ c.requires.trusts _ _ _ _ _ _ c.if-is_err.ensures.value e c.get_way-got.ensures.ready;
-    }
+pub returns-clause-left : goal.returns-clause-left
+returns-clause-left c =
+    let (h, b, h', b', s, p, u) = c.undone.ensures in
+    got_left c.args.lent c.args.self _ _ h'.now b'.now _ _ _ _ _ _ _ c.requires.trusts u (returns-clause-answer c) (search rules)

@@ -29,9 +29,9 @@ bounds-w-w c =
     let m = get_few _ _ c.args.self _ _ c.requires.bytes_value _ c.level_at-level.ensures _ c.args.out.now _ _ c.way.result c.way.ensures.answer _ c.in_ok-w.was in
     search (rules, m)
 
-pub copy_held-requires-clause-n_value : goal.copy_held-requires-clause-n_value
-copy_held-requires-clause-n_value c =
-    get_suits _ _ c.args.self _ _ c.requires.bytes_value _ c.level_at-level.ensures _ c.args.out.now _ _ c.way.result c.way.ensures.answer _ c.in_ok-w.was
+pub copy_held-requires : goal.copy_held-requires
+copy_held-requires c =
+    record { n_value = get_suits _ _ c.args.self _ _ c.requires.bytes_value _ c.level_at-level.ensures _ c.args.out.now _ _ c.way.result c.way.ensures.answer _ c.in_ok-w.was }
 
 pub returns-clause-answer : goal.returns-clause-answer
 returns-clause-answer c =

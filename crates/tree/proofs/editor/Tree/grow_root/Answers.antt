@@ -14,7 +14,7 @@ link_child-requires c =
     let p = c.requires in
     let a = c.args in
     let g = c.add_root-t in
-    record { ready = g.ensures.ready; room = grow_first _ a.slots _ _ _ a.self _ _ _ _ _ p.room g.ensures.after _ refl }
+    record { ready = g.ensures.ready; room = grow_first _ a.lent.slots _ _ _ a.self _ _ _ _ _ p.room g.ensures.after _ refl }
 
 pub link_child-requires-2 : goal.link_child-requires-2
 link_child-requires-2 c =
@@ -22,7 +22,7 @@ link_child-requires-2 c =
     let a = c.args in
     let g = c.add_root-t in
     let w = c.link_child in
-    record { ready = w.ensures.ready; room = grow_second _ a.slots _ _ _ a.self _ _ _ _ _ p.room g.ensures.after _ _ w.ensures _ (search rules) }
+    record { ready = w.ensures.ready; room = grow_second _ a.lent.slots _ _ _ a.self _ _ _ _ _ p.room g.ensures.after _ _ w.ensures _ (search rules) }
 
 pub returns : goal.returns
 returns c =
@@ -31,4 +31,4 @@ returns c =
     let g = c.add_root-t in
     let w = c.link_child in
     let v = c.link_child-2 in
-    record { after = grow_state _ a.slots _ _ _ a.self _ _ _ _ _ p.room g.ensures.after _ _ w.ensures _ _ v.ensures; ready = v.ensures.ready; follows = grow_follows _ a.slots _ _ _ a.self _ _ _ _ _ p.room g.ensures.after _ _ w.ensures _ _ v.ensures g.ensures.follows }
+    record { after = grow_state _ a.lent.slots _ _ _ a.self _ _ _ _ _ p.room g.ensures.after _ _ w.ensures _ _ v.ensures; ready = v.ensures.ready; follows = grow_follows _ a.lent.slots _ _ _ a.self _ _ _ _ _ p.room g.ensures.after _ _ w.ensures _ _ v.ensures g.ensures.follows }

@@ -13,14 +13,14 @@ loop-i-init c =
     let e : c.args.n - 0 ≡ c.args.n = omega arith in
     (search rules, search rules, rw e (hand_start _ _ _ _ _ _ c.requires.ready c.requires.trust))
 
-pub returns-then-not-only : goal.returns-then-not-only
-returns-then-not-only c =
+pub returns-then-not-has_only_child : goal.returns-then-not-has_only_child
+returns-then-not-has_only_child c =
     let args = c.args in
     let loop = c.loop-i in
     let k = loop.invariant.2 in
     let hd : 0 < args.n - loop._i = omega (arith, c.loop-i-test.true) in
     record {
-      answer = hand_stops args.image.now args.lent args.self _ _ _ loop.t _ _ (args.n - loop._i) k hd _ c.has_only_child-only.ensures (ap not c.if-not-only.true);
+      answer = hand_stops args.image.now args.lent args.self _ _ _ loop.t _ _ (args.n - loop._i) k hd _ c.has_only_child.ensures (ap not c.if-not-has_only_child.true);
       ready = k.ready;
       follows = k.follows;
     }
@@ -31,7 +31,7 @@ returns-in_err-u-clause-answer c =
     let loop = c.loop-i in
     let hd : 0 < args.n - loop._i = omega (arith, c.loop-i-test.true) in
     rw (handed_on c.from_residual.result _ c.from_residual.ensures.1)
-    (hand_refused args.image.now args.lent args.self _ _ _ loop.t _ _ (args.n - loop._i) loop.invariant.2 hd _ c.has_only_child-only.ensures (ap not c.if-not-only.false) _ _ _ c.load_child.ensures.answer _ c.in_err-u.was)
+    (hand_refused args.image.now args.lent args.self _ _ _ loop.t _ _ (args.n - loop._i) loop.invariant.2 hd _ c.has_only_child.ensures (ap not c.if-not-has_only_child.false) _ _ _ c.load_child.ensures.answer _ c.in_err-u.was)
 
 pub returns-in_err-u-clause-follows : goal.returns-in_err-u-clause-follows
 returns-in_err-u-clause-follows c =
@@ -39,65 +39,64 @@ returns-in_err-u-clause-follows c =
     let loop = c.loop-i in
     let got = c.load_child.ensures in
     let hd : 0 < args.n - loop._i = omega (arith, c.loop-i-test.true) in
-    hand_on args.image.now args.lent args.self _ _ _ loop.t _ _ (args.n - loop._i) loop.invariant.2 hd _ c.has_only_child-only.ensures (ap not c.if-not-only.false) _ _ _ got.answer got.follows
+    hand_on args.image.now args.lent args.self _ _ _ loop.t _ _ (args.n - loop._i) loop.invariant.2 hd _ c.has_only_child.ensures (ap not c.if-not-has_only_child.false) _ _ _ got.answer got.follows
 
-pub fits_as_root-fits-requires : goal.fits_as_root-fits-requires
-fits_as_root-fits-requires c =
+pub fits_as_root-requires : goal.fits_as_root-requires
+fits_as_root-requires c =
     let args = c.args in
     let loop = c.loop-i in
     let hd : 0 < args.n - loop._i = omega (arith, c.loop-i-test.true) in
-    let has-only-child = c.has_only_child-only in
+    let has-only-child = c.has_only_child in
     let load_child_lem = c.load_child in (
-      ready_at _ _ _ _ _ _ _ c.in_ok-u.was load_child_lem.ensures.ready,
-      hand_child args.image.now args.lent args.self _ _ _ loop.t _ _ (args.n - loop._i) loop.invariant.2 hd _ has-only-child.ensures (ap not c.if-not-only.false) _ _ _ load_child_lem.ensures.answer _ _ c.in_ok-u.was,
-      hand_sized args.image.now args.lent args.self _ _ _ loop.t _ _ (args.n - loop._i) loop.invariant.2 hd _ has-only-child.ensures (ap not c.if-not-only.false) _ _ _ load_child_lem.ensures.answer _ _ c.in_ok-u.was,
+      hand_child args.image.now args.lent args.self _ _ _ loop.t _ _ (args.n - loop._i) loop.invariant.2 hd _ has-only-child.ensures (ap not c.if-not-has_only_child.false) _ _ _ load_child_lem.ensures.answer _ _ c.in_ok-u.was,
+      hand_sized args.image.now args.lent args.self _ _ _ loop.t _ _ (args.n - loop._i) loop.invariant.2 hd _ has-only-child.ensures (ap not c.if-not-has_only_child.false) _ _ _ load_child_lem.ensures.answer _ _ c.in_ok-u.was,
     )
 
-pub returns-then-not-fits : goal.returns-then-not-fits
-returns-then-not-fits c =
+pub returns-then-not-fits_as_root : goal.returns-then-not-fits_as_root
+returns-then-not-fits_as_root c =
     let args = c.args in
     let loop = c.loop-i in
     let hd : 0 < args.n - loop._i = omega (arith, c.loop-i-test.true) in
-    let has-only-child = c.has_only_child-only in
+    let has-only-child = c.has_only_child in
     let load_child_lem = c.load_child in
-    let fits-as-root = c.fits_as_root-fits in
-    record { answer = hand_unfit args.image.now args.lent args.self _ _ _ loop.t _ _ (args.n - loop._i) loop.invariant.2 hd _ has-only-child.ensures (ap not c.if-not-only.false) _ _ _ load_child_lem.ensures.answer _ _ c.in_ok-u.was _ fits-as-root.ensures (ap not c.if-not-fits.true); ready = ready_at _ _ _ _ _ _ _ c.in_ok-u.was load_child_lem.ensures.ready; follows = hand_on args.image.now args.lent args.self _ _ _ loop.t _ _ (args.n - loop._i) loop.invariant.2 hd _ has-only-child.ensures (ap not c.if-not-only.false) _ _ _ load_child_lem.ensures.answer load_child_lem.ensures.follows }
+    let fits-as-root = c.fits_as_root in
+    record { answer = hand_unfit args.image.now args.lent args.self _ _ _ loop.t _ _ (args.n - loop._i) loop.invariant.2 hd _ has-only-child.ensures (ap not c.if-not-has_only_child.false) _ _ _ load_child_lem.ensures.answer _ _ c.in_ok-u.was _ fits-as-root.ensures (ap not c.if-not-fits_as_root.true); ready = ready_at _ _ _ _ _ _ _ c.in_ok-u.was load_child_lem.ensures.ready; follows = hand_on args.image.now args.lent args.self _ _ _ loop.t _ _ (args.n - loop._i) loop.invariant.2 hd _ has-only-child.ensures (ap not c.if-not-has_only_child.false) _ _ _ load_child_lem.ensures.answer load_child_lem.ensures.follows }
 
 pub returns-then-u-eq0 : goal.returns-then-u-eq0
 returns-then-u-eq0 c =
     let args = c.args in
     let loop = c.loop-i in
     let hd : 0 < args.n - loop._i = omega (arith, c.loop-i-test.true) in
-    let has-only-child = c.has_only_child-only in
+    let has-only-child = c.has_only_child in
     let load_child_lem = c.load_child in
-    let fits-as-root = c.fits_as_root-fits in
+    let fits-as-root = c.fits_as_root in
     let if3 = c.if-u-eq0 in
-    record { answer = hand_count args.image.now args.lent args.self _ _ _ loop.t _ _ (args.n - loop._i) loop.invariant.2 hd _ has-only-child.ensures (ap not c.if-not-only.false) _ _ _ load_child_lem.ensures.answer _ _ c.in_ok-u.was _ fits-as-root.ensures (ap not c.if-not-fits.false) if3.true; ready = tt; follows = hand_on args.image.now args.lent args.self _ _ _ loop.t _ _ (args.n - loop._i) loop.invariant.2 hd _ has-only-child.ensures (ap not c.if-not-only.false) _ _ _ load_child_lem.ensures.answer load_child_lem.ensures.follows }
+    record { answer = hand_count args.image.now args.lent args.self _ _ _ loop.t _ _ (args.n - loop._i) loop.invariant.2 hd _ has-only-child.ensures (ap not c.if-not-has_only_child.false) _ _ _ load_child_lem.ensures.answer _ _ c.in_ok-u.was _ fits-as-root.ensures (ap not c.if-not-fits_as_root.false) if3.true; ready = tt; follows = hand_on args.image.now args.lent args.self _ _ _ loop.t _ _ (args.n - loop._i) loop.invariant.2 hd _ has-only-child.ensures (ap not c.if-not-has_only_child.false) _ _ _ load_child_lem.ensures.answer load_child_lem.ensures.follows }
 
 pub handed_down-t-requires : goal.handed_down-t-requires
 handed_down-t-requires c =
     let args = c.args in
     let loop = c.loop-i in
     let hd : 0 < args.n - loop._i = omega (arith, c.loop-i-test.true) in
-    let has-only-child = c.has_only_child-only in
+    let has-only-child = c.has_only_child in
     let load_child_lem = c.load_child in
     let if3 = c.if-u-eq0 in
-    record { ready = ready_at _ _ _ _ _ _ _ c.in_ok-u.was load_child_lem.ensures.ready; place = (hand_root args.image.now args.lent args.self _ _ _ loop.t _ _ (args.n - loop._i) loop.invariant.2 hd _ has-only-child.ensures (ap not c.if-not-only.false) _ _ _ load_child_lem.ensures.answer _ _ c.in_ok-u.was, hand_child args.image.now args.lent args.self _ _ _ loop.t _ _ (args.n - loop._i) loop.invariant.2 hd _ has-only-child.ensures (ap not c.if-not-only.false) _ _ _ load_child_lem.ensures.answer _ _ c.in_ok-u.was, hand_apart args.image.now args.lent args.self _ _ _ loop.t _ _ (args.n - loop._i) loop.invariant.2 hd _ has-only-child.ensures (ap not c.if-not-only.false) _ _ _ load_child_lem.ensures.answer _ _ c.in_ok-u.was, omega (arith, if3.false)) }
+    record { ready = ready_at _ _ _ _ _ _ _ c.in_ok-u.was load_child_lem.ensures.ready; place = (hand_root args.image.now args.lent args.self _ _ _ loop.t _ _ (args.n - loop._i) loop.invariant.2 hd _ has-only-child.ensures (ap not c.if-not-has_only_child.false) _ _ _ load_child_lem.ensures.answer _ _ c.in_ok-u.was, hand_child args.image.now args.lent args.self _ _ _ loop.t _ _ (args.n - loop._i) loop.invariant.2 hd _ has-only-child.ensures (ap not c.if-not-has_only_child.false) _ _ _ load_child_lem.ensures.answer _ _ c.in_ok-u.was, hand_apart args.image.now args.lent args.self _ _ _ loop.t _ _ (args.n - loop._i) loop.invariant.2 hd _ has-only-child.ensures (ap not c.if-not-has_only_child.false) _ _ _ load_child_lem.ensures.answer _ _ c.in_ok-u.was, omega (arith, if3.false)) }
 
 pub loop-i-preserved : goal.loop-i-preserved
 loop-i-preserved c =
     let args = c.args in
     let loop = c.loop-i in
     let hd : 0 < args.n - loop._i = omega (arith, c.loop-i-test.true) in
-    let has-only-child = c.has_only_child-only in
+    let has-only-child = c.has_only_child in
     let load_child_lem = c.load_child in
-    let fits-as-root = c.fits_as_root-fits in
+    let fits-as-root = c.fits_as_root in
     let if3 = c.if-u-eq0 in
     let handed-down = c.handed_down-t in
     let e : args.n - (loop._i + 1) ≡ args.n - loop._i - 1 = omega arith in (
       search (rules, c.handed_down-t.auto, c.load_child.auto, c.loop-i.invariant),
       search (rules, c.handed_down-t.auto, c.load_child.auto, c.loop-i.invariant),
-      rw e (hand_next args.image.now args.lent args.self _ _ _ loop.t _ _ (args.n - loop._i) loop.invariant.2 hd _ has-only-child.ensures (ap not c.if-not-only.false) _ _ _ load_child_lem.ensures.answer _ _ c.in_ok-u.was _ fits-as-root.ensures (ap not c.if-not-fits.false) if3.false load_child_lem.ensures.follows _ _ _ handed-down.ensures),
+      rw e (hand_next args.image.now args.lent args.self _ _ _ loop.t _ _ (args.n - loop._i) loop.invariant.2 hd _ has-only-child.ensures (ap not c.if-not-has_only_child.false) _ _ _ load_child_lem.ensures.answer _ _ c.in_ok-u.was _ fits-as-root.ensures (ap not c.if-not-fits_as_root.false) if3.false load_child_lem.ensures.follows _ _ _ handed-down.ensures),
     )
 
 pub returns : goal.returns

@@ -2,6 +2,7 @@ use mathlib.Core.Path.{refl}
 use native.Mathlib.Omega.{arith}
 use Rattle.tree.specs.laws.remove.Words.{old_lies, old_ready, new_lies, handed_done}
 use borrow.Author.Rules.{rules}
+use Rattle.tree.specs.State.{with_counts}
 use Rattle.tree.proofs.editor.Tree.handed_down.Goals as goal
 
 ruleset laws = (rules, old_lies, old_ready, new_lies)
@@ -12,12 +13,13 @@ put_words-requires c = search laws
 pub put_words-requires-2 : goal.put_words-requires-2
 put_words-requires-2 c = search laws
 
-pub overflow_sub-info : goal.overflow_sub-info
-overflow_sub-info c =
+pub overflow_sub-self : goal.overflow_sub-self
+overflow_sub-self c =
     let pre = c.requires in
     omega (arith, pre.place.3)
 
 pub returns : goal.returns
+unfolding with_counts
 returns c =
     let args = c.args in
     let pre = c.requires in
@@ -25,5 +27,4 @@ returns c =
     let load2 = c.load-new in
     let put-words = c.put_words in
     let put-words2 = c.put_words-2 in
-    let recounted = c.recounted-self in
-    handed_done _ _ _ args.self _ _ pre.ready pre.place.0 pre.place.1 _ _ load.ensures load2.ensures _ _ put-words.auto.heads put-words.auto.bytes pre.place.2 put-words.ensures.put _ _ put-words2.auto.heads put-words2.auto.bytes put-words.ensures.follows put-words2.ensures.put put-words2.ensures.follows _ _ recounted.ensures refl
+    handed_done _ _ _ args.self _ _ pre.ready pre.place.0 pre.place.1 _ _ load.ensures load2.ensures _ _ put-words.auto.heads put-words.auto.bytes pre.place.2 put-words.ensures.put _ _ put-words2.auto.heads put-words2.auto.bytes put-words.ensures.follows put-words2.ensures.put put-words2.ensures.follows _ _ refl refl

@@ -1,7 +1,6 @@
-use native.Mathlib.Omega.{arith}
-use mathlib.Core.Path.{refl, sym}
+use mathlib.Core.Path.{sym}
 use lib.Seq.{length-take-le}
-use Rattle.tree.specs.laws.cut.LinkChild.{child_slot, child_index, child_alive, child_room, child_short, child_mark, child_linked}
+use Rattle.tree.specs.laws.cut.LinkChild.{child_slot, child_index, child_alive, child_room, child_short, child_held, child_linked}
 use borrow.Author.Rules.{rules}
 use Rattle.tree.proofs.editor.Tree.link_child.Goals as goal
 
@@ -9,7 +8,7 @@ pub offset_at-at-requires : goal.offset_at-at-requires
 offset_at-at-requires c =
     let p = c.requires in
     let a = c.args in
-    record { ready = p.ready; n_lt_used = (child_slot _ _ _ _ _ _ a.self _ _ p.ready p.room, child_index _ _ _ _ _ _ a.self _ _ p.ready p.room) }
+    record { n_lt_used = (child_slot _ _ _ _ _ _ a.self _ _ p.ready p.room, child_index _ _ _ _ _ _ a.self _ _ p.ready p.room) }
 
 pub slice_bounds-insert_at-end-2 : goal.slice_bounds-insert_at-end-2
 slice_bounds-insert_at-end-2 c = sym (length-take-le _ _ (search rules))
@@ -19,9 +18,8 @@ insert_at-requires c =
     let p = c.requires in
     let a = c.args in
     let k = c.first_key-len.ensures.key in
-    let v = c.put_field.ensures in
-    record { ready = p.ready; place = (child_slot _ _ _ _ _ _ a.self _ _ p.ready p.room, child_index _ _ _ _ _ _ a.self _ _ p.ready p.room, c.offset_at-at.ensures, child_alive _ _ _ _ _ _ a.self _ _ p.ready p.room); room = child_room _ _ _ _ _ _ a.self _ _ p.ready p.room _ _ _ k refl v; stored = (child_short _ _ _ _ _ _ a.self _ _ p.ready p.room _ _ _ k refl v, omega arith, child_mark _ _ _ _ _ _ a.self _ _ p.ready p.room _ _ _ k refl v) }
+    record { ready = p.ready; place = (child_slot _ _ _ _ _ _ a.self _ _ p.ready p.room, child_index _ _ _ _ _ _ a.self _ _ p.ready p.room, c.offset_at-at.ensures, child_alive _ _ _ _ _ _ a.self _ _ p.ready p.room); room = child_room _ _ _ _ _ _ a.self _ _ p.ready p.room _ k; stored = (child_short _ _ _ _ _ _ a.self _ _ p.ready p.room _ k, child_held _ _ _ _ _ _ a.self _ _ p.ready p.room _ k) }
 
 pub returns : goal.returns
 returns c =
-    let p = c.requires in let a = c.args in let k = c.first_key-len.ensures.key in let v = c.put_field.ensures in let w = c.insert_at in child_linked _ _ _ _ _ _ a.self _ _ p.ready p.room _ _ _ k refl v _ _ w.auto.heads w.auto.bytes w.ensures.put w.ensures.follows
+    let p = c.requires in let a = c.args in let k = c.first_key-len.ensures.key in let w = c.insert_at in child_linked _ _ _ _ _ _ a.self _ _ p.ready p.room _ k _ _ w.auto.heads w.auto.bytes w.ensures.put w.ensures.follows

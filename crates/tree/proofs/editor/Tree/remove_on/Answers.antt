@@ -9,33 +9,33 @@ pub shrink-requires-clause-ready : goal.shrink-requires-clause-ready
 shrink-requires-clause-ready c =
     let p = c.requires in
     let a = c.args in
-    (p.ready.0, on_in a.image.now a.lent a.self _ _ a.way.now a.kids.now a.steps a.i p.ready.2 p.way)
+    (p.ready.0, on_in a.image.now a.lent a.self _ _ a.way.now a.f.index p.way)
 
 pub shrink-requires-clause-steps : goal.shrink-requires-clause-steps
 shrink-requires-clause-steps c =
     let p = c.requires in
     let a = c.args in
-    (p.ready.1, p.ready.3, on_root a.image.now a.lent a.self _ _ a.way.now a.kids.now a.steps a.i p.ready.2 p.way)
+    (p.ready.1, on_root a.image.now a.lent a.self _ _ a.way.now a.f.index p.way)
 
 pub shrink-requires-clause-room : goal.shrink-requires-clause-room
 shrink-requires-clause-room c =
     let p = c.requires in
     let a = c.args in
-    on_drops a.image.now a.lent a.self _ _ a.way.now a.kids.now a.steps a.i p.ready.2 p.way
+    on_drops a.image.now a.lent a.self _ _ a.way.now a.f.index p.way
 
 pub returns-in_err-t-clause-answer : goal.returns-in_err-t-clause-answer
 returns-in_err-t-clause-answer c =
     let p = c.requires in
     let a = c.args in
     rw (handed_on c.from_residual.result _ c.from_residual.ensures.1)
-    (on_refused a.image.now a.lent a.self _ _ a.way.now a.kids.now a.steps a.i p.ready.2 p.way _ _ _ c.shrink.ensures.answer _ c.in_err-t.was)
+    (on_refused a.image.now a.lent a.self _ _ a.way.now a.f.index p.way _ _ _ c.shrink.ensures.answer _ c.in_err-t.was)
 
 pub index_keys-requires-clause-ready : goal.index_keys-requires-clause-ready
 index_keys-requires-clause-ready c =
     let p = c.requires in
     let a = c.args in
     let s = c.shrink.ensures in
-    (on_ready a.image.now a.lent a.self _ _ a.way.now a.kids.now a.steps a.i p.ready.2 p.way _ _ _ s.answer _ c.in_ok-t.was s.ready.0 s.ready.1, on_still a.image.now a.lent a.self _ _ a.way.now a.kids.now a.steps a.i p.ready.2 p.way _ _ _ s.answer _ c.in_ok-t.was s.ready.0 s.ready.1)
+    (on_ready a.image.now a.lent a.self _ _ a.way.now a.f.index p.way _ _ _ s.answer _ c.in_ok-t.was s.ready.0 s.ready.1, on_still a.image.now a.lent a.self _ _ a.way.now a.f.index p.way _ _ _ s.answer _ c.in_ok-t.was s.ready.0 s.ready.1)
 
 pub index_keys-requires-clause-room : goal.index_keys-requires-clause-room
 index_keys-requires-clause-room c =
@@ -43,7 +43,7 @@ index_keys-requires-clause-room c =
     let a = c.args in
     let s = c.shrink.ensures in
     let b : Bytes c.shrink.new.bytes = search (rules, bytes_known) in
-    on_index a.image.now a.lent a.self _ _ a.way.now a.kids.now a.steps a.i p.ready.2 p.way _ _ _ s.answer _ c.in_ok-t.was s.ready.0 s.ready.1 b _ p.room
+    on_index a.image.now a.lent a.self _ _ a.way.now a.f.index p.way _ _ _ s.answer _ c.in_ok-t.was s.ready.0 s.ready.1 b _ p.room
 
 pub cuts-requires-clause-room : goal.cuts-requires-clause-room
 cuts-requires-clause-room c =
@@ -51,7 +51,7 @@ cuts-requires-clause-room c =
     let a = c.args in
     let s = c.shrink.ensures in
     let k = c.index_keys in
-    (on_cuts a.image.now a.lent a.self _ _ a.way.now a.kids.now a.steps a.i p.ready.2 p.way _ _ _ s.answer _ c.in_ok-t.was s.ready.0 s.ready.1 _ _ k.ensures, omega (arith, p.room, k.auto))
+    (on_cuts a.image.now a.lent a.self _ _ a.way.now a.f.index p.way _ _ _ s.answer _ c.in_ok-t.was s.ready.0 s.ready.1 _ _ k.ensures, omega (arith, p.room, k.auto))
 
 pub returns-in_err-u-clause-answer : goal.returns-in_err-u-clause-answer
 returns-in_err-u-clause-answer c =
@@ -59,21 +59,21 @@ returns-in_err-u-clause-answer c =
     let a = c.args in
     let s = c.shrink.ensures in
     rw (handed_on c.from_residual-in_err-u.result _ c.from_residual-in_err-u.ensures.1)
-    (on_uncut a.image.now a.lent a.self _ _ a.way.now a.kids.now a.steps a.i p.ready.2 p.way _ _ _ s.answer _ c.in_ok-t.was s.ready.0 s.ready.1 _ _ c.index_keys.ensures _ _ _ c.cuts.ensures.answer _ c.in_err-u.was)
+    (on_uncut a.image.now a.lent a.self _ _ a.way.now a.f.index p.way _ _ _ s.answer _ c.in_ok-t.was s.ready.0 s.ready.1 _ _ c.index_keys.ensures _ _ _ c.cuts.ensures.answer _ c.in_err-u.was)
 
 pub hand_down-requires-clause-trust : goal.hand_down-requires-clause-trust
 hand_down-requires-clause-trust c =
     let p = c.requires in
     let a = c.args in
     let s = c.shrink.ensures in
-    on_trust a.image.now a.lent a.self _ _ a.way.now a.kids.now a.steps a.i p.ready.2 p.way _ _ _ s.answer _ c.in_ok-t.was s.ready.0 s.ready.1 _ _ c.index_keys.ensures _ _ _ c.cuts.ensures.answer _ c.in_ok-u.was
+    on_trust a.image.now a.lent a.self _ _ a.way.now a.f.index p.way _ _ _ s.answer _ c.in_ok-t.was s.ready.0 s.ready.1 _ _ c.index_keys.ensures _ _ _ c.cuts.ensures.answer _ c.in_ok-u.was
 
 pub returns-clause-answer : goal.returns-clause-answer
 returns-clause-answer c =
     let p = c.requires in
     let a = c.args in
     let s = c.shrink.ensures in
-    on_done a.image.now a.lent a.self _ _ a.way.now a.kids.now a.steps a.i p.ready.2 p.way _ _ _ s.answer _ c.in_ok-t.was s.ready.0 s.ready.1 _ _ c.index_keys.ensures _ _ _ c.cuts.ensures.answer _ c.in_ok-u.was _ _ c.level_at-level.ensures c.hand_down.ensures.answer
+    on_done a.image.now a.lent a.self _ _ a.way.now a.f.index p.way _ _ _ s.answer _ c.in_ok-t.was s.ready.0 s.ready.1 _ _ c.index_keys.ensures _ _ _ c.cuts.ensures.answer _ c.in_ok-u.was _ _ c.level_at-level.ensures c.hand_down.ensures.answer
 
 pub returns-clause-follows : goal.returns-clause-follows
 returns-clause-follows c =
@@ -82,5 +82,5 @@ returns-clause-follows c =
     let s = c.shrink.ensures in
     let k = c.index_keys.ensures in
     let d = c.cuts.ensures in
-    on_back a.image.now a.lent a.self _ _ a.way.now a.kids.now a.steps a.i p.ready.2 p.way _ _ _ s.answer _ c.in_ok-t.was s.ready.0 s.ready.1 _ _ k _ _ _ d.answer _ c.in_ok-u.was _ _
-    (on_follows a.image.now a.lent a.self _ _ a.way.now a.kids.now a.steps a.i p.ready.2 p.way _ _ _ s.answer _ c.in_ok-t.was s.ready.0 s.ready.1 _ _ k _ _ _ d.answer s.follows d.follows) c.hand_down.ensures.follows
+    on_back a.image.now a.lent a.self _ _ a.way.now a.f.index p.way _ _ _ s.answer _ c.in_ok-t.was s.ready.0 s.ready.1 _ _ k _ _ _ d.answer _ c.in_ok-u.was _ _
+    (on_follows a.image.now a.lent a.self _ _ a.way.now a.f.index p.way _ _ _ s.answer _ c.in_ok-t.was s.ready.0 s.ready.1 _ _ k _ _ _ d.answer s.follows d.follows) c.hand_down.ensures.follows

@@ -4,8 +4,8 @@ use Rattle.tree.proofs.editor.Tree.room_for.Goals as goal
 
 ruleset laws = (rules, no_count, no_slots, has_room)
 
-pub returns-then-n-info : goal.returns-then-n-info
-returns-then-n-info c = search laws
+pub returns-then-n-self : goal.returns-then-n-self
+returns-then-n-self c = search laws
 
 pub returns-then-slots-self : goal.returns-then-slots-self
 returns-then-slots-self c = search laws

@@ -22,11 +22,11 @@ mark_dirty-requires c = search laws
 pub overflow_sub-leaf : goal.overflow_sub-leaf
 overflow_sub-leaf c = search laws
 
-pub offset_bounds-way-steps : goal.offset_bounds-way-steps
-offset_bounds-way-steps c = search laws
+pub offset_bounds-way-way : goal.offset_bounds-way-way
+offset_bounds-way-way c = search laws
 
-pub bounds-way-steps : goal.bounds-way-steps
-bounds-way-steps c = search laws
+pub bounds-way-way : goal.bounds-way-way
+bounds-way-way c = search laws
 
 pub mark_dirty-requires-2 : goal.mark_dirty-requires-2
 mark_dirty-requires-2 c = record { ready = search laws; n_lt_used = search laws }

@@ -1,17 +1,26 @@
-use Rattle.tree.specs.laws.upsert.Call.{in_refused, in_fits, in_put}
-use mathlib.Core.Path.{refl}
-use Rattle.std.proofs.Common.{ap}
-use mathlib.Core.Bool.{not}
+use Rattle.tree.specs.laws.upsert.Call.{in_refused, in_fits, in_put, upserted_trusts}
+use Rattle.tree.specs.laws.refusal1.EditCalls.{stays_trusts, edited_undone, edited_called}
+use borrow.Author.Rules.{rules}
+use Rattle.std.proofs.Common.{◌∙◌}
 use Rattle.tree.proofs.editor.Tree.upsert_in.Goals as goal
 
-pub returns-then-not-entry_fits : goal.returns-then-not-entry_fits
-returns-then-not-entry_fits c =
-    record { answer = in_refused c.args.image.now c.args.lent c.args.self _ _ _ _ _ (c.entry_fits.ensures _ _ _) (ap not c.if-not-entry_fits.true); left = (refl, c.requires.trusts.ready) }
+pub returns-in_err-check-clause-answer : goal.returns-in_err-check-clause-answer
+returns-in_err-check-clause-answer c = search (rules, in_refused)
 
-pub upsert_undone-requires : goal.upsert_undone-requires
-upsert_undone-requires c =
-    record { trusts = c.requires.trusts; entry = (in_fits c.args.image.now c.args.lent c.args.self _ _ _ _ _ (c.entry_fits.ensures _ _ _) (ap not c.if-not-entry_fits.false), c.requires.room) }
+pub undone-requires-clause-callable : goal.undone-requires-clause-callable
+undone-requires-clause-callable c = search (rules, stays_trusts, in_fits)
 
-pub returns : goal.returns
-returns c =
-    record { answer = in_put c.args.image.now c.args.lent c.args.self _ _ _ _ _ (c.entry_fits.ensures _ _ _) (ap not c.if-not-entry_fits.false) _ c.upsert_undone.ensures.answer; left = c.upsert_undone.ensures.left }
+pub returns-clause-answer : goal.returns-clause-answer
+returns-clause-answer c =
+    let (h, b, h', b', s, p, u) = c.undone.ensures in
+    edited_undone c.args.lent c.args.self _ _ h'.now b'.now _ _ _ u
+    ∙ search rules
+    ∙ in_put _ c.args.lent c.args.self _ _ _ _ _ (c.entry_fits.ensures _ _ _) c.in_ok-check.ensures h.now b.now s
+
+pub returns-clause-left : goal.returns-clause-left
+returns-clause-left c =
+    let (h, b, h', b', s, p, u) = c.undone.ensures in
+    let t = stays_trusts c.args.image.now c.args.lent c.args.self _ _ h.now b.now c.requires.trusts s in
+    let f = in_fits c.args.image.now c.args.lent c.args.self _ _ _ _ _ (c.entry_fits.ensures _ _ _) c.in_ok-check.ensures h.now b.now s in
+    edited_called c.args.lent c.args.self _ _ h'.now b'.now _ _ _ _ u
+    (upserted_trusts c.args.image.now c.args.lent c.args.self h.now b.now c.args.key.now _ t f _ _ _ (search rules) (search rules))

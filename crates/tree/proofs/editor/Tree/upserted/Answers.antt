@@ -1,5 +1,6 @@
 use Rattle.tree.specs.laws.base.Refused.{handed_on}
-use Rattle.tree.specs.laws.upsert.Call.{went_low, went_refused, went_answer, went_gone, went_follows}
+use Rattle.tree.specs.laws.upsert.Call.{went_few, went_low, went_refused, went_answer, went_gone, went_follows}
+use native.Mathlib.Omega.{arith}
 use borrow.Author.Rules.{rules}
 use Rattle.tree.proofs.editor.Tree.upserted.Goals as goal
 
@@ -11,14 +12,18 @@ returns-in_err-w-clause-answer c =
     rw (handed_on c.from_residual.result _ c.from_residual.ensures.1)
     (went_refused _ _ _ _ _ c.requires.trusts _ c.level_at-level.ensures _ _ _ _ c.way.ensures.answer _ _ c.in_err-w.was)
 
+pub shared_ref_as_front-upsert_on : goal.shared_ref_as_front-upsert_on
+shared_ref_as_front-upsert_on c =
+    omega (arith, went_few _ _ _ _ _ c.requires.trusts _ c.level_at-level.ensures _ _ _ _ c.way.ensures.answer _ c.in_ok-w.was (search (rules, c.way.type_inv)))
+
 pub upsert_on-requires-clause-gone : goal.upsert_on-requires-clause-gone
 upsert_on-requires-clause-gone c =
-    went_gone _ _ _ _ _ c.requires.trusts _ c.level_at-level.ensures _ _ _ _ c.way.ensures.answer _ c.in_ok-w.was _ c.requires.entry.0 c.way.ensures.ready (search (rules, c.way.type_inv)) (search (rules, c.way.type_inv))
+    went_gone _ _ _ _ _ c.requires.trusts _ c.level_at-level.ensures _ _ _ _ c.way.ensures.answer _ c.in_ok-w.was (search (rules, c.way.type_inv)) _ c.requires.entry.0 c.way.ensures.ready
 
 pub returns-clause-answer : goal.returns-clause-answer
 returns-clause-answer c =
-    went_answer _ _ _ _ _ c.requires.trusts _ c.level_at-level.ensures _ _ _ _ c.way.ensures.answer _ c.in_ok-w.was _ _ c.upsert_on.ensures.answer
+    went_answer _ _ _ _ _ c.requires.trusts _ c.level_at-level.ensures _ _ _ _ c.way.ensures.answer _ c.in_ok-w.was (search (rules, c.way.type_inv)) _ _ c.upsert_on.ensures.answer
 
 pub returns-clause-follows : goal.returns-clause-follows
 returns-clause-follows c =
-    went_follows _ _ _ _ _ c.requires.trusts _ c.level_at-level.ensures _ _ _ _ c.way.ensures.answer _ c.in_ok-w.was _ _ c.way.ensures.follows c.upsert_on.ensures.follows
+    went_follows _ _ _ _ _ c.requires.trusts _ c.level_at-level.ensures _ _ _ _ c.way.ensures.answer _ c.in_ok-w.was (search (rules, c.way.type_inv)) _ _ c.way.ensures.follows c.upsert_on.ensures.follows

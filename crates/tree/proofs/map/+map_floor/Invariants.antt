@@ -1,4 +1,0 @@
-use Rattle.tree.proofs.map.+map_floor.Given as goal
-
-abbrev pub decreases-map_floor : goal.decreases-map_floor
-decreases-map_floor l = l.level

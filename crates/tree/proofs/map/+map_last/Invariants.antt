@@ -1,4 +1,0 @@
-use Rattle.tree.proofs.map.+map_last.Given as goal
-
-abbrev pub decreases-map_last : goal.decreases-map_last
-decreases-map_last l = l.level
