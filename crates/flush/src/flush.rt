@@ -1,22 +1,27 @@
 // Flush (`flush` and `write` of write/tree.rs): dead nodes listed, dirty ones written, children before parent.
-ghost use Rattle.std.specs.Prelude.{◌≡◌, [], true, cond, not, ◌&&◌, ℕ, ◌+◌, ◌*◌, ◌/◌, ◌≤◌, ◌<◌, ◌^◌, length, eqb};
-ghost use Rattle.tree.specs.Format.{marked, Sized};
+ghost use Rattle.std.specs.Prelude.{◌≡◌, [], ◌∷◌, true, cond, ◌&&◌, ◌+◌, ◌*◌, ◌/◌, ◌≤◌, ◌<◌, ◌^◌, length, eqb, option_to_list};
+ghost use Rattle.tree.specs.Format.{marked, only, Sized};
 ghost use Rattle.tree.specs.Lent.{lent_of};
 ghost use Rattle.tree.specs.Trust.{trusted};
 ghost use Rattle.tree.specs.Workspace.{state_of};
 ghost use Rattle.tree.specs.Trusts.{Ready};
-ghost use Rattle.flush.specs.Space.{space_of, usable, space_holds, Held};
+ghost use Rattle.flush.specs.Space.{space_of, usable, space_holds};
 ghost use Rattle.flush.specs.Flush.{type_of, write_node, write_from, sum_from, fill, lists_hold, flush_in};
 ghost use Rattle.flush.specs.Answers.{lists_of, flushed_of, flushed_means, flushed_in, flushed_leaves};
 ghost use Rattle.flush.specs.internal.Lists.{Pushed, Reported};
 ghost use Rattle.flush.specs.internal.Counts.{dirty_one, id_one, Counted};
-ghost use Rattle.flush.specs.internal.Walk.{flushing_of, packed_at, Alive, Dirty, Standing, Spaced, Fitting, Room, Left, WroteAt};
-ghost use Rattle.flush.specs.internal.Calls.{short_of, all_flushed, Finished, FlushCalled};
+ghost use Rattle.flush.specs.internal.Walk.{packed_at, Fitting, state_in, walk_of, StandsIn, AliveIn, DirtyIn, InImage, SpacedIn, FittingIn, RoomIn, WroteIn, LeftIn, LongIn, Listed, Kept, SameLists};
+ghost use Rattle.tree.specs.internal.View.{seen};
+ghost use Rattle.flush.specs.internal.Calls.{short_of, all_of, FinishedIn, FlushCalled};
 
 use crate::space;
+use crate::space::Chunks;
 use tree::editor::Tree;
+use tree::head::Head;
 use tree::lent::Lent;
+use tree::record::Record;
 use tree::refusal::Refusal;
+use tree::view::View;
 use tree::{bank, block, kids, lent, pack};
 
 // B-tree root and node, and the storage class of a physical one.
@@ -25,9 +30,6 @@ const BTREE: u64 = 2;
 const BTREE_NODE: u64 = 3;
 
 const PHYSICAL: u64 = 0x40000000;
-
-// The last id.
-const MOST_ID: u64 = 0xFFFFFFFFFFFFFFFF;
 
 // How far a flush has come: the next id, and how much stands in each list.
 #[derive(Clone, Copy)]
@@ -49,66 +51,62 @@ pub struct Flushed {
     pub done: Flushing,
 }
 
-// A number that a mark says is there, stored where a list ends. The answer is the list's new end.
-fn push_if(list: &mut [u64], end: usize, mark: u64, x: u64) -> usize
-    requires { mark ≡ 1 → end < length list.old }
-    ensures { Pushed end (marked mark x) list.old list.new result }
+// A number, where there is one, stored where a list ends. The answer is the list's new end.
+#[tactic(auto, using(crate::specs::laws::ListLaws::pushing))]
+fn push(list: &mut [u64], end: usize, number: Option<u64>) -> usize
+    requires { end + length (option_to_list number) ≤ length list.old }
+    ensures { Pushed end (option_to_list number) list.old list.new result }
 {
-    if mark != 1 {
+    let Some(x) = number else {
         return end;
-    }
+    };
     list[end] = x;
     end + 1
 }
 
-// The mark of the block that a slot leaves, as a dead one does and a dirty one that is written.
-fn left_place(leaves: bool, placed: u64) -> u64
-    ensures { ((x : ℕ) → marked result x ≡ cond leaves (marked placed x) []) × (result ≡ 1 → placed ≡ 1) }
+// The id that a removed node leaves: none in a physical tree.
+fn removed_id(by_id: bool, head: Head) -> Option<u64>
+    ensures { option_to_list result ≡ cond by_id (marked head.named head.id) [] }
 {
-    if leaves {
-        return placed;
-    }
-    0
+    if by_id { head.id() } else { None }
 }
 
-// The mark of a dead slot's id, in a virtual tree.
-fn dead_name(dead: u64, by_id: bool, named: u64) -> u64
-    ensures { (x : ℕ) → marked result x ≡ cond (eqb dead 1 && by_id) (marked named x) [] }
-{
-    if dead != 1 {
-        return 0;
-    }
-    if by_id {
-        return named;
-    }
-    0
+// The lists that a flush fills, and how far it has come.
+#[derive(Drop)]
+struct Reports<'r> {
+    freed: &'r mut [u64],
+    removed: &'r mut [u64],
+    ids: &'r mut [u64],
+    places: &'r mut [u64],
+    done: Flushing,
 }
 
-// Dead nodes, in slot order: address to freed, id (virtual) to removed.
-fn dead_reports(
-    t: Tree,
-    heads: &[u64],
-    freed: &mut [u64],
-    removed: &mut [u64],
-    next: u64,
-) -> Flushing
-    requires { (t.used * 9 ≤ length heads.now) × (t.used ≤ length freed.old) × (t.used ≤ length removed.old) }
-    ensures { Reported t.by_id t.used next heads.now freed.old removed.old
-        freed.new removed.new result }
-{
-    let mut f = 0;
-    let mut r = 0;
-    for n in 0..t.used {
-        let h = block::words_at(heads, n);
-        f = push_if(freed, f, left_place(h.dead == 1, h.placed), h.block);
-        r = push_if(removed, r, dead_name(h.dead, t.by_id, h.named), h.id);
-    }
-    Flushing {
-        next: next,
-        freed: f,
-        removed: r,
-        moved: 0,
-        allocated: 0,
+impl<'r> Reports<'r> {
+    // Dead nodes, in slot order: address to freed, id (virtual) to removed.
+    fn list_dead(&mut self, t: Tree, heads: &[u64])
+        requires { (t.used * 9 ≤ length heads.now) × (t.used ≤ length self.old.freed.now) × (t.used ≤ length self.old.removed.now) }
+        ensures listed { Reported t.by_id t.used self.old.done.next heads.now self.old.freed.now self.old.removed.now
+            self.new.freed.now self.new.removed.now self.new.done }
+        ensures kept { Listed self.old self.new }
+    {
+        let mut f = 0;
+        let mut r = 0;
+        for n in 0..t.used {
+            let h = bank::live_at(heads, n);
+            if h.dead != 1 {
+                continue;
+            }
+            f = push(self.freed, f, h.block());
+            r = push(self.removed, r, removed_id(t.by_id, h));
+        }
+        let next = self.done.next;
+        self.done = Flushing {
+            next,
+            freed: f,
+            removed: r,
+            moved: 0,
+            allocated: 0,
+        };
     }
 }
 
@@ -119,85 +117,71 @@ pub struct Wanted {
     pub ids: u64,
 }
 
-// The sums with one node: its mark for dirty, and for an id.
-fn wanted_at(by_id: bool, dirty: u64, named: u64, s: Wanted) -> Wanted
-    requires { (s.dirty < 2 ^ 40) × (s.ids < 2 ^ 40) }
-    ensures { (result.dirty ≡ s.dirty + cond (eqb dirty 1) 1 0)
-        × (result.ids ≡ s.ids + cond (eqb dirty 1 && by_id && not (eqb named 1)) 1 0) }
+// Whether a node takes the next id: one of a virtual tree that has none.
+fn takes_id(by_id: bool, own: Option<u64>) -> bool
+    ensures { result ≡ by_id && eqb (length (option_to_list own)) 0 }
 {
-    if dirty != 1 {
+    own.is_none() && by_id
+}
+
+// The sums with one node: 1 for a dirty one; 1 for one that takes an id.
+#[tactic(auto, using(crate::specs::laws::TallyLaws::wanting))]
+fn wanted_at(by_id: bool, head: Head, s: Wanted) -> Wanted
+    requires { (s.dirty < 2 ^ 40) × (s.ids < 2 ^ 40) }
+    ensures { (result.dirty ≡ s.dirty + cond (eqb head.dirty 1) 1 0)
+        × (result.ids ≡ s.ids + cond (eqb head.dirty 1 && by_id && eqb (length (marked head.named head.id)) 0) 1 0) }
+{
+    if head.dirty != 1 {
         return s;
     }
-    if by_id {
-        if named != 1 {
-            return Wanted {
-                dirty: s.dirty + 1,
-                ids: s.ids + 1,
-            };
-        }
-        return Wanted {
-            dirty: s.dirty + 1,
-            ids: s.ids,
-        };
-    }
+    let new = takes_id(by_id, head.id());
     Wanted {
         dirty: s.dirty + 1,
-        ids: s.ids,
+        ids: s.ids + u64::from(new),
     }
 }
 
 // The sums over the nodes reached from slot n, d levels down; they stop above a limit.
-fn count_from(
-    t: Tree,
-    heads: &[u64],
-    bytes: &[u8],
-    size: usize,
-    slots: usize,
-    n: usize,
-    d: u64,
-    limit: u64,
-    s: Wanted,
-) -> Wanted
-    requires ready { Ready size slots t.used heads.now bytes.now }
-    requires dirty_bound { (s.dirty ≤ limit + 1) × (s.ids ≤ s.dirty) × (limit < 2 ^ 32) }
-    ensures { Counted limit
-        (sum_from dirty_one d (state_of size t heads.now bytes.now) n)
-        (sum_from (id_one t.by_id) d (state_of size t heads.now bytes.now) n) s result 0 0 }
+fn count_from(v: View<'_, '_>, n: usize, d: u64, limit: u64, s: Wanted) -> Wanted
+    requires { (s.dirty ≤ limit + 1) × (s.ids ≤ s.dirty) × (limit < 2 ^ 32) }
+    ensures { Counted limit (sum_from dirty_one d (seen v.entry) n) (sum_from (id_one v.entry.tree.by_id) d (seen v.entry) n) s result 0 0 }
 {
-    if t.used <= n {
+    if v.tree.used <= n {
         return s;
     }
     if limit < s.dirty {
         return s;
     }
-    let h = block::words_at(heads, n);
-    let mut sum = wanted_at(t.by_id, h.dirty, h.named, s);
+    let h = bank::live_at(v.heads, n);
+    let mut sum = wanted_at(v.tree.by_id, h, s);
     if d == 0 {
         return sum;
     }
-    let part = bank::slot_of(bytes, size, n);
+    let part = bank::slot_of(v.bytes, v.lent.size, n);
     let mut at = 0;
     for _i in 0..h.count {
-        let kid = kids::kid_of(part, at);
-        at = kid.next;
-        let Some(slot) = kid.slot else {
+        let r = Record { slot: part, at };
+        let kid = kids::kid_of(r);
+        at = r.next();
+        let Some(slot) = kid else {
             continue;
         };
-        sum = count_from(t, heads, bytes, size, slots, slot, d - 1, limit, sum);
+        sum = count_from(v, slot, d - 1, limit, sum);
     }
     sum
 }
 
 // Contents, keys and values of the root as packed, in percent of its data space, rounded down.
-fn fill(t: Tree, heads: &[u64], bytes: &[u8], size: usize, slots: usize) -> u64
-    requires ready { Ready size slots t.used heads.now bytes.now }
-    requires sized { Sized t.info × (t.root < t.used) }
-    ensures { result ≡ fill (state_of size t heads.now bytes.now) }
+#[tactic(auto, using(crate::specs::laws::TallyLaws::fill_is))]
+fn fill(v: View<'_, '_>) -> u64
+    requires { Sized v.tree.info × (v.tree.root < v.tree.used) }
+    ensures { result ≡ fill (seen v.entry) }
 {
-    let n = t.root_length(heads, bytes, size, slots);
-    n * 100 / t.root_space()
+    let n = v.root_length();
+    n * 100 / v.tree.root_space()
 }
 
+#[tactic(auto, using(crate::specs::laws::WriteLaws::typing))]
 fn type_of(by_id: bool, root: bool) -> u64
     ensures { result ≡ type_of by_id root }
 {
@@ -213,249 +197,167 @@ fn type_of(by_id: bool, root: bool) -> u64
     PHYSICAL + BTREE_NODE
 }
 
-// 1 where a node of a virtual tree has no id, and takes the next.
-fn fresh(by_id: bool, named: u64) -> u64
-    ensures { result ≡ cond (by_id && not (eqb named 1)) 1 0 }
-{
-    if named == 1 {
-        return 0;
-    }
-    u64::from(by_id)
-}
-
 // The id of a node that is written: the next where it takes one, else its own.
-fn id_after(new: u64, next: u64, id: u64) -> u64
-    ensures { result ≡ cond (eqb new 1) next id }
+fn id_after(new: bool, next: u64, own: Option<u64>) -> Option<u64>
+    ensures { option_to_list result ≡ cond new (next ∷ []) (option_to_list own) }
 {
-    if new == 1 {
-        return next;
-    }
-    id
-}
-
-// The mark of that id: every written node of a virtual tree has one.
-fn named_after(by_id: bool, named: u64) -> u64
-    ensures { result ≡ cond by_id 1 named }
-{
-    if by_id {
-        return 1;
-    }
-    named
+    if new { Some(next) } else { own }
 }
 
 // The id in the block's header: of a physical node its address.
-fn block_id(by_id: bool, id: u64, a: u64) -> u64
-    ensures { result ≡ cond by_id id a }
+#[tactic(auto, using(crate::specs::laws::WriteLaws::only_or))]
+fn block_id(by_id: bool, id: Option<u64>, a: u64) -> u64
+    ensures { result ≡ cond by_id (only (option_to_list id)) a }
 {
-    if by_id {
-        return id;
-    }
-    a
+    if by_id { id.unwrap_or(0) } else { a }
 }
 
-// A node packed and sealed into the block that it is given.
-fn pack_at(
-    t: Tree,
-    image: &mut [u8],
-    heads: &[u64],
-    bytes: &[u8],
-    size: usize,
-    slots: usize,
-    n: usize,
-    a: usize,
-    oid: u64,
+// What a flush reads: the tree, its slots' bytes, the chunks' block counts, and the transaction that writes.
+#[derive(Clone, Copy)]
+struct Source<'s> {
+    tree: Tree,
+    lent: Lent,
+    bytes: &'s [u8],
+    counts: &'s [u32],
     xid: u64,
-)
-    requires standing { Standing size slots t heads.now bytes.now }
-    requires dirty { Dirty size t heads.now bytes.now n }
-    requires size_in_bounds { (a * size + size ≤ length image.old) × (a ≤ 2 ^ 20) }
-    ensures { image.new
-        ≡ packed_at (state_of size t heads.now bytes.now) xid n a oid image.old }
-{
-    let otype = type_of(t.by_id, n == t.root);
-    let start = a * size;
-    t.pack_slot(
-        &mut image[start..],
-        heads,
-        bytes,
-        size,
-        slots,
-        n,
-        oid,
-        xid,
-        otype,
-    );
 }
 
-// A dirty node in the block chosen for it: its old one freed, packed and sealed, clean.
-fn write_at(
-    t: Tree,
-    image: &mut [u8],
-    heads: &mut [u64],
-    bytes: &[u8],
-    freed: &mut [u64],
-    ids: &mut [u64],
-    places: &mut [u64],
-    size: usize,
-    slots: usize,
-    xid: u64,
-    n: usize,
-    a: usize,
-    w: Flushing,
-) -> Flushing
-    requires standing { Standing size slots t heads.old bytes.now }
-    requires dirty { Dirty size t heads.old bytes.now n }
-    requires size_in_bounds { (a * size + size ≤ length image.old) × (a ≤ 2 ^ 20) }
-    requires room { Room size t heads.old bytes.now freed.old ids.old places.old n w }
-    ensures wrote { WroteAt size t xid n a image.old image.new heads.old heads.new
-        bytes.now freed.old freed.new ids.old ids.new places.old
-        places.new w result }
-    ensures left { Left size slots t heads.old heads.new bytes.now freed.old
-        freed.new ids.old ids.new places.old places.new w result }
-{
-    let h = block::words_at(heads, n);
-    let new = fresh(t.by_id, h.named);
-    let id = id_after(new, w.next, h.id);
-    let oid = block_id(t.by_id, id, a as u64);
-    let left = left_place(h.dirty == 1, h.placed);
-    let f = push_if(freed, w.freed, left, h.block);
-    pack_at(t, image, heads, bytes, size, slots, n, a, oid, xid);
-    block::rewrite(heads, n, a as u64, named_after(t.by_id, h.named), id);
-    let moves = u64::from(t.by_id);
-    let m = push_if(ids, w.moved, moves, oid);
-    push_if(places, w.moved, moves, a as u64);
-    Flushing {
-        next: w.next + new,
-        freed: f,
-        removed: w.removed,
-        moved: m,
-        allocated: w.allocated + 1,
-    }
-}
-
-// A node after its children: a clean one stays; a dirty one takes the block chosen.
-fn write_node(
-    t: Tree,
-    image: &mut [u8],
-    bitmap: &mut [u8],
-    counts: &[u32],
-    free: &mut [u32],
-    heads: &mut [u64],
-    bytes: &[u8],
-    freed: &mut [u64],
-    ids: &mut [u64],
-    places: &mut [u64],
-    size: usize,
-    slots: usize,
-    xid: u64,
-    n: usize,
-    w: Flushing,
-) -> Flushing
-    requires standing { Standing size slots t heads.old bytes.now }
-    requires alive { Alive size t heads.old bytes.now n }
-    requires spaced_2 { Spaced size (length image.old / size) (space_of bitmap.old counts.now free.old) }
-    requires fitting { Fitting (length freed.old) (length ids.old) (length places.old)
-        (write_node (state_of size t heads.old bytes.now) xid n (flushing_of size t image.old
-        (space_of bitmap.old counts.now free.old) heads.old bytes.now freed.old ids.old places.old w)) }
-    ensures wrote { flushing_of size t image.new (space_of bitmap.new counts.now free.new)
-        heads.new bytes.now freed.new ids.new places.new result
-        ≡ write_node (state_of size t heads.old bytes.now) xid n (flushing_of size t image.old
-        (space_of bitmap.old counts.now free.old) heads.old bytes.now
-        freed.old ids.old places.old w) }
-    ensures left { Left size slots t heads.old heads.new bytes.now freed.old
-        freed.new ids.old ids.new places.old places.new w result }
-    ensures spaced { Spaced size (length image.old / size)
-        (space_of bitmap.new counts.now free.new) }
-{
-    let h = block::words_at(heads, n);
-    if h.dirty != 1 {
-        return w;
-    }
-    let Some(choice) = space::alloc(bitmap, counts, free, size) else {
-        return w;
-    };
-    let a = choice.block;
-    write_at(
-        t, image, heads, bytes, freed, ids, places, size, slots, xid, n, a, w,
-    )
-}
-
-// Children before parent and left to right, the depth falling with the level.
-fn write_from(
-    t: Tree,
-    image: &mut [u8],
-    bitmap: &mut [u8],
-    counts: &[u32],
-    free: &mut [u32],
-    heads: &mut [u64],
-    bytes: &[u8],
-    freed: &mut [u64],
-    ids: &mut [u64],
-    places: &mut [u64],
-    size: usize,
-    slots: usize,
-    xid: u64,
-    n: usize,
-    d: u64,
-    w: Flushing,
-) -> Flushing
-    requires standing { Standing size slots t heads.old bytes.now }
-    requires alive { Alive size t heads.old bytes.now n }
-    requires spaced_2 { Spaced size (length image.old / size) (space_of bitmap.old counts.now free.old) }
-    requires fitting { Fitting (length freed.old) (length ids.old) (length places.old)
-        (write_from d (state_of size t heads.old bytes.now) xid n (flushing_of size t image.old
-        (space_of bitmap.old counts.now free.old) heads.old bytes.now freed.old ids.old places.old w)) }
-    ensures wrote { flushing_of size t image.new (space_of bitmap.new counts.now free.new)
-        heads.new bytes.now freed.new ids.new places.new result
-        ≡ write_from d (state_of size t heads.old bytes.now) xid n (flushing_of size t image.old
-        (space_of bitmap.old counts.now free.old) heads.old bytes.now
-        freed.old ids.old places.old w) }
-    ensures left { Left size slots t heads.old heads.new bytes.now freed.old
-        freed.new ids.old ids.new places.old places.new w result }
-    ensures spaced { Spaced size (length image.old / size)
-        (space_of bitmap.new counts.now free.new) }
-{
-    if d == 0 {
-        return write_node(
-            t, image, bitmap, counts, free, heads, bytes, freed, ids, places, size, slots, xid, n,
-            w,
-        );
-    }
-    let h = block::words_at(heads, n);
-    let part = bank::slot_of(bytes, size, n);
-    let mut v = w;
-    let mut at = 0;
-    for _i in 0..h.count {
-        let kid = kids::kid_of(part, at);
-        at = kid.next;
-        let Some(slot) = kid.slot else {
-            continue;
-        };
-        v = write_from(
-            t,
-            image,
-            bitmap,
-            counts,
-            free,
+impl<'s> Source<'s> {
+    // A node packed and sealed into the block that it is given.
+    fn pack_at(self, image: &mut [u8], heads: &[u64], n: usize, a: usize, oid: u64)
+        requires standing { StandsIn self heads.now }
+        requires dirty { DirtyIn self heads.now n }
+        requires inside { InImage self image.old a }
+        ensures { image.new ≡ packed_at (state_in self.entry heads.now) self.entry.xid n a oid image.old }
+    {
+        let otype = type_of(self.tree.by_id, n == self.tree.root);
+        let start = a * self.lent.size;
+        let view = View {
+            tree: self.tree,
             heads,
-            bytes,
-            freed,
-            ids,
-            places,
-            size,
-            slots,
-            xid,
-            slot,
-            d - 1,
-            v,
-        );
+            bytes: self.bytes,
+            lent: self.lent,
+        };
+        view.pack_slot(&mut image[start..], n, oid, self.xid, otype);
     }
-    write_node(
-        t, image, bitmap, counts, free, heads, bytes, freed, ids, places, size, slots, xid, n, v,
+
+    // A dirty node in the block chosen for it: its old one freed, packed and sealed, clean.
+    fn write_at(
+        self,
+        image: &mut [u8],
+        heads: &mut [u64],
+        lists: &mut Reports<'_>,
+        n: usize,
+        a: usize,
     )
+        requires standing { StandsIn self heads.old }
+        requires dirty { DirtyIn self heads.old n }
+        requires inside { InImage self image.old a }
+        requires room { RoomIn self heads.old lists.old n }
+        ensures wrote { WroteIn self.entry n a image.old image.new heads.old heads.new lists.old lists.new }
+        ensures left { LeftIn self.entry heads.old heads.new lists.old lists.new }
+        ensures kept { Kept lists.old lists.new }
+    {
+        let h = bank::live_at(heads, n);
+        let own = h.id();
+        let new = takes_id(self.tree.by_id, own);
+        let done = lists.done;
+        let id = id_after(new, done.next, own);
+        let oid = block_id(self.tree.by_id, id, a as u64);
+        let old = h.block();
+        let freed = push(lists.freed, done.freed, old);
+        self.pack_at(image, heads, n, a, oid);
+        block::rewrite(heads, n, a as u64, id);
+        let number = self.tree.by_id.then_some(oid);
+        let place = self.tree.by_id.then_some(a as u64);
+        let moved = push(lists.ids, done.moved, number);
+        push(lists.places, done.moved, place);
+        let taken = u64::from(new);
+        lists.done = Flushing {
+            next: done.next + taken,
+            freed,
+            removed: done.removed,
+            moved,
+            allocated: done.allocated + 1,
+        };
+    }
+
+    // A node after its children: a clean one stays; a dirty one takes the block chosen.
+    fn write_node(
+        self,
+        image: &mut [u8],
+        bitmap: &mut [u8],
+        free: &mut [u32],
+        heads: &mut [u64],
+        lists: &mut Reports<'_>,
+        n: usize,
+    )
+        requires standing { StandsIn self heads.old }
+        requires alive { AliveIn self heads.old n }
+        requires chunks { SpacedIn self image.old bitmap.old free.old }
+        requires fitting { FittingIn lists.old (write_node (state_in self heads.old) self.xid n
+            (walk_of self image.old bitmap.old free.old heads.old lists.old)) }
+        ensures wrote { walk_of self.entry image.new bitmap.new free.new heads.new lists.new
+            ≡ write_node (state_in self.entry heads.old) self.entry.xid n (walk_of self.entry image.old bitmap.old free.old heads.old lists.old) }
+        ensures left { LeftIn self.entry heads.old heads.new lists.old lists.new }
+        ensures spaced { SpacedIn self.entry image.old bitmap.new free.new }
+        ensures kept { Kept lists.old lists.new }
+    {
+        let h = bank::live_at(heads, n);
+        if h.dirty != 1 {
+            return;
+        }
+        let Some(choice) = space::alloc(bitmap, self.counts, free, self.lent.size) else {
+            return;
+        };
+        let a = choice.block;
+        self.write_at(image, heads, lists, n, a);
+    }
+
+    // Children before parent and left to right, the depth falling with the level.
+    fn write_from(
+        self,
+        image: &mut [u8],
+        bitmap: &mut [u8],
+        free: &mut [u32],
+        heads: &mut [u64],
+        lists: &mut Reports<'_>,
+        n: usize,
+        d: u64,
+    )
+        requires standing { StandsIn self heads.old }
+        requires alive { AliveIn self heads.old n }
+        requires chunks { SpacedIn self image.old bitmap.old free.old }
+        requires fitting { FittingIn lists.old (write_from d (state_in self heads.old) self.xid n
+            (walk_of self image.old bitmap.old free.old heads.old lists.old)) }
+        ensures wrote { walk_of self.entry image.new bitmap.new free.new heads.new lists.new
+            ≡ write_from d (state_in self.entry heads.old) self.entry.xid n (walk_of self.entry image.old bitmap.old free.old heads.old lists.old) }
+        ensures left { LeftIn self.entry heads.old heads.new lists.old lists.new }
+        ensures spaced { SpacedIn self.entry image.old bitmap.new free.new }
+        ensures kept { Kept lists.old lists.new }
+    {
+        if d == 0 {
+            self.write_node(image, bitmap, free, heads, lists, n);
+            return;
+        }
+        let h = bank::live_at(heads, n);
+        let part = bank::slot_of(self.bytes, self.lent.size, n);
+        let mut at = 0;
+        for _i in 0..h.count {
+            let r = Record { slot: part, at };
+            let kid = kids::kid_of(r);
+            at = r.next();
+            let Some(slot) = kid else {
+                continue;
+            };
+            self.write_from(image, bitmap, free, heads, lists, slot, d - 1);
+        }
+        self.write_node(image, bitmap, free, heads, lists, n);
+    }
 }
 
 // 1 of chunks and lists: a chunk past the image or too long; a list not as long as the slots.
+#[tactic(auto, using(crate::specs::laws::AllLaws::listing))]
 fn lists_hold(
     bitmap: &[u8],
     counts: &[u32],
@@ -472,95 +374,71 @@ fn lists_hold(
     ensures { result ≡ space_holds size blocks (space_of bitmap.now counts.now free.now)
         && lists_hold slots (lists_of freed.now removed.now ids.now places.now) }
 {
-    if !space::space_holds(bitmap, counts, free, size, blocks) {
-        return false;
-    }
-    if freed.len() != slots {
-        return false;
-    }
-    if removed.len() != slots {
-        return false;
-    }
-    if ids.len() != slots {
-        return false;
-    }
-    places.len() == slots
+    space::space_holds(bitmap, counts, free, size, blocks)
+        && freed.len() == slots
+        && removed.len() == slots
+        && ids.len() == slots
+        && places.len() == slots
 }
 
 // 16 fewer usable blocks than dirty nodes reached, 17 too few ids left.
-fn short_of(
-    t: Tree,
-    bitmap: &[u8],
-    counts: &[u32],
-    free: &[u32],
-    heads: &[u64],
-    bytes: &[u8],
-    size: usize,
-    slots: usize,
-    next: u64,
-) -> Result<(), Refusal>
-    requires ready { Ready size slots t.used heads.now bytes.now }
-    requires held { Held size (space_of bitmap.now counts.now free.now) }
-    ensures { result ≡ short_of (state_of size t heads.now bytes.now)
-        (usable size (space_of bitmap.now counts.now free.now)) next }
+fn short_of(v: View<'_, '_>, chunks: Chunks<'_>, next: u64) -> Result<(), Refusal>
+    ensures { result ≡ short_of (seen v.entry)
+        (usable chunks.entry.size (space_of chunks.entry.bitmap.now chunks.entry.counts.now chunks.entry.free.now)) next }
 {
-    let level = t.level_at(heads, bytes, size, slots, t.root);
-    let most = space::usable(bitmap, counts, free, size);
+    let root = v.tree.root;
+    let level = v.level_at(root);
+    let most = chunks.usable();
     let none = Wanted { dirty: 0, ids: 0 };
-    let wanted = count_from(t, heads, bytes, size, slots, t.root, level, most, none);
+    let wanted = count_from(v, root, level, most, none);
     if most < wanted.dirty {
         return Err(Refusal::Full);
     }
-    if MOST_ID - wanted.ids < next {
+    if next.checked_add(wanted.ids).is_none() {
         return Err(Refusal::Count);
     }
     Ok(())
 }
 
-// Dead nodes listed, then the walk from the root. There are blocks, ids and room enough.
-fn write_all(
-    t: Tree,
-    image: &mut [u8],
-    bitmap: &mut [u8],
-    counts: &[u32],
-    free: &mut [u32],
-    heads: &mut [u64],
-    bytes: &[u8],
-    freed: &mut [u64],
-    removed: &mut [u64],
-    ids: &mut [u64],
-    places: &mut [u64],
-    size: usize,
-    slots: usize,
-    xid: u64,
-    next: u64,
-) -> Flushed
-    requires standing { Standing size slots t heads.old bytes.now }
-    requires alive { Alive size t heads.old bytes.now t.root }
-    requires spaced { Spaced size (length image.old / size) (space_of bitmap.old counts.now free.old) }
-    requires freed_len { (length freed.old ≡ slots) × (length removed.old ≡ slots) × (length ids.old ≡ slots) × (length places.old ≡ slots) }
-    requires fitting { Fitting slots slots slots (all_flushed size t image.old
-        (space_of bitmap.old counts.now free.old) heads.old bytes.now xid next).after }
-    ensures flushed { flushed_of size t image.new (space_of bitmap.new counts.now free.new)
-        heads.new bytes.now freed.new removed.new ids.new places.new result
-        ≡ all_flushed size t image.old (space_of bitmap.old counts.now free.old)
-        heads.old bytes.now xid next }
-    ensures left { Finished size slots t heads.old heads.new bytes.now freed.old
-        freed.new removed.old removed.new ids.old ids.new places.old
-        places.new result }
-{
-    let level = t.level_at(heads, bytes, size, slots, t.root);
-    let filled = fill(t, heads, bytes, size, slots);
-    let dead = dead_reports(t, heads, freed, removed, next);
-    let done = write_from(
-        t, image, bitmap, counts, free, heads, bytes, freed, ids, places, size, slots, xid, t.root,
-        level, dead,
-    );
-    Flushed {
-        root: pack::child_number(heads, t.root as u64, t.by_id),
-        keys: t.key_count(),
-        fill: filled,
-        done: done,
+impl<'s> Source<'s> {
+    // Dead nodes listed, then the walk from the root. There are blocks, ids and room enough.
+    fn write_all(
+        self,
+        image: &mut [u8],
+        bitmap: &mut [u8],
+        free: &mut [u32],
+        heads: &mut [u64],
+        lists: &mut Reports<'_>,
+    ) -> Flushed
+        requires standing { StandsIn self heads.old }
+        requires alive { AliveIn self heads.old self.tree.root }
+        requires chunks { SpacedIn self image.old bitmap.old free.old }
+        requires long { LongIn self lists.old }
+        requires fitting { Fitting self.lent.slots self.lent.slots self.lent.slots
+            (all_of self image.old bitmap.old free.old heads.old lists.old.done.next).after }
+        ensures flushed { flushed_of self.entry.lent.size self.entry.tree image.new (space_of bitmap.new self.entry.counts.now free.new)
+            heads.new self.entry.bytes.now lists.new.freed.now lists.new.removed.now lists.new.ids.now lists.new.places.now result
+            ≡ all_of self.entry image.old bitmap.old free.old heads.old lists.old.done.next }
+        ensures left { FinishedIn self.entry heads.old heads.new lists.old lists.new result }
+        ensures kept { SameLists lists.old lists.new }
+    {
+        let t = self.tree;
+        let v = View {
+            tree: t,
+            heads,
+            bytes: self.bytes,
+            lent: self.lent,
+        };
+        let level = v.level_at(t.root);
+        let filled = fill(v);
+        lists.list_dead(t, heads);
+        self.write_from(image, bitmap, free, heads, lists, t.root, level);
+        Flushed {
+            root: pack::child_number(heads, t.root as u64, t.by_id),
+            keys: t.key_count(),
+            fill: filled,
+            done: lists.done,
+        }
     }
 }
 
@@ -602,12 +480,40 @@ pub fn flush_in(
     ) {
         return Err(Refusal::Lent);
     }
-    short_of(t, bitmap, counts, free, heads, bytes, size, slots, next)?;
-    let all = write_all(
-        t, image, bitmap, counts, free, heads, bytes, freed, removed, ids, places, size, slots,
-        xid, next,
-    );
-    Ok(all)
+    let v = View {
+        tree: t,
+        heads,
+        bytes,
+        lent,
+    };
+    let chunks = Chunks {
+        bitmap,
+        counts,
+        free,
+        size,
+    };
+    short_of(v, chunks, next)?;
+    let source = Source {
+        tree: t,
+        lent,
+        bytes,
+        counts,
+        xid,
+    };
+    let mut lists = Reports {
+        freed,
+        removed,
+        ids,
+        places,
+        done: Flushing {
+            next,
+            freed: 0,
+            removed: 0,
+            moved: 0,
+            allocated: 0,
+        },
+    };
+    Ok(source.write_all(image, bitmap, free, heads, &mut lists))
 }
 
 // What was changed is written, and the lists are filled: 1; 16; 17.

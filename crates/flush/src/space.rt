@@ -11,13 +11,15 @@ pub struct Choice {
 }
 
 // The lowest 0 bit of a byte, 8 if there is none.
+#[tactic(auto, using(crate::specs::laws::SpaceSteps::ones_first))]
 pub fn first_zero(byte: u8) -> usize
     ensures { result ≡ first_zero byte }
 {
-    FIRST_ZEROS[byte as usize] as usize
+    byte.trailing_ones() as usize
 }
 
 // Whether a block is used: its bit is 1.
+#[tactic(auto, using(crate::specs::laws::SpaceSteps::used_is))]
 pub fn is_used(bitmap: &[u8], a: usize) -> bool
     requires { a / 8 < length bitmap.now }
     ensures { result ≡ is_used bitmap.now a }
@@ -26,6 +28,7 @@ pub fn is_used(bitmap: &[u8], a: usize) -> bool
 }
 
 // Sets a block's bit, and no other.
+#[tactic(auto, using(crate::specs::laws::SpaceSteps::marked_is))]
 pub fn mark_used(bitmap: &mut [u8], a: usize)
     requires { a / 8 < length bitmap.old }
     ensures { bitmap.new ≡ mark_used bitmap.old a }
@@ -51,6 +54,7 @@ pub fn first_free(bitmap: &[u8], a: usize, n: usize) -> Option<usize>
 }
 
 // How many of the lowest m bits of a byte are 0.
+#[tactic(auto, using(crate::specs::laws::SpaceSteps::counting))]
 fn zeros_in(byte: u8, m: usize) -> usize
     requires { m ≤ 8 }
     ensures { (result ≡ zeros_below m byte) × (result ≤ 8) }
@@ -71,29 +75,65 @@ pub fn zeros(bitmap: &[u8], a: usize, n: usize) -> usize
     sum
 }
 
-// The lowest free block of a chunk; none where its free count is 0.
-fn free_in(bitmap: &[u8], counts: &[u32], free: &[u32], size: usize, c: usize) -> Option<usize>
-    requires { Held size (space_of bitmap.now counts.now free.now) × (c < length counts.now) }
-    ensures { option_to_list result
-        ≡ cond (eqb (get_or free.now c 0) 0) [] (first_free bitmap.now (get_or counts.now c 0) (c * chunk_blocks size)) }
-{
-    if free[c] == 0 {
-        return None;
-    }
-    first_free(bitmap, c * (8 * size), counts[c] as usize)
+// The chunks that are lent: a block of the bitmap for each, and its two counts. They hold.
+#[derive(Clone, Copy)]
+pub struct Chunks<'a> {
+    pub bitmap: &'a [u8],
+    pub counts: &'a [u32],
+    pub free: &'a [u32],
+    pub size: usize,
+    ghost held: { Held size (space_of bitmap.now counts.now free.now) },
 }
 
-// The block to take: the lowest free one of the first chunk that has one and a free count.
-pub fn choose(bitmap: &[u8], counts: &[u32], free: &[u32], size: usize) -> Option<Choice>
-    requires { Held size (space_of bitmap.now counts.now free.now) }
-    ensures { choice_means result ≡ choose size (space_of bitmap.now counts.now free.now) }
-{
-    for c in 0..counts.len() {
-        if let Some(block) = free_in(bitmap, counts, free, size, c) {
-            return Some(Choice { chunk: c, block });
+impl<'a> Chunks<'a> {
+    // The lowest free block of a chunk; none where its free count is 0.
+    #[tactic(auto, using(crate::specs::laws::SpaceSteps::finding))]
+    fn free_in(self, c: usize) -> Option<usize>
+        requires { c < length self.counts.now }
+        ensures { option_to_list result
+            ≡ cond (eqb (get_or self.entry.free.now c 0) 0) []
+            (first_free self.entry.bitmap.now (get_or self.entry.counts.now c 0) (c * chunk_blocks self.entry.size)) }
+    {
+        if self.free[c] == 0 {
+            return None;
         }
+        first_free(self.bitmap, c * (8 * self.size), self.counts[c] as usize)
     }
-    None
+
+    // The block to take: the lowest free one of the first chunk that has one and a free count.
+    pub fn choose(self) -> Option<Choice>
+        ensures { choice_means result ≡ choose self.entry.size (space_of self.entry.bitmap.now self.entry.counts.now self.entry.free.now) }
+    {
+        for c in 0..self.counts.len() {
+            if let Some(block) = self.free_in(c) {
+                return Some(Choice { chunk: c, block });
+            }
+        }
+        None
+    }
+
+    // The usable blocks of a chunk: the smaller of its free count and its 0 bits.
+    #[tactic(auto, using(crate::specs::laws::SpaceSteps::using_up))]
+    fn usable_in(self, c: usize) -> usize
+        requires { c < length self.counts.now }
+        ensures { (result
+            ≡ lesser (get_or self.entry.free.now c 0)
+            (zeros self.entry.bitmap.now (get_or self.entry.counts.now c 0) (c * chunk_blocks self.entry.size))) × (result ≤ 8 * self.entry.size) }
+    {
+        let all = zeros(self.bitmap, c * (8 * self.size), self.counts[c] as usize);
+        all.min(self.free[c] as usize)
+    }
+
+    // The usable blocks of all chunks.
+    pub fn usable(self) -> u64
+        ensures { result ≡ usable self.entry.size (space_of self.entry.bitmap.now self.entry.counts.now self.entry.free.now) }
+    {
+        let mut sum = 0;
+        for c in 0..self.counts.len() {
+            sum += self.usable_in(c);
+        }
+        sum as u64
+    }
 }
 
 // Takes the block chosen: its bit set, its chunk's free count less one.
@@ -103,33 +143,16 @@ pub fn alloc(bitmap: &mut [u8], counts: &[u32], free: &mut [u32], size: usize) -
     ensures after { space_of bitmap.new counts.now free.new
         ≡ allocated size (space_of bitmap.old counts.now free.old) }
 {
-    let choice = choose(bitmap, counts, free, size)?;
+    let chunks = Chunks {
+        bitmap,
+        counts,
+        free,
+        size,
+    };
+    let choice = chunks.choose()?;
     mark_used(bitmap, choice.block);
     free[choice.chunk] -= 1;
     Some(choice)
-}
-
-// The usable blocks of a chunk: the smaller of its free count and its 0 bits.
-fn usable_in(bitmap: &[u8], counts: &[u32], free: &[u32], size: usize, c: usize) -> usize
-    requires { Held size (space_of bitmap.now counts.now free.now) × (c < length counts.now) }
-    ensures { (result
-        ≡ lesser (get_or free.now c 0)
-        (zeros bitmap.now (get_or counts.now c 0) (c * chunk_blocks size))) × (result ≤ 8 * size) }
-{
-    let all = zeros(bitmap, c * (8 * size), counts[c] as usize);
-    all.min(free[c] as usize)
-}
-
-// The usable blocks of all chunks.
-pub fn usable(bitmap: &[u8], counts: &[u32], free: &[u32], size: usize) -> u64
-    requires { Held size (space_of bitmap.now counts.now free.now) }
-    ensures { result ≡ usable size (space_of bitmap.now counts.now free.now) }
-{
-    let mut sum = 0;
-    for c in 0..counts.len() {
-        sum += usable_in(bitmap, counts, free, size, c);
-    }
-    sum as u64
 }
 
 // Whether each chunk's block count is at most a chunk's blocks, and its blocks lie in the image. `left` is how many blocks the image
@@ -158,26 +181,11 @@ pub fn chunks_hold(counts: &[u32], size: usize, blocks: usize) -> bool
 }
 
 // Whether the bitmap has a block, and there are two counts, for each chunk, and the chunks hold. The chunks come first: the product fits then.
+#[tactic(auto, using(crate::specs::laws::SpaceSteps::holding))]
 pub fn space_holds(bitmap: &[u8], counts: &[u32], free: &[u32], size: usize, blocks: usize) -> bool
     ensures { result ≡ space_holds size blocks (space_of bitmap.now counts.now free.now) }
 {
-    if !chunks_hold(counts, size, blocks) {
-        return false;
-    }
-    if free.len() != counts.len() {
-        return false;
-    }
-    bitmap.len() == counts.len() * size
+    chunks_hold(counts, size, blocks)
+        && free.len() == counts.len()
+        && bitmap.len() == counts.len() * size
 }
-
-// The lowest 0 bit of each byte value; 8 for 255, which has none.
-const FIRST_ZEROS: [u8; 256] = [
-    0, 1, 0, 2, 0, 1, 0, 3, 0, 1, 0, 2, 0, 1, 0, 4, 0, 1, 0, 2, 0, 1, 0, 3, 0, 1, 0, 2, 0, 1, 0, 5,
-    0, 1, 0, 2, 0, 1, 0, 3, 0, 1, 0, 2, 0, 1, 0, 4, 0, 1, 0, 2, 0, 1, 0, 3, 0, 1, 0, 2, 0, 1, 0, 6,
-    0, 1, 0, 2, 0, 1, 0, 3, 0, 1, 0, 2, 0, 1, 0, 4, 0, 1, 0, 2, 0, 1, 0, 3, 0, 1, 0, 2, 0, 1, 0, 5,
-    0, 1, 0, 2, 0, 1, 0, 3, 0, 1, 0, 2, 0, 1, 0, 4, 0, 1, 0, 2, 0, 1, 0, 3, 0, 1, 0, 2, 0, 1, 0, 7,
-    0, 1, 0, 2, 0, 1, 0, 3, 0, 1, 0, 2, 0, 1, 0, 4, 0, 1, 0, 2, 0, 1, 0, 3, 0, 1, 0, 2, 0, 1, 0, 5,
-    0, 1, 0, 2, 0, 1, 0, 3, 0, 1, 0, 2, 0, 1, 0, 4, 0, 1, 0, 2, 0, 1, 0, 3, 0, 1, 0, 2, 0, 1, 0, 6,
-    0, 1, 0, 2, 0, 1, 0, 3, 0, 1, 0, 2, 0, 1, 0, 4, 0, 1, 0, 2, 0, 1, 0, 3, 0, 1, 0, 2, 0, 1, 0, 5,
-    0, 1, 0, 2, 0, 1, 0, 3, 0, 1, 0, 2, 0, 1, 0, 4, 0, 1, 0, 2, 0, 1, 0, 3, 0, 1, 0, 2, 0, 1, 0, 8,
-];

@@ -6,10 +6,12 @@ use Rattle.tree.specs.State.{State}
 use Rattle.tree.specs.Workspace.{state_of}
 use Rattle.tree.specs.internal.Bank.{Ready}
 use Rattle.tree.specs.declared.editor.Tree.{Tree}
-use Rattle.flush.specs.Space.{Space}
+use Rattle.flush.specs.Space.{Space, space_of}
 use Rattle.flush.specs.Flush.{Flushed, dirty_reached, ids_wanted, flushed}
 use Rattle.flush.specs.Answers.{Untouched, Beyond}
 use Rattle.flush.specs.declared.flush.Flushed as done
+use Rattle.flush.specs.declared.flush.Source.{Source}
+use Rattle.flush.specs.declared.flush.Reports.{Reports}
 use Rattle.flush.specs.internal.Lists.{Past}
 use Rattle.flush.specs.internal.Walk.{Alike}
 
@@ -40,3 +42,12 @@ FlushCalled size slots t image image' p p' heads heads' bytes fs fs' rs rs' is i
     Untouched image image' p p' heads heads' fs fs' rs rs' is is' ps ps'
 FlushCalled size slots t image image' p p' heads heads' bytes fs fs' rs rs' is is' ps ps' (Ok f) =
     Beyond f fs fs' rs rs' is is' ps ps' × Ready size slots t.used heads' bytes × Alike (state_of size t heads bytes) (state_of size t heads' bytes)
+
+-- ---- the same of what the code holds
+
+abbrev pub all_of : Source → List ℕ → List ℕ → List ℕ → List ℕ → ℕ → Flushed
+all_of s image bm fr heads next = all_flushed s.lent.size s.tree image (space_of bm s.counts.now fr) heads s.bytes.now s.xid next
+
+abbrev pub FinishedIn : Source → List ℕ → List ℕ → Reports → Reports → done.Flushed → Type 0
+FinishedIn s heads heads' l l' r = Finished s.lent.size s.lent.slots s.tree heads heads' s.bytes.now l.freed.now l'.freed.now
+    l.removed.now l'.removed.now l.ids.now l'.ids.now l.places.now l'.places.now r

@@ -1,5 +1,5 @@
 -- The walk of flush as its code goes: the lent words and lists as a `Flushing`, what a step asks, and what it leaves.
-use Rattle.std.specs.Prelude.{◌≡◌, List, [], map, true, false, cond, ◌&&◌, ℕ, ◌+◌, ◌-◌, ◌*◌, ◌^◌, ◌≤◌, ◌<◌, length, get_or, drop, eqb}
+use Rattle.std.specs.Prelude.{◌≡◌, List, [], map, true, false, cond, ◌&&◌, ℕ, ◌+◌, ◌-◌, ◌*◌, ◌/◌, ◌^◌, ◌≤◌, ◌<◌, length, get_or, drop, eqb}
 use Rattle.tree.specs.Format.{splice, records_length, entries_of, mem, val_at, Sized, fits, pack_node, numbered}
 use Rattle.tree.specs.Lent.{is_size}
 use Rattle.tree.specs.State.{State, no_node, node_at}
@@ -11,6 +11,9 @@ use Rattle.flush.specs.Flush.{Flushing, slot_number, build_of, write_at, write_k
 use Rattle.flush.specs.Answers.{pairs_of}
 use Rattle.flush.specs.internal.Lists.{numbers_of, Past}
 use Rattle.flush.specs.declared.flush.Flushing as code
+use Rattle.flush.specs.declared.flush.Source.{Source}
+use Rattle.flush.specs.declared.flush.Reports.{Reports}
+use Rattle.std.specs.Borrow.{MutBor}
 
 -- what the walk changes; the removed ids it leaves alone
 unfoldable pub flushing_of : ℕ → Tree → List ℕ → Space → List ℕ → List ℕ → List ℕ → List ℕ → List ℕ → code.Flushing → Flushing
@@ -108,3 +111,74 @@ pub record Going (size slots blocks : ℕ) (t : Tree) (xid d count i at : ℕ) (
       (flushing_of size t image₀ (space_of bm₀ cs fr₀) heads₀ bytes fs₀ is₀ ps₀ w)
   pub left : Left size slots t heads₀ heads bytes fs₀ fs is₀ is ps₀ ps w v
   pub spaced : Spaced size blocks (space_of bm cs fr)
+
+-- ---- the same of what the code holds
+
+-- the tree, as the words of its slots say
+abbrev pub state_in : Source → List ℕ → State
+state_in s heads = state_of s.lent.size s.tree heads s.bytes.now
+
+abbrev pub walk_of : Source → List ℕ → List ℕ → List ℕ → List ℕ → Reports → Flushing
+walk_of s image bm fr heads l =
+    flushing_of s.lent.size s.tree image (space_of bm s.counts.now fr) heads s.bytes.now l.freed.now l.ids.now l.places.now l.done
+
+abbrev pub StandsIn : Source → List ℕ → Type 0
+StandsIn s heads = Standing s.lent.size s.lent.slots s.tree heads s.bytes.now
+
+abbrev pub AliveIn : Source → List ℕ → ℕ → Type 0
+AliveIn s heads n = Alive s.lent.size s.tree heads s.bytes.now n
+
+abbrev pub DirtyIn : Source → List ℕ → ℕ → Type 0
+DirtyIn s heads n = Dirty s.lent.size s.tree heads s.bytes.now n
+
+-- a block that lies in the image
+abbrev pub InImage : Source → List ℕ → ℕ → Type 0
+InImage s image a = (a * s.lent.size + s.lent.size ≤ length image) × (a ≤ 2 ^ 20)
+
+abbrev pub SpacedIn : Source → List ℕ → List ℕ → List ℕ → Type 0
+SpacedIn s image bm fr = Spaced s.lent.size (length image / s.lent.size) (space_of bm s.counts.now fr)
+
+abbrev pub FittingIn : Reports → Flushing → Type 0
+FittingIn l w = Fitting (length l.freed.now) (length l.ids.now) (length l.places.now) w
+
+abbrev pub RoomIn : Source → List ℕ → Reports → ℕ → Type 0
+RoomIn s heads l n = Room s.lent.size s.tree heads s.bytes.now l.freed.now l.ids.now l.places.now n l.done
+
+abbrev pub WroteIn : Source → ℕ → ℕ → List ℕ → List ℕ → List ℕ → List ℕ → Reports → Reports → Type 0
+WroteIn s n a image image' heads heads' l l' = WroteAt s.lent.size s.tree s.xid n a image image' heads heads' s.bytes.now
+    l.freed.now l'.freed.now l.ids.now l'.ids.now l.places.now l'.places.now l.done l'.done
+
+abbrev pub LeftIn : Source → List ℕ → List ℕ → Reports → Reports → Type 0
+LeftIn s heads heads' l l' = Left s.lent.size s.lent.slots s.tree heads heads' s.bytes.now
+    l.freed.now l'.freed.now l.ids.now l'.ids.now l.places.now l'.places.now l.done l'.done
+
+-- a list is the one that was lent, and as long
+pub record Same (x y : MutBor (List ℕ)) : Type 0 where
+  pub reference : y.ghost_name ≡ x.ghost_name
+  pub long : length y.now ≡ length x.now
+
+-- each of the four
+pub record SameLists (l l' : Reports) : Type 0 where
+  pub freed : Same l.freed l'.freed
+  pub removed : Same l.removed l'.removed
+  pub ids : Same l.ids l'.ids
+  pub places : Same l.places l'.places
+
+-- after the dead nodes are listed
+pub record Listed (l l' : Reports) : Type 0 where
+  pub freed : Same l.freed l'.freed
+  pub removed : Same l.removed l'.removed
+  pub ids : l'.ids ≡ l.ids
+  pub places : l'.places ≡ l.places
+
+-- after a step of the walk
+pub record Kept (l l' : Reports) : Type 0 where
+  pub freed : Same l.freed l'.freed
+  pub removed : l'.removed ≡ l.removed
+  pub ids : Same l.ids l'.ids
+  pub places : Same l.places l'.places
+
+-- each list is as long as the slots
+abbrev pub LongIn : Source → Reports → Type 0
+LongIn s l = (length l.freed.now ≡ s.lent.slots) × (length l.removed.now ≡ s.lent.slots) × (length l.ids.now ≡ s.lent.slots)
+    × (length l.places.now ≡ s.lent.slots)

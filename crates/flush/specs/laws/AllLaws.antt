@@ -4,11 +4,11 @@ use Rattle.std.proofs.Math.Path.{refl, sym, ap}
 use Rattle.std.proofs.Common.{◌∙◌, mul_left_comm}
 use native.Mathlib.Omega.{arith}
 use Rattle.std.proofs.Math.ListN.{length}
-use borrow.Author.Tests.{le-leb, lt-leb, eq-eqb, ne_eqb, eqb-true, eqb-false, leb-true, not-true, not-false}
+use borrow.Author.Tests.{le-leb, lt-leb, eq-eqb, ne_eqb, eqb-true, eqb-false, leb-true, ltb-true, ltb-false, not-true, not-false}
 use Rattle.tree.specs.Format.{child_number}
 use Rattle.tree.specs.State.{State, node_at}
 use Rattle.tree.specs.Workspace.{nodes_of, state_of}
-use Rattle.tree.specs.laws.base.Node.{by_test}
+use Rattle.tree.specs.laws.base.Node.{by_test, never}
 use Rattle.tree.specs.declared.editor.Tree.{Tree}
 use Rattle.flush.specs.Space.{Space, chunk_blocks, is_used, zeros, lesser, usable_from, usable, Held}
 use Rattle.flush.specs.Flush.{Flushing, Flushed, slot_number, write_from, dead_blocks, dead_ids, dirty_reached, ids_wanted, sum_from, fill, flushed, lists_hold}
@@ -23,7 +23,7 @@ use Rattle.flush.specs.laws.ListLaws.{numbers_length, pairs_length, numbers_take
 use Rattle.flush.specs.laws.WalkLaws.{with_removed, write_removed}
 use Rattle.flush.specs.laws.WriteLaws.{number_same}
 use Rattle.flush.specs.laws.OutcomeLaws.{dirty_reached_lem, ids_wanted_lem}
-use Rattle.std.specs.Prelude.{Ok, Err}
+use Rattle.std.specs.Prelude.{Ok, Err, Option, Some, None, is_some, SomeIff, ltb}
 use Rattle.tree.specs.Refusals as refusal
 
 -- ---- 1 of chunks and lists
@@ -95,6 +95,15 @@ usable_few size p r h e =
     let q : length p.counts * (8 * size) ≡ 8 * (length p.counts * size) = mul_left_comm (length p.counts) 8 size in
     omega (arith, h.mapped, h.few)
 
+-- a sum past the last number, and one that is not
+past_most : (a : ℕ) (o : Option ℕ) (k : Bool) → SomeIff o (a < 2 ^ 64) a → is_some o ≡ not k → k ≡ true → 2 ^ 64 ≤ a
+past_most a None k s e q = by_test (ltb a (2 ^ 64)) (λ t. absurd (s (ltb-true a (2 ^ 64) t))) (λ t. ltb-false a (2 ^ 64) t)
+past_most a (Some y) k s e q = never refl (e ∙ ap not q)
+
+within_most : (a : ℕ) (o : Option ℕ) (k : Bool) → SomeIff o (a < 2 ^ 64) a → is_some o ≡ not k → k ≡ false → a < 2 ^ 64
+within_most a None k s e q = never (e ∙ ap not q) refl
+within_most a (Some y) k s e q = s.0
+
 module _ (size : ℕ) (t : Tree) (heads bytes : List ℕ) (u next level : ℕ) (x : Wanted)
     (el : level ≡ (node_at (state_of size t heads bytes) t.root).level)
     (c : Counted u (sum_from dirty_one level (state_of size t heads bytes) t.root) (sum_from (id_one t.by_id) level
@@ -119,16 +128,18 @@ module _ (size : ℕ) (t : Tree) (heads bytes : List ℕ) (u next level : ℕ) (
     few_so : leb (dirty_reached s) u ≡ true
     few_so = le-leb (dirty_reached s) u (omega (arith, c.nodes h, nodes_are))
 
-    pub short_ids : u < 2 ^ 32 → x.ids ≤ 18446744073709551615
-    short_ids k = omega (arith, c.few)
+    module _ (o : Option ℕ) (k : Bool) (eo : SomeIff o (next + x.ids < 2 ^ 64) (next + x.ids)) (ek : is_some o ≡ not k) where
+      pub short_count : k ≡ true → Err refusal.Count ≡ short_of (state_of size t heads bytes) v next
+      unfolding short_of
+      short_count q =
+          let z = past_most (next + x.ids) o k eo ek q in
+          rw (← ev, few_so, lt-leb (next + ids_wanted s) (2 ^ 64 - 1) (omega (arith, c.ids h, ids_are)))
 
-    pub short_count : 18446744073709551615 - x.ids < next → Err refusal.Count ≡ short_of (state_of size t heads bytes) v next
-    unfolding short_of
-    short_count k = rw (← ev, few_so, lt-leb (next + ids_wanted s) (2 ^ 64 - 1) (omega (arith, c.ids h, ids_are)))
-
-    pub short_none : u < 2 ^ 32 → next ≤ 18446744073709551615 - x.ids → Ok tt ≡ short_of (state_of size t heads bytes) v next
-    unfolding short_of
-    short_none b k = rw (← ev, few_so, le-leb (next + ids_wanted s) (2 ^ 64 - 1) (omega (arith, c.ids h, ids_are, c.few)))
+      pub short_none : k ≡ false → Ok tt ≡ short_of (state_of size t heads bytes) v next
+      unfolding short_of
+      short_none q =
+          let z = within_most (next + x.ids) o k eo ek q in
+          rw (← ev, few_so, le-leb (next + ids_wanted s) (2 ^ 64 - 1) (omega (arith, c.ids h, ids_are)))
 
 -- ---- the walk from the root
 
@@ -256,3 +267,5 @@ all_left size slots t next heads heads' bytes fs fs' fs'' rs rs' is is' ps ps' w
       ids = l.ids;
       places = l.places;
     }
+
+pub ruleset listing = (lists_space, lists_freed, lists_removed, lists_ids, lists_places)

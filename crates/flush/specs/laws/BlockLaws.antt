@@ -1,22 +1,24 @@
 -- Laws of a node in the block chosen for it: the image, the lists, the slots after it. Assumes nothing.
-use Rattle.std.specs.Prelude.{◌≡◌, refl, Bool, false, ◌&&◌, get_or, take, drop}
+use Rattle.std.specs.Prelude.{◌≡◌, refl, Bool, ◌&&◌, get_or, take, drop, Option, option_to_list}
+use Rattle.std.specs.Bool.{then_some}
+use Rattle.std.specs.Int.{from_bool}
 use Rattle.std.proofs.Math.Path.{sym, ap, ap₂}
 use Rattle.std.proofs.Common.{◌∙◌, mul-le-mul, add-one, length-append, length-drop, length-take-le}
 use mathlib.Core.List.{List, [], ◌∷◌, ◌++◌, map}
-use Rattle.std.proofs.Math.Bool.{true, cond, not}
+use Rattle.std.proofs.Math.Bool.{cond}
 use Prim.Native.Nat.{ℕ, ◌+◌, ◌-◌, ◌*◌, ◌≤◌, ◌<◌, ◌^◌}
 use native.Mathlib.Omega.{arith}
 use Rattle.std.proofs.Math.ListN.{length, set}
 use Rattle.std.proofs.Math.Dec.{eqb}
-use Rattle.tree.specs.Format.{splice, MemNode, head_at, head_words, marked, node_of, only, numbered, pack_node}
+use Rattle.tree.specs.Format.{splice, MemNode, Head, head_at, head_words, marked, node_of, only, numbered, pack_node}
 use Rattle.tree.specs.State.{no_node}
 use Rattle.tree.specs.Workspace.{nodes_of, state_of}
-use Rattle.tree.specs.internal.Bank.{node_in, Put}
-use Rattle.tree.specs.internal.Block.{words_of, written_head, packed_slot}
+use Rattle.tree.specs.internal.Bank.{node_in, live, Put}
+use Rattle.tree.specs.internal.Block.{written_head, packed_slot}
 use Rattle.tree.specs.laws.base.Node.{by_test}
 use Rattle.tree.specs.laws.base.NodeSlots.{part_back}
 use Rattle.tree.specs.laws.slots.Bank.{node_at_lem, put_set}
-use Rattle.tree.specs.declared.block.Words.{Words}
+use Rattle.tree.specs.laws.slots.Block.{bool_number}
 use Rattle.tree.specs.declared.editor.Tree.{Tree}
 use Rattle.flush.specs.Space.{Space, taken}
 use Rattle.flush.specs.Flush.{Flushing, slot_number, type_of, build_of, rewritten, write_at}
@@ -24,7 +26,7 @@ use Rattle.flush.specs.declared.flush.Flushing as code
 use Rattle.flush.specs.Answers.{pairs_of}
 use Rattle.flush.specs.internal.Lists.{numbers_of, Pushed}
 use Rattle.flush.specs.internal.Walk.{flushing_of, packed_at, Standing, Dirty, Room, Left, WroteAt}
-use Rattle.flush.specs.laws.ListLaws.{pairs_push, pairs_end}
+use Rattle.flush.specs.laws.ListLaws.{some_length, pairs_push, pairs_end}
 use Rattle.flush.specs.laws.WriteLaws.{put_written, standing_after, alike_after, kids_numbered}
 
 -- ---- the part of the image that is lent
@@ -71,20 +73,6 @@ module _ (size slots n a oid xid otype : ℕ) (t : Tree) (heads bytes : List ℕ
       ei ∙ part_back image (a * size) k d vs (omega arith) v ed ∙ ap₂ (λ (o : ℕ) (x : List ℕ). splice image (a * o) x) (sym st.same)
       (packed_block e)
 
--- ---- ids
-
-ids_are : (b : Bool) (named word next a new id nm oid : ℕ) → new ≡ cond (b && not (eqb named 1)) 1 0 → id ≡ cond (eqb new 1) next word
-    → nm ≡ cond b 1 named → oid ≡ cond b id a
-    → (new ≡ cond (b && eqb (length (marked named word)) 0) 1 0)
-    × (marked nm id ≡ cond (b && eqb (length (marked named word)) 0) (next ∷ []) (marked named word))
-    × (oid ≡ cond b (only (marked nm id)) a)
-unfolding marked only
-ids_are false named word next a new id nm oid e f g h = (e, rw (f, g, e), h)
-ids_are true named word next a new id nm oid e f g h =
-    by_test (eqb named 1)
-    (λ t. let n : new ≡ 0 = e ∙ rw t in rw (t, h, f, g, n) (refl, refl, refl))
-    (λ t. let n : new ≡ 1 = e ∙ rw t in rw (t, h, f, g, n) (refl, refl, refl))
-
 -- ---- the whole
 
 flushing_same : (i i' : List ℕ) (p : Space) (ns ns' : List MemNode) (n n' : ℕ) (f f' r : List ℕ) (m m' : List (ℕ × ℕ)) (a a' : ℕ)
@@ -94,91 +82,81 @@ flushing_same : (i i' : List ℕ) (p : Space) (ns ns' : List MemNode) (n n' : �
 flushing_same i i' p ns ns' n n' f f' r m m' a a' e1 e2 e3 e4 e5 e6 = rw (e1, e2, e3, e4, e5, e6)
 
 module _ (size slots xid n a : ℕ) (t : Tree) (image image' heads heads' bytes fs fs' is is' ps ps' : List ℕ) (w : code.Flushing)
-    (st : Standing size slots t heads bytes) (hd : Dirty size t heads bytes n) (h : Words) (eh : h ≡ words_of (head_at heads n))
-    (new id nm oid left f m k m' : ℕ) (en : new ≡ cond (t.by_id && not (eqb h.named 1)) 1 0) (ei : id ≡ cond (eqb new 1) w.next h.id)
-    (eo : oid ≡ cond t.by_id id a) (el : (x : ℕ) → marked left x ≡ cond (eqb h.dirty 1) (marked h.placed x) [])
-    (pf : Pushed w.freed (marked left h.block) fs fs' f)
-    (em : image' ≡ packed_at (state_of size t heads bytes) xid n a oid image) (ek : nm ≡ cond t.by_id 1 h.named)
-    (ew : heads' ≡ splice heads (n * 9) (head_words (written_head (head_at heads n) a nm id)))
-    (ev : k ≡ cond t.by_id 1 0) (pi : Pushed w.moved (marked k oid) is is' m) (pp : Pushed w.moved (marked k a) ps ps' m') where
+    (st : Standing size slots t heads bytes) (hd : Dirty size t heads bytes n) (h : Head) (eh : h ≡ live (head_at heads n))
+    (own id old o o' : Option ℕ) (new : Bool) (oid k f m m' : ℕ) (ew : option_to_list own ≡ marked h.named h.id)
+    (en : new ≡ t.by_id && eqb (length (option_to_list own)) 0) (ei : option_to_list id ≡ cond new (w.next ∷ []) (option_to_list own))
+    (eo : oid ≡ cond t.by_id (only (option_to_list id)) a) (el : option_to_list old ≡ marked h.placed h.block)
+    (pf : Pushed w.freed (option_to_list old) fs fs' f) (em : image' ≡ packed_at (state_of size t heads bytes) xid n a oid image)
+    (es : heads' ≡ splice heads (n * 9) (head_words (written_head (head_at heads n) a id)))
+    (e1 : o ≡ then_some t.by_id oid) (e2 : o' ≡ then_some t.by_id a) (pi : Pushed w.moved (option_to_list o) is is' m)
+    (pp : Pushed w.moved (option_to_list o') ps ps' m') (ek : k ≡ from_bool new) where
   node_is : get_or (nodes_of size heads bytes t.used) n no_node ≡ node_in size heads bytes n
   node_is = node_at_lem size heads bytes t.used n hd.alive.used
 
-  old_id : (t.by_id ≡ false → id ≡ (head_at heads n).id)
-  unfolding words_of
-  old_id e = ei ∙ rw (en, e) (ap (λ (x : Words). x.id) eh)
-
-  put_is : Put size slots heads bytes heads' bytes n (rewritten (node_in size heads bytes n) a (marked nm id))
-  unfolding words_of
-  put_is = put_written size slots t.used n a nm id t.by_id heads heads' bytes st.ready hd.alive.used ew
-      (ek ∙ ap (λ (x : Words). cond t.by_id 1 x.named) eh) old_id
+  put_is : Put size slots heads bytes heads' bytes n (rewritten (node_in size heads bytes n) a (option_to_list id))
+  put_is = put_written size slots t.used n a id heads heads' bytes st.ready hd.alive.used es
 
   nodes_are : nodes_of size heads' bytes t.used ≡ set (nodes_of size heads bytes t.used) n (rewritten (node_in size heads bytes n) a
-      (marked nm id))
+      (option_to_list id))
   nodes_are = put_set size slots heads bytes heads' bytes n _ put_is t.used st.ready.within hd.alive.used
 
   block_is : (node_in size heads bytes n).block ≡ marked h.placed h.block
-  unfolding node_in node_of words_of
+  unfolding node_in node_of live
   block_is = rw eh
 
-  left_is : (node_in size heads bytes n).block ≡ marked left h.block
-  unfolding node_in node_of words_of
-  left_is =
-      let d : eqb h.dirty 1 ≡ true = ap (λ (x : Words). eqb x.dirty 1) eh ∙ hd.dirty in
-      block_is ∙ sym (el h.block ∙ rw d)
+  left_is : (node_in size heads bytes n).block ≡ option_to_list old
+  left_is = block_is ∙ sym el
 
   id_is : (node_in size heads bytes n).id ≡ marked h.named h.id
-  unfolding node_in node_of words_of
+  unfolding node_in node_of live
   id_is = rw eh
 
   abbrev held : List ℕ
   held = (get_or (nodes_of size heads bytes t.used) n no_node).id
 
-  held_is : held ≡ marked h.named h.id
-  held_is = ap (λ (y : MemNode). y.id) node_is ∙ id_is
+  held_is : option_to_list own ≡ held
+  held_is = ew ∙ sym (ap (λ (y : MemNode). y.id) node_is ∙ id_is)
 
-  ids : (new ≡ cond (t.by_id && eqb (length (marked h.named h.id)) 0) 1 0)
-      × (marked nm id ≡ cond (t.by_id && eqb (length (marked h.named h.id)) 0) (w.next ∷ []) (marked h.named h.id))
-      × (oid ≡ cond t.by_id (only (marked nm id)) a)
-  ids = ids_are t.by_id h.named h.id w.next a new id nm oid en ei ek eo
+  new_is : new ≡ t.by_id && eqb (length held) 0
+  new_is = en ∙ ap (λ (l : List ℕ). t.by_id && eqb (length l) 0) held_is
 
-  new_is : new ≡ cond (t.by_id && eqb (length held) 0) 1 0
-  new_is = ids.0 ∙ ap (λ (l : List ℕ). cond (t.by_id && eqb (length l) 0) 1 0) (sym held_is)
+  count_is : k ≡ cond (t.by_id && eqb (length held) 0) 1 0
+  count_is = ek ∙ bool_number new ∙ ap (λ (b : Bool). cond b 1 0) new_is
 
-  list_is : marked nm id ≡ cond (t.by_id && eqb (length held) 0) (w.next ∷ []) held
-  list_is = ids.1 ∙ ap (λ (l : List ℕ). cond (t.by_id && eqb (length l) 0) (w.next ∷ []) l) (sym held_is)
+  list_is : option_to_list id ≡ cond (t.by_id && eqb (length held) 0) (w.next ∷ []) held
+  list_is = ei ∙ ap₂ (λ (b : Bool) (l : List ℕ). cond b (w.next ∷ []) l) new_is held_is
 
   oid_is : oid ≡ cond t.by_id (only (cond (t.by_id && eqb (length held) 0) (w.next ∷ []) held)) a
-  oid_is = ids.2 ∙ ap (λ (l : List ℕ). cond t.by_id (only l) a) list_is
+  oid_is = eo ∙ ap (λ (l : List ℕ). cond t.by_id (only l) a) list_is
 
   at_block : (p : Space) (c : ℕ)
       → flushing_of size t image' (taken p (record { chunk = c; block = a })) heads' bytes fs' is' ps'
-      (record { next = w.next + new; freed = f; removed = w.removed; moved = m; allocated = w.allocated + 1 })
+      (record { next = w.next + k; freed = f; removed = w.removed; moved = m; allocated = w.allocated + 1 })
       ≡ write_at (state_of size t heads bytes) xid n (record { chunk = c; block = a }) (flushing_of size t image p heads bytes fs is ps w)
   unfolding flushing_of write_at state_of packed_at
   at_block p c =
-      flushing_same image' _ _ (nodes_of size heads' bytes t.used) _ (w.next + new) _ (numbers_of f fs') _ _ (pairs_of m is' ps') _
+      flushing_same image' _ _ (nodes_of size heads' bytes t.used) _ (w.next + k) _ (numbers_of f fs') _ _ (pairs_of m is' ps') _
       (w.allocated + 1) _
       (em ∙ ap (λ (o : ℕ). packed_at (state_of size t heads bytes) xid n a o image) oid_is)
       (nodes_are ∙ ap₂ (λ (y : MemNode) (l : List ℕ). set (nodes_of size heads bytes t.used) n (rewritten y a l)) (sym node_is) list_is)
-      (ap (λ (x : ℕ). w.next + x) new_is)
+      (ap (λ (x : ℕ). w.next + x) count_is)
       (pf.numbers ∙ ap (λ (l : List ℕ). numbers_of w.freed fs ++ l) (sym (ap (λ (y : MemNode). y.block) node_is ∙ left_is)))
-      (pairs_push t.by_id w.moved m m' k oid a is is' ps ps' ev pi pp
-      ∙ ap (λ (o : ℕ). pairs_of w.moved is ps ++ cond t.by_id ((o, a) ∷ []) []) oid_is)
+      (pairs_push t.by_id w.moved m m' oid a o o' is is' ps ps' e1 e2 pi pp
+      ∙ ap (λ (x : ℕ). pairs_of w.moved is ps ++ cond t.by_id ((x, a) ∷ []) []) oid_is)
       (add-one w.allocated)
 
   pub at_wrote : WroteAt size t xid n a image image' heads heads' bytes fs fs' is is' ps ps' w
-      (record { next = w.next + new; freed = f; removed = w.removed; moved = m; allocated = w.allocated + 1 })
+      (record { next = w.next + k; freed = f; removed = w.removed; moved = m; allocated = w.allocated + 1 })
   at_wrote = record { is = at_block }
 
   pub at_left : length heads' ≡ length heads → Left size slots t heads heads' bytes fs fs' is is' ps ps' w
-      (record { next = w.next + new; freed = f; removed = w.removed; moved = m; allocated = w.allocated + 1 })
+      (record { next = w.next + k; freed = f; removed = w.removed; moved = m; allocated = w.allocated + 1 })
   at_left e = record {
-    standing = standing_after size slots n a t heads heads' bytes (marked nm id) st hd.alive.used put_is e;
-    alike = alike_after size slots n a t heads heads' bytes (marked nm id) st hd.alive.used put_is;
+    standing = standing_after size slots n a t heads heads' bytes (option_to_list id) st hd.alive.used put_is e;
+    alike = alike_after size slots n a t heads heads' bytes (option_to_list id) st hd.alive.used put_is;
     freed = pf.past;
     ids = pi.past;
-    places = rw (sym (pairs_end w.moved m m' k oid a is is' ps ps' pi pp)) pp.past;
+    places = rw (sym (pairs_end t.by_id w.moved m m' oid a o o' is is' ps ps' e1 e2 pi pp)) pp.past;
     frees = omega (arith, pf.count);
     moves = omega (arith, pi.count);
     removed = refl;
@@ -186,33 +164,23 @@ module _ (size slots xid n a : ℕ) (t : Tree) (image image' heads heads' bytes 
 
 -- ---- room for one node
 
-module _ (size n : ℕ) (t : Tree) (heads bytes fs is ps : List ℕ) (w : code.Flushing) (r : Room size t heads bytes fs is ps n w) (h : Words)
-    (eh : h ≡ words_of (head_at heads n)) where
-  pub room_freed : h.placed ≡ 1 → w.freed < length fs
-  unfolding node_in node_of words_of marked
-  room_freed e =
-      let z : (head_at heads n).placed ≡ 1 = sym (ap (λ (x : Words). x.placed) eh) ∙ e in
-      let q = rw z at r.freed in
-      omega arith
+module _ (size n : ℕ) (t : Tree) (heads bytes fs is ps : List ℕ) (w : code.Flushing) (r : Room size t heads bytes fs is ps n w) (h : Head)
+    (eh : h ≡ live (head_at heads n)) where
+  pub room_freed : (o : Option ℕ) → option_to_list o ≡ marked h.placed h.block → w.freed + length (option_to_list o) ≤ length fs
+  unfolding node_in node_of live
+  room_freed o e = rw (e, eh) r.freed
 
-  pub room_ids : (k : ℕ) → k ≡ cond t.by_id 1 0 → k ≡ 1 → w.moved < length is
-  room_ids k e f = omega (arith, r.ids)
+  pub room_ids : (x : ℕ) (o : Option ℕ) → o ≡ then_some t.by_id x → w.moved + length (option_to_list o) ≤ length is
+  room_ids x o e = omega (arith, some_length t.by_id x o e, r.ids)
 
-  pub room_places : (k : ℕ) → k ≡ cond t.by_id 1 0 → k ≡ 1 → w.moved < length ps
-  room_places k e f = omega (arith, r.places)
+  pub room_places : (x : ℕ) (o : Option ℕ) → o ≡ then_some t.by_id x → w.moved + length (option_to_list o) ≤ length ps
+  room_places x o e = omega (arith, some_length t.by_id x o e, r.places)
 
-  pub room_next : (new : ℕ) → new ≡ cond (t.by_id && not (eqb h.named 1)) 1 0 → w.next + new < 2 ^ 64
-  unfolding node_in node_of words_of marked
-  room_next new e =
-      let z : new ≡ cond (t.by_id && not (eqb (head_at heads n).named 1)) 1 0 = e
-      ∙ ap (λ (x : Words). cond (t.by_id && not (eqb x.named 1)) 1 0) eh in
-      by_test (eqb (head_at heads n).named 1)
-      (λ q. let y = rw q at r.next in let x = rw q at z in omega arith)
-      (λ q. let y = rw q at r.next in let x = rw q at z in omega arith)
+  pub room_next : (own : Option ℕ) (new : Bool) (k : ℕ) → option_to_list own ≡ marked h.named h.id
+      → new ≡ t.by_id && eqb (length (option_to_list own)) 0 → k ≡ from_bool new → w.next + k < 2 ^ 64
+  unfolding node_in node_of live
+  room_next own new k e f g = rw (g, bool_number new, f, e, eh) r.next
 
   -- room for one more, and for as many as are moved: a wrong count is refused for what it says, not for its size
-  pub room_allocated : (k : ℕ) → k ≡ cond t.by_id 1 0 → (w.allocated + 1 < 2 ^ 64) × (w.allocated + k < 2 ^ 64)
-  room_allocated k e =
-      by_test t.by_id
-      (λ q. let z = rw q at e in (r.allocated, omega (arith, r.allocated)))
-      (λ q. let z = rw q at e in (r.allocated, omega (arith, r.allocated)))
+  pub room_allocated : (w.allocated + 1 < 2 ^ 64) × (w.allocated + from_bool t.by_id < 2 ^ 64)
+  room_allocated = (r.allocated, by_test t.by_id (λ q. rw q (omega (arith, r.allocated))) (λ q. rw q (omega (arith, r.allocated))))

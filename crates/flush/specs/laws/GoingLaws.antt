@@ -1,24 +1,21 @@
 -- Laws of the walk over a node's children, then the node. Assumes nothing.
-use Rattle.std.specs.Prelude.{◌≡◌, refl, drop}
+use Rattle.std.specs.Prelude.{◌≡◌, refl, drop, Option}
 use Rattle.std.proofs.Math.Path.{sym, ap}
 use Rattle.std.proofs.Common.{◌∙◌, drop_of_length-le, get_or-drop}
 use mathlib.Core.List.{List, [], ◌∷◌}
 use Prim.Native.Nat.{ℕ, suc, ◌+◌, ◌-◌, ◌≤◌, ◌<◌}
 use native.Mathlib.Omega.{arith}
 use Rattle.std.proofs.Math.ListN.{length, get_or}
-use Rattle.tree.specs.Format.{Entry, Val, ghost, leaf, disk, mem, val_at, MemNode, head_at, record_length, records_length, entry_of, entries_of}
+use Rattle.tree.specs.Format.{Entry, Val, ghost, leaf, disk, mem, val_at, MemNode, Head, head_at, record_length, records_length, entry_of, entries_of}
 use Rattle.tree.specs.State.{State, node_at}
 use Rattle.tree.specs.Workspace.{slot_bytes, state_of}
 use Rattle.tree.specs.internal.Bank.{node_in, live, Ready}
-use Rattle.tree.specs.internal.Block.{words_of}
 use Rattle.tree.specs.internal.Kids.{slots_of, kid_means}
 use Rattle.tree.specs.laws.base.NodeSlots.{at_next, entries_head, length_entries}
 use Rattle.tree.specs.laws.slots.Bank.{live_entries}
 use Rattle.tree.specs.laws.slots.OneSlot.{slot_room}
 use Rattle.tree.specs.laws.state.State.{by_val}
 use Rattle.tree.specs.laws.slots.Tree.{node_in_lem}
-use Rattle.tree.specs.declared.block.Words.{Words}
-use Rattle.tree.specs.declared.kids.Kid.{Kid}
 use Rattle.tree.specs.declared.editor.Tree.{Tree}
 use Rattle.flush.specs.Space.{space_of}
 use Rattle.flush.specs.Flush.{Flushing, write_node, write_kids, write_from}
@@ -41,11 +38,11 @@ no_slot : (v : Val) (c : ℕ) → slots_of v ≡ [] → v ≡ mem c → ⊥
 unfolding slots_of
 no_slot v c e q = let z : ◌≡◌ {A = List ℕ} (c ∷ []) [] = rw q at e in omega (arith, ap length z)
 
-kid_in : (k : Kid) (kid : ℕ) (v : Val) → kid_means k ≡ slots_of v → k.slot ≡ Some kid → v ≡ mem kid
+kid_in : (k : Option ℕ) (kid : ℕ) (v : Val) → kid_means k ≡ slots_of v → k ≡ Some kid → v ≡ mem kid
 unfolding kid_means
 kid_in k kid v e h = one_slot v kid (sym e ∙ rw h)
 
-kid_out : (k : Kid) (v : Val) → kid_means k ≡ slots_of v → k.slot ≡ None → slots_of v ≡ []
+kid_out : (k : Option ℕ) (v : Val) → kid_means k ≡ slots_of v → k ≡ None → slots_of v ≡ []
 unfolding kid_means
 kid_out k v e h = sym e ∙ rw h
 
@@ -75,17 +72,17 @@ leaf_wrote d s xid n w e x q = q ∙ leaf_is d s xid n w e
 
 -- ---- the records of a node that is no leaf
 
-pub kids_count : (h w : Words) → h ≡ w → h.count ≡ w.count
-kids_count h w e = ap (λ (x : Words). x.count) e
+pub kids_count : (h w : Head) → h ≡ w → h.count ≡ w.count
+kids_count h w e = ap (λ (x : Head). x.count) e
 
-module _ (size slots n d : ℕ) (t : Tree) (heads bytes part : List ℕ) (count : ℕ) (nz : d ≡ 0 → ⊥) (ec : count ≡ (words_of (head_at heads n)).count)
+module _ (size slots n d : ℕ) (t : Tree) (heads bytes part : List ℕ) (count : ℕ) (nz : d ≡ 0 → ⊥) (ec : count ≡ (live (head_at heads n)).count)
     (is : part ≡ slot_bytes size bytes n) (r : Ready size slots t.used heads bytes) (hn : n < t.used) where
   pub kids_room : records_length count part ≤ length part
-  unfolding words_of
+  unfolding live
   kids_room = rw ec (slot_room size slots t.used n heads bytes r hn part is (live (head_at heads n)) refl)
 
   node_records : (node_at (state_of size t heads bytes) n).entries ≡ entries_of count part
-  unfolding node_in words_of
+  unfolding node_in live
   node_records =
       ap (λ (m : MemNode). m.entries) (node_in_lem size t heads bytes n hn) ∙ live_entries (head_at heads n) (slot_bytes size bytes n)
       ∙ rw (ec, is)
@@ -126,16 +123,16 @@ module _ (size slots blocks xid n d : ℕ) (t : Tree) (part cs bytes image₀ bm
     abbrev now : Flushing
     now = flushing_of size t image (space_of bm cs fr) heads bytes fs is ps v
 
-    module _ (hi : i < count) (k : Kid) (ek : kid_means k ≡ slots_of (entry_of (drop at part)).value) (en : k.next
+    module _ (hi : i < count) (k : Option ℕ) (next : ℕ) (ek : kid_means k ≡ slots_of (entry_of (drop at part)).value) (en : next
         ≡ at + record_length (drop at part)) where
       next_is : drop i (entries_of count part) ≡ entry_of (drop at part) ∷ drop (i + 1) (entries_of count part)
       next_is = entries_head i count at part hi g.place
 
-      place_is : k.next ≡ records_length (i + 1) part
-      place_is = at_next part i at k.next g.place en
+      place_is : next ≡ records_length (i + 1) part
+      place_is = at_next part i at next g.place en
 
-      pub go_skip : k.slot ≡ None
-          → Going size slots blocks t xid d count (i + 1) k.next part cs bytes image₀ bm₀ fr₀ heads₀ fs₀ is₀ ps₀ w image bm fr heads fs is ps v
+      pub go_skip : k ≡ None
+          → Going size slots blocks t xid d count (i + 1) next part cs bytes image₀ bm₀ fr₀ heads₀ fs₀ is₀ ps₀ w image bm fr heads fs is ps v
       go_skip h =
           let z = kid_out k (entry_of (drop at part)).value ek h in
           record {
@@ -147,7 +144,7 @@ module _ (size slots blocks xid n d : ℕ) (t : Tree) (part cs bytes image₀ bm
             spaced = g.spaced;
           }
 
-      module _ (kid : ℕ) (h : k.slot ≡ Some kid) where
+      module _ (kid : ℕ) (h : k ≡ Some kid) where
         kid_is : (entry_of (drop at part)).value ≡ mem kid
         kid_is = kid_in k kid (entry_of (drop at part)).value ek h
 
@@ -166,7 +163,7 @@ module _ (size slots blocks xid n d : ℕ) (t : Tree) (part cs bytes image₀ bm
             ≡ write_from (d - 1) (state_of size t heads bytes) xid kid (flushing_of size t image (space_of bm cs fr) heads bytes fs is ps v)
             → Left size slots t heads heads' bytes fs fs' is is' ps ps' v v' → Spaced size blocks (space_of bm' cs fr')
             → Going size slots blocks t xid d count (i + 1)
-            k.next part cs bytes image₀ bm₀ fr₀ heads₀ fs₀ is₀ ps₀ w image' bm' fr' heads' fs' is' ps' v'
+            next part cs bytes image₀ bm₀ fr₀ heads₀ fs₀ is₀ ps₀ w image' bm' fr' heads' fs' is' ps' v'
         go_turn image' bm' fr' heads' fs' is' ps' v' e l sp = record {
           passed = omega arith;
           place = place_is;
@@ -175,7 +172,7 @@ module _ (size slots blocks xid n d : ℕ) (t : Tree) (part cs bytes image₀ bm
           spaced = sp;
         }
 
-        module _ (nz : d ≡ 0 → ⊥) (ec : count ≡ (words_of (head_at heads₀ n)).count) (ep : part ≡ slot_bytes size bytes n)
+        module _ (nz : d ≡ 0 → ⊥) (ec : count ≡ (live (head_at heads₀ n)).count) (ep : part ≡ slot_bytes size bytes n)
             (r : Ready size slots t.used heads₀ bytes) (hn : n < t.used) where
           entries_are : (node_in size heads bytes n).entries ≡ entries_of count part
           entries_are =
@@ -209,7 +206,7 @@ module _ (size slots blocks xid n d : ℕ) (t : Tree) (part cs bytes image₀ bm
               rw child_is (fitting_less a b c u (write_node s₀ xid n x) o f')
 
     -- the end of the loop, and the node
-    module _ (nz : d ≡ 0 → ⊥) (ec : count ≡ (words_of (head_at heads₀ n)).count) (ep : part ≡ slot_bytes size bytes n)
+    module _ (nz : d ≡ 0 → ⊥) (ec : count ≡ (live (head_at heads₀ n)).count) (ep : part ≡ slot_bytes size bytes n)
         (r : Ready size slots t.used heads₀ bytes) (al : Alive size t heads₀ bytes n) (hi : count ≤ i) where
       kids_are : now ≡ write_kids (write_from (d - 1) s₀ xid) (entries_of count part) start
       unfolding write_kids

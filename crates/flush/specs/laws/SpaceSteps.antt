@@ -13,8 +13,8 @@ use Rattle.std.proofs.Math.Dec.{leb}
 use Rattle.std.specs.Int.Bits.{bit_and, bit_or, or_add_and}
 use Rattle.std.proofs.lemmas.Nat.{and_mask, mod-pow-add}
 use Rattle.std.proofs.lemmas.Nat.Bits.{and_high}
-use Rattle.std.specs.Int.{div_ceil}
-use Rattle.std.specs.Int.Count.{ones, ones_step}
+use Rattle.std.specs.Int.{div_ceil, trailing_ones, w8}
+use Rattle.std.specs.Int.Count.{ones, ones_step, count_trailing_zeros}
 use borrow.Author.Tests.{eqb-true, eqb-false, eq-eqb, ne_eqb, leb-true, leb-false, le-leb, lt-leb}
 use Rattle.tree.specs.laws.base.Node.{by_test, never, and_split, and-false}
 use Rattle.tree.specs.Lent.{is_size}
@@ -86,6 +86,22 @@ ones_most (suc k) x = by_test (eqb (x % 2) 1) (λ t. let i = ones_most k (x / 2)
 pub zero_most : (x : ℕ) → first_zero x ≤ 8
 unfolding first_zero
 zero_most x = ones_most 8 x
+
+-- the 1 bits at the start of a byte, as the library counts them
+zeros_ones : (k x : ℕ) → x < 2 ^ k → count_trailing_zeros k (2 ^ k - 1 - x) ≡ ones_below k x
+unfolding count_trailing_zeros ones_below
+zeros_ones zero x h = refl
+zeros_ones (suc k) x h =
+    let p : 2 ^ suc k ≡ 2 ^ k * 2 = pow-suc 2 k in
+    let q : (2 ^ suc k - 1 - x) / 2 ≡ 2 ^ k - 1 - x / 2 = omega (arith, p) in
+    let i : count_trailing_zeros k (2 ^ k - 1 - x / 2) ≡ ones_below k (x / 2) = zeros_ones k (x / 2) (omega (arith, p)) in
+    by_test (eqb (x % 2) 1)
+    (λ t. let e : x % 2 ≡ 1 = eqb-true (x % 2) 1 t in let r : (2 ^ suc k - 1 - x) % 2 ≡ 0 = omega (arith, p) in rw (r, q, i, t))
+    (λ t. let e : x % 2 ≡ 1 → ⊥ = eqb-false (x % 2) 1 t in let r : (2 ^ suc k - 1 - x) % 2 ≡ 1 = omega (arith, p) in rw (r, t))
+
+pub ones_first : (x : ℕ) → x < 2 ^ 8 → trailing_ones w8 x ≡ first_zero x
+unfolding first_zero
+ones_first x h = zeros_ones 8 x h
 
 -- the 1 bits at a byte's start are passed over
 past_ones : (bm : List ℕ) (a k j m : ℕ) → a % 8 ≡ 0 → k + j ≤ 8
@@ -631,3 +647,11 @@ allocated_held size p h = after (choose size p) refl
         let g : length (set p.free x.chunk (get_or p.free x.chunk 0 - 1)) ≡ length p.free = length-set p.free x.chunk
         (get_or p.free x.chunk 0 - 1) in
         rw e (record { sized = h.sized; mapped = l ∙ h.mapped; few = rw l h.few; paired = g ∙ h.paired; counted = h.counted })
+
+pub ruleset counting = (mask_some, masked_most, zeros_left)
+
+pub ruleset finding = (chunk_aligned, chunk_mapped, chunk_small, chunk_free, free_none, free_some)
+
+pub ruleset using_up = (chunk_aligned, chunk_mapped, chunk_small, chunk_free, usable_most, usable_is)
+
+pub ruleset holding = (bitmap_fits, space_chunks, space_counts, space_map)

@@ -7,13 +7,11 @@ use native.Mathlib.Omega.{arith}
 use Rattle.std.proofs.Math.ListN.{length, length-append}
 use Rattle.std.proofs.Math.Dec.{eqb}
 use borrow.Author.Tests.{eq-eqb, ne_eqb}
-use Rattle.tree.specs.Format.{head_at, node_of, only}
+use Rattle.tree.specs.Format.{Head, head_at, node_of, only}
 use Rattle.tree.specs.State.{State, no_node}
 use Rattle.tree.specs.Workspace.{nodes_of, state_of}
-use Rattle.tree.specs.internal.Bank.{node_in}
-use Rattle.tree.specs.internal.Block.{words_of}
+use Rattle.tree.specs.internal.Bank.{node_in, live}
 use Rattle.tree.specs.laws.slots.Bank.{node_at_lem}
-use Rattle.tree.specs.declared.block.Words.{Words}
 use Rattle.tree.specs.declared.editor.Tree.{Tree}
 use Rattle.flush.specs.Space.{Space, choose, choice_means, taken, allocated, Held}
 use Rattle.flush.specs.laws.SpaceLaws.{by_list, chosen_inside, taken_holds}
@@ -22,7 +20,9 @@ use Rattle.flush.specs.Flush.{Flushing, write_at, write_node}
 use Rattle.flush.specs.declared.flush.Flushing as code
 use Rattle.flush.specs.Answers.{pairs_of}
 use Rattle.flush.specs.internal.Lists.{numbers_of}
-use Rattle.flush.specs.internal.Walk.{flushing_of, Alive, Dirty, Standing, Spaced, Alike, Fitting, Room, Left, WroteAt}
+use Rattle.flush.specs.internal.Walk.{flushing_of, Alive, Dirty, Standing, Spaced, Alike, Fitting, Room, Left, WroteAt, Same, SameLists, Listed, Kept}
+use Rattle.flush.specs.declared.flush.Reports.{Reports}
+use Rattle.std.specs.Borrow.{MutBor}
 use Rattle.flush.specs.laws.ListLaws.{numbers_length, pairs_length, past_refl, past_on}
 use Rattle.std.specs.Prelude.{Option, Some, None}
 use Rattle.flush.specs.declared.space.Choice as chosen_by
@@ -62,6 +62,39 @@ left_on size slots t h h' h'' bytes fs fs' fs'' is is' is'' ps ps' ps'' u v w p 
       frees = omega (arith, p.frees, q.frees);
       moves = omega (arith, p.moves, q.moves);
       removed = q.removed ∙ p.removed;
+    }
+
+-- ---- the lists that are lent
+
+pub same_refl : (x : MutBor (List ℕ)) → Same x x
+same_refl x = record { reference = refl; long = refl }
+
+pub same_on : (x y z : MutBor (List ℕ)) → Same x y → Same y z → Same x z
+same_on x y z p q = record { reference = q.reference ∙ p.reference; long = q.long ∙ p.long }
+
+same_is : (x y z : MutBor (List ℕ)) → y ≡ x → Same y z → Same x z
+same_is x y z e q = rw (← e) q
+
+pub kept_refl : (l : Reports) → Kept l l
+kept_refl l = record { freed = same_refl l.freed; removed = refl; ids = same_refl l.ids; places = same_refl l.places }
+
+pub kept_on : (l m k : Reports) → Kept l m → Kept m k → Kept l k
+kept_on l m k p q =
+    record {
+      freed = same_on l.freed m.freed k.freed p.freed q.freed;
+      removed = q.removed ∙ p.removed;
+      ids = same_on l.ids m.ids k.ids p.ids q.ids;
+      places = same_on l.places m.places k.places p.places q.places;
+    }
+
+-- dead nodes listed, then the walk
+pub lists_same : (l m k : Reports) → Listed l m → Kept m k → SameLists l k
+lists_same l m k p q =
+    record {
+      freed = same_on l.freed m.freed k.freed p.freed q.freed;
+      removed = rw q.removed p.removed;
+      ids = same_is l.ids m.ids k.ids p.ids q.ids;
+      places = same_is l.places m.places k.places p.places q.places;
     }
 
 -- ---- the space
@@ -104,15 +137,15 @@ module _ (size length' : ℕ) (p : Space) (s : Spaced size (length' / size) p) (
 
 -- ---- the node
 
-pub node_dirty : (size n : ℕ) (t : Tree) (heads bytes : List ℕ) → Alive size t heads bytes n → (h : Words) → h ≡ words_of (head_at heads n)
+pub node_dirty : (size n : ℕ) (t : Tree) (heads bytes : List ℕ) → Alive size t heads bytes n → (h : Head) → h ≡ live (head_at heads n)
     → h.dirty ≡ 1
     → Dirty size t heads bytes n
-unfolding node_in node_of words_of
+unfolding node_in node_of live
 node_dirty size n t heads bytes al h eh d =
-    record { alive = al; dirty = ap (λ (x : Words). eqb x.dirty 1) (sym eh) ∙ eq-eqb h.dirty 1 d }
+    record { alive = al; dirty = ap (λ (x : Head). eqb x.dirty 1) (sym eh) ∙ eq-eqb h.dirty 1 d }
 
 module _ (size xid n : ℕ) (t : Tree) (image heads bytes fs is ps : List ℕ) (p : Space) (w : code.Flushing) (al : Alive size t heads bytes n)
-    (h : Words) (eh : h ≡ words_of (head_at heads n)) where
+    (h : Head) (eh : h ≡ live (head_at heads n)) where
   abbrev s : State
   s = state_of size t heads bytes
 
@@ -123,7 +156,7 @@ module _ (size xid n : ℕ) (t : Tree) (image heads bytes fs is ps : List ℕ) (
   node_is = node_at_lem size heads bytes t.used n al.used
 
   dirty_is : (node_in size heads bytes n).dirty ≡ eqb h.dirty 1
-  unfolding node_in node_of words_of
+  unfolding node_in node_of live
   dirty_is = rw eh
 
   pub node_clean : (h.dirty ≡ 1 → ⊥) → flushing_of size t image p heads bytes fs is ps w

@@ -1,58 +1,57 @@
 -- Laws of the sums that flush counts first: they stop above a limit, and tell whether it is passed. Assumes nothing.
-use Rattle.std.specs.Prelude.{◌≡◌, refl, List, [], ◌∷◌, Bool, true, false, cond, not, ◌&&◌, length, get_or, drop, eqb, leb}
+use Rattle.std.specs.Prelude.{◌≡◌, refl, List, [], ◌∷◌, Bool, true, false, cond, ◌&&◌, length, get_or, drop, eqb, leb}
 use Rattle.std.proofs.Common.{sym, ◌∙◌, drop_of_length-le, eq-eqb, ne_eqb, leb-true, leb-false}
 use Rattle.std.proofs.Math.Path.{ap}
-use Prim.Native.Nat.{ℕ, zero, suc, ◌+◌, ◌-◌, ◌*◌, ◌/◌, ◌≤◌, ◌<◌}
+use Prim.Native.Nat.{ℕ, zero, suc, ◌+◌, ◌-◌, ◌*◌, ◌/◌, ◌≤◌, ◌<◌, ◌^◌}
 use native.Mathlib.Omega.{arith}
 use Rattle.tree.specs.Format.{Entry, Val, MemNode, Head, head_at, marked, node_of, records_length, entry_of, entries_of, data_space, packed_length}
 use Rattle.tree.specs.State.{State, no_node, node_at}
 use Rattle.tree.specs.Workspace.{slot_bytes, state_of}
 use Rattle.tree.specs.internal.Bank.{node_in, live, Ready}
-use Rattle.tree.specs.internal.Block.{words_of}
 use Rattle.tree.specs.internal.Kids.{slots_of, kid_means}
 use Rattle.tree.specs.laws.base.Node.{by_test}
 use Rattle.tree.specs.laws.base.NodeSlots.{entries_head, length_entries}
 use Rattle.tree.specs.laws.slots.Bank.{live_entries}
+use Rattle.tree.specs.laws.slots.Block.{bool_number}
 use Rattle.tree.specs.laws.slots.OneSlot.{slot_room}
 use Rattle.tree.specs.laws.state.State.{by_val}
 use Rattle.tree.specs.laws.slots.Tree.{node_in_lem, node_out}
 use Rattle.tree.specs.declared.editor.Tree.{Tree}
-use Rattle.tree.specs.declared.block.Words.{Words}
-use Rattle.tree.specs.declared.kids.Kid.{Kid}
 use Rattle.flush.specs.Flush.{sum_kids, sum_from, fill}
 use Rattle.flush.specs.declared.flush.Wanted.{Wanted}
 use Rattle.flush.specs.internal.Counts.{dirty_one, id_one, Counted}
-use Rattle.std.specs.Prelude.{Some, None}
+use Rattle.std.specs.Prelude.{Option, Some, None, option_to_list}
+use Rattle.std.specs.Int.{from_bool}
 
 -- ---- one node
 
-module _ (b : Bool) (dirty named : ℕ) (s : Wanted) where
-  pub wanted_clean : (dirty ≡ 1 → ⊥) → s.dirty ≡ s.dirty + cond (eqb dirty 1) 1 0
-  wanted_clean d = rw (ne_eqb dirty 1 d) (omega arith)
+module _ (b : Bool) (h : Head) (s : Wanted) where
+  pub wanted_clean : (h.dirty ≡ 1 → ⊥) → s.dirty ≡ s.dirty + cond (eqb h.dirty 1) 1 0
+  wanted_clean d = rw (ne_eqb h.dirty 1 d) (omega arith)
 
-  pub wanted_none : (dirty ≡ 1 → ⊥) → s.ids ≡ s.ids + cond (eqb dirty 1 && b && not (eqb named 1)) 1 0
-  wanted_none d = rw (ne_eqb dirty 1 d) (omega arith)
+  pub wanted_none : (h.dirty ≡ 1 → ⊥) → s.ids ≡ s.ids + cond (eqb h.dirty 1 && b && eqb (length (marked h.named h.id)) 0) 1 0
+  wanted_none d = rw (ne_eqb h.dirty 1 d) (omega arith)
 
-  pub wanted_dirty : dirty ≡ 1 → s.dirty + 1 ≡ s.dirty + cond (eqb dirty 1) 1 0
-  wanted_dirty d = rw (eq-eqb dirty 1 d)
+  pub wanted_dirty : h.dirty ≡ 1 → s.dirty + 1 ≡ s.dirty + cond (eqb h.dirty 1) 1 0
+  wanted_dirty d = rw (eq-eqb h.dirty 1 d)
 
-  pub wanted_new : dirty ≡ 1 → b ≡ true → (named ≡ 1 → ⊥) → s.ids + 1 ≡ s.ids + cond (eqb dirty 1 && b && not (eqb named 1)) 1 0
-  wanted_new d e n = rw (eq-eqb dirty 1 d, e, ne_eqb named 1 n)
+  pub wanted_ids : h.dirty ≡ 1 → (own : Option ℕ) (new : Bool) (k : ℕ) → option_to_list own ≡ marked h.named h.id
+      → new ≡ b && eqb (length (option_to_list own)) 0 → k ≡ from_bool new
+      → s.ids + k ≡ s.ids + cond (eqb h.dirty 1 && b && eqb (length (marked h.named h.id)) 0) 1 0
+  wanted_ids d own new k e f g = rw (g, bool_number new, f, e, eq-eqb h.dirty 1 d)
 
-  pub wanted_old : dirty ≡ 1 → b ≡ true → named ≡ 1 → s.ids ≡ s.ids + cond (eqb dirty 1 && b && not (eqb named 1)) 1 0
-  wanted_old d e n = rw (eq-eqb dirty 1 d, e, eq-eqb named 1 n) (omega arith)
+  pub wanted_fits : (t : Bool) (k : ℕ) → s.ids < 2 ^ 40 → k ≡ from_bool t → s.ids + k < 2 ^ 64
+  wanted_fits true k l e = omega arith
+  wanted_fits false k l e = omega arith
 
-  pub wanted_physical : dirty ≡ 1 → b ≡ false → s.ids ≡ s.ids + cond (eqb dirty 1 && b && not (eqb named 1)) 1 0
-  wanted_physical d e = rw (eq-eqb dirty 1 d, e) (omega arith)
+  pub own_most : (limit : ℕ) (u : Wanted) → s.dirty ≤ limit → u.dirty ≡ s.dirty + cond (eqb h.dirty 1) 1 0 → u.dirty ≤ limit + 1
+  own_most limit u l e = by_test (eqb h.dirty 1) (λ t. let q = rw t at e in omega arith) (λ t. let q = rw t at e in omega arith)
 
-  pub own_most : (limit : ℕ) (u : Wanted) → s.dirty ≤ limit → u.dirty ≡ s.dirty + cond (eqb dirty 1) 1 0 → u.dirty ≤ limit + 1
-  own_most limit u h e = by_test (eqb dirty 1) (λ t. let q = rw t at e in omega arith) (λ t. let q = rw t at e in omega arith)
-
-  pub own_few : (u : Wanted) → s.ids ≤ s.dirty → u.dirty ≡ s.dirty + cond (eqb dirty 1) 1 0
-      → u.ids ≡ s.ids + cond (eqb dirty 1 && b && not (eqb named 1)) 1 0 → u.ids ≤ u.dirty
-  own_few u h e f =
-      by_test (eqb dirty 1)
-      (λ t. by_test (b && not (eqb named 1))
+  pub own_few : (u : Wanted) → s.ids ≤ s.dirty → u.dirty ≡ s.dirty + cond (eqb h.dirty 1) 1 0
+      → u.ids ≡ s.ids + cond (eqb h.dirty 1 && b && eqb (length (marked h.named h.id)) 0) 1 0 → u.ids ≤ u.dirty
+  own_few u l e f =
+      by_test (eqb h.dirty 1)
+      (λ t. by_test (b && eqb (length (marked h.named h.id)) 0)
       (λ p. let x = rw t at e in let y = rw (t, p) at f in omega arith)
       (λ p. let x = rw t at e in let y = rw (t, p) at f in omega arith))
       (λ t. let x = rw t at e in let y = rw t at f in omega arith)
@@ -61,9 +60,9 @@ dirty_of : (h : Head) (l : List ℕ) → dirty_one (node_of h l) ≡ cond (eqb h
 unfolding dirty_one node_of
 dirty_of h l = refl
 
-id_of_lem : (b : Bool) (h : Head) (l : List ℕ) → id_one b (node_of h l) ≡ cond (eqb h.dirty 1 && b && not (eqb h.named 1)) 1 0
-unfolding id_one node_of marked
-id_of_lem b h l = by_test (eqb h.named 1) (λ t. rw t) (λ t. rw t)
+id_of_lem : (b : Bool) (h : Head) (l : List ℕ) → id_one b (node_of h l) ≡ cond (eqb h.dirty 1 && b && eqb (length (marked h.named h.id)) 0) 1 0
+unfolding id_one node_of
+id_of_lem b h l = refl
 
 -- ---- the sums of a slot
 
@@ -105,11 +104,11 @@ kid_none g e es q =
     (λ r p. rw p (omega arith))
     (λ c p. absurd (omega (arith, ap length (rw p at q))))
 
-loaded_slot : (k : Kid) (kid : ℕ) (v : Val) → kid_means k ≡ slots_of v → k.slot ≡ Some kid → slots_of v ≡ kid ∷ []
+loaded_slot : (k : Option ℕ) (kid : ℕ) (v : Val) → kid_means k ≡ slots_of v → k ≡ Some kid → slots_of v ≡ kid ∷ []
 unfolding kid_means
 loaded_slot k kid v e h = sym e ∙ rw h
 
-loaded_none : (k : Kid) (v : Val) → kid_means k ≡ slots_of v → k.slot ≡ None → slots_of v ≡ []
+loaded_none : (k : Option ℕ) (v : Val) → kid_means k ≡ slots_of v → k ≡ None → slots_of v ≡ []
 unfolding kid_means
 loaded_none k v e h = sym e ∙ rw h
 
@@ -118,9 +117,9 @@ loaded_none k v e h = sym e ∙ rw h
 pub words_room : (size slots used n : ℕ) (heads bytes : List ℕ) → Ready size slots used heads bytes → n < used → (n + 1) * 9 ≤ length heads
 words_room size slots used n heads bytes r h = omega (arith, r.words, r.within)
 
-pub records_room : (size slots used n : ℕ) (heads bytes part : List ℕ) (h : Words) → Ready size slots used heads bytes → n < used
-    → part ≡ slot_bytes size bytes n → h ≡ words_of (head_at heads n) → records_length h.count part ≤ length part
-unfolding words_of
+pub records_room : (size slots used n : ℕ) (heads bytes part : List ℕ) (h : Head) → Ready size slots used heads bytes → n < used
+    → part ≡ slot_bytes size bytes n → h ≡ live (head_at heads n) → records_length h.count part ≤ length part
+unfolding live
 records_room size slots used n heads bytes part h r hn is eh =
     rw eh (slot_room size slots used n heads bytes r hn part is (live (head_at heads n)) refl)
 
@@ -150,28 +149,28 @@ module _ (limit size n : ℕ) (t : Tree) (heads bytes : List ℕ) where
     over = λ q. omega arith;
   }
 
-  module _ (hn : n < t.used) (h : Words) (eh : h ≡ words_of (head_at heads n)) (s u : Wanted) (hs : s.dirty ≤ limit) (hf : s.ids ≤ s.dirty)
+  module _ (hn : n < t.used) (h : Head) (eh : h ≡ live (head_at heads n)) (s u : Wanted) (hs : s.dirty ≤ limit) (hf : s.ids ≤ s.dirty)
       (eu : u.dirty ≡ s.dirty + cond (eqb h.dirty 1) 1 0)
-      (ei : u.ids ≡ s.ids + cond (eqb h.dirty 1 && t.by_id && not (eqb h.named 1)) 1 0) where
+      (ei : u.ids ≡ s.ids + cond (eqb h.dirty 1 && t.by_id && eqb (length (marked h.named h.id)) 0) 1 0) where
     own_dirty : dirty_one (node_at (state_of size t heads bytes) n) ≡ cond (eqb h.dirty 1) 1 0
-    unfolding node_in words_of
+    unfolding node_in live
     own_dirty = ap dirty_one (node_in_lem size t heads bytes n hn) ∙ dirty_of (head_at heads n) (slot_bytes size bytes n) ∙ rw eh
 
-    own_id : id_one t.by_id (node_at (state_of size t heads bytes) n) ≡ cond (eqb h.dirty 1 && t.by_id && not (eqb h.named 1)) 1 0
-    unfolding node_in words_of
+    own_id : id_one t.by_id (node_at (state_of size t heads bytes) n) ≡ cond (eqb h.dirty 1 && t.by_id && eqb (length (marked h.named h.id)) 0) 1 0
+    unfolding node_in live
     own_id = ap (id_one t.by_id) (node_in_lem size t heads bytes n hn) ∙ id_of_lem t.by_id (head_at heads n) (slot_bytes size bytes n) ∙ rw eh
 
     dirty_one_lem : cond (eqb h.dirty 1) 1 0 ≤ 1
     dirty_one_lem = by_test (eqb h.dirty 1) (λ q. rw q (omega arith)) (λ q. rw q (omega arith))
 
-    id_one_lem : cond (eqb h.dirty 1 && t.by_id && not (eqb h.named 1)) 1 0 ≤ cond (eqb h.dirty 1) 1 0
+    id_one_lem : cond (eqb h.dirty 1 && t.by_id && eqb (length (marked h.named h.id)) 0) 1 0 ≤ cond (eqb h.dirty 1) 1 0
     id_one_lem = by_test (eqb h.dirty 1)
-        (λ q. by_test (t.by_id && not (eqb h.named 1)) (λ p. rw (q, p) (omega arith)) (λ p. rw (q, p) (omega arith)))
+        (λ q. by_test (t.by_id && eqb (length (marked h.named h.id)) 0) (λ p. rw (q, p) (omega arith)) (λ p. rw (q, p) (omega arith)))
         (λ q. rw q (omega arith))
 
     -- the node itself is counted; more is what lies below
     counted_own : (nodes ids more names : ℕ) → nodes ≡ cond (eqb h.dirty 1) 1 0 + more
-        → ids ≡ cond (eqb h.dirty 1 && t.by_id && not (eqb h.named 1)) 1 0 + names → Counted limit nodes ids s u more names
+        → ids ≡ cond (eqb h.dirty 1 && t.by_id && eqb (length (marked h.named h.id)) 0) 1 0 + names → Counted limit nodes ids s u more names
     counted_own nodes ids more names p q = record {
       most = omega (arith, dirty_one_lem);
       few = omega (arith, id_one_lem);
@@ -187,7 +186,7 @@ module _ (limit size n : ℕ) (t : Tree) (heads bytes : List ℕ) where
 
     module _ (part : List ℕ) (is : part ≡ slot_bytes size bytes n) (d : ℕ) (dn : d ≡ 0 → ⊥) (r : Wanted) where
       node_records : (node_at (state_of size t heads bytes) n).entries ≡ entries_of h.count part
-      unfolding node_in words_of
+      unfolding node_in live
       node_records = ap (λ (m : MemNode). m.entries) (node_in_lem size t heads bytes n hn)
           ∙ live_entries (head_at heads n) (slot_bytes size bytes n) ∙ rw (eh, is)
 
@@ -220,12 +219,12 @@ count_start limit count part f g u h k = record { most = h; few = k; nodes = λ 
 
 -- a turn of the loop: i records are passed
 module _ (limit nodes ids count i at : ℕ) (part : List ℕ) (f g : ℕ → ℕ) (s u : Wanted) (hi : i < count) (ea : at ≡ records_length i part)
-    (k : Kid) (ek : kid_means k ≡ slots_of (entry_of (drop at part)).value)
+    (k : Option ℕ) (ek : kid_means k ≡ slots_of (entry_of (drop at part)).value)
     (c : Counted limit nodes ids s u (sum_kids f (drop i (entries_of count part))) (sum_kids g (drop i (entries_of count part)))) where
   next_is : drop i (entries_of count part) ≡ entry_of (drop at part) ∷ drop (i + 1) (entries_of count part)
   next_is = entries_head i count at part hi ea
 
-  pub count_skip : k.slot ≡ None
+  pub count_skip : k ≡ None
       → Counted limit nodes ids s u (sum_kids f (drop (i + 1) (entries_of count part))) (sum_kids g (drop (i + 1) (entries_of count part)))
   count_skip h =
       let z = loaded_none k (entry_of (drop at part)).value ek h in
@@ -236,7 +235,7 @@ module _ (limit nodes ids count i at : ℕ) (part : List ℕ) (f g : ℕ → ℕ
       ) at c in
       c'
 
-  pub count_turn : (kid : ℕ) (r : Wanted) → k.slot ≡ Some kid → Counted limit (f kid) (g kid) u r 0 0
+  pub count_turn : (kid : ℕ) (r : Wanted) → k ≡ Some kid → Counted limit (f kid) (g kid) u r 0 0
       → Counted limit nodes ids s r (sum_kids f (drop (i + 1) (entries_of count part))) (sum_kids g (drop (i + 1) (entries_of count part)))
   count_turn kid r h q =
       let z = loaded_slot k kid (entry_of (drop at part)).value ek h in
@@ -271,3 +270,5 @@ pub fill_is : (size : ℕ) (t : Tree) (heads bytes : List ℕ) (n space : ℕ)
     → space ≡ data_space t.info.node_size true → n * 100 / space ≡ fill (state_of size t heads bytes)
 unfolding fill state_of
 fill_is size t heads bytes n space e f = rw (e, f)
+
+pub ruleset wanting = (wanted_clean, wanted_none, wanted_dirty, wanted_ids, wanted_fits)

@@ -1,10 +1,9 @@
 -- Laws of one node written: its words, its block, what is left as it was. Assumes nothing.
-use Rattle.std.specs.Prelude.{◌≡◌, refl, List, [], ◌∷◌, map, Bool, true, false, cond, not, ◌&&◌, ℕ, suc, ◌+◌, ◌*◌, ◌≤◌, ◌<◌, length, eqb, leb, ltb}
-use Rattle.std.specs.Int.{from_bool}
+use Rattle.std.specs.Prelude.{◌≡◌, refl, List, [], ◌∷◌, map, Bool, true, false, ◌&&◌, ℕ, suc, ◌+◌, ◌*◌, ◌≤◌, ◌<◌, length, eqb, leb, ltb, Option, Some, None, option_to_list, unwrap_or}
 use Rattle.std.proofs.Common.{sym, ◌∙◌, arith}
 use Rattle.std.proofs.Math.Path.{ap, ap₂}
-use borrow.Author.Tests.{eq-eqb, ne_eqb, eqb-true, eqb-false, ltb-true, ltb-false}
-use Rattle.tree.specs.Format.{splice, Entry, mem, val_at, MemNode, Head, head_at, head_words, marked, node_of, number_of, child_number, numbered_value, numbered}
+use borrow.Author.Tests.{eqb-true, eqb-false, ltb-true, ltb-false}
+use Rattle.tree.specs.Format.{splice, Entry, mem, val_at, MemNode, Head, head_at, head_words, marked, node_of, only, number_of, child_number, numbered_value, numbered}
 use Rattle.tree.specs.Workspace.{slot_bytes, nodes_of, state_of}
 use Rattle.tree.specs.internal.Bank.{node_in, live, number_holds, words_hold, Lies, Ready, Put}
 use Rattle.tree.specs.internal.Block.{written_head}
@@ -35,75 +34,58 @@ pub type_lower : (b r : Bool) → b ≡ false → r ≡ false → 0x40000003 ≡
 unfolding type_of
 type_lower b r e f = rw (e, f)
 
-pub fresh_old : (b : Bool) (named : ℕ) → named ≡ 1 → ◌≡◌ {A = ℕ} 0 (cond (b && not (eqb named 1)) 1 0)
-fresh_old true named e = rw (eq-eqb named 1 e)
-fresh_old false named e = refl
-
-pub fresh_new : (b : Bool) (named r : ℕ) → (named ≡ 1 → ⊥) → r ≡ cond b 1 0 → r ≡ cond (b && not (eqb named 1)) 1 0
-fresh_new true named r n e = rw (ne_eqb named 1 n) e
-fresh_new false named r n e = e
-
--- a truth value as a number
-pub number_is : (b : Bool) (k : ℕ) → k ≡ from_bool b → k ≡ cond b 1 0
-number_is true k e = e
-number_is false k e = e
-
-pub id_next : (new next id : ℕ) → new ≡ 1 → next ≡ cond (eqb new 1) next id
-id_next new next id e = rw (eq-eqb new 1 e)
-
-pub id_own : (new next id : ℕ) → (new ≡ 1 → ⊥) → id ≡ cond (eqb new 1) next id
-id_own new next id n = rw (ne_eqb new 1 n)
+pub only_or : (o : Option ℕ) → unwrap_or o 0 ≡ only (option_to_list o)
+unfolding only
+only_or None = refl
+only_or (Some x) = refl
 
 -- ---- the words of a written node
 
-written_node : (h : Head) (l : List ℕ) (a named id : ℕ) → node_of (written_head h a named id) l ≡ rewritten (node_of h l) a (marked named id)
+written_node : (h : Head) (l : List ℕ) (a : ℕ) (id : Option ℕ) → node_of (written_head h a id) l ≡ rewritten (node_of h l) a (option_to_list id)
 unfolding node_of written_head rewritten marked
-written_node h l a named id = refl
+written_node h l a None = refl
+written_node h l a (Some x) = refl
 
-six : (p n d x b i : Bool) → p && n && d && x && b && i ≡ true → (n ≡ true) × (x ≡ true) × (i ≡ true)
-six false n d x b i h = never h refl
-six true false d x b i h = never h refl
-six true true false x b i h = never h refl
-six true true true false b i h = never h refl
-six true true true true false i h = never h refl
-six true true true true true i h = (refl, refl, h)
+dead_few : (p n d x b i : Bool) → p && n && d && x && b && i ≡ true → x ≡ true
+dead_few false n d x b i h = never h refl
+dead_few true false d x b i h = never h refl
+dead_few true true false x b i h = never h refl
+dead_few true true true false b i h = never h refl
+dead_few true true true true b i h = refl
 
-written_words : (b : Bool) (h : Head) (a named id : ℕ) → words_hold h ≡ true → named ≡ cond b 1 h.named → (b ≡ false → id ≡ h.id)
-    → words_hold (written_head h a named id) ≡ true
+written_words : (h : Head) (a : ℕ) (id : Option ℕ) → words_hold h ≡ true → words_hold (written_head h a id) ≡ true
 unfolding words_hold written_head number_holds
-written_words true h a named id w e f =
-    let k = six (leb h.placed 1) (leb h.named 1) (leb h.dirty 1) (leb h.dead 1) (number_holds h.placed h.block)
+written_words h a None w =
+    let k = dead_few (leb h.placed 1) (leb h.named 1) (leb h.dirty 1) (leb h.dead 1) (number_holds h.placed h.block)
     (number_holds h.named h.id) w in
-    rw (e, k.1)
-written_words false h a named id w e f =
-    let k = six (leb h.placed 1) (leb h.named 1) (leb h.dirty 1) (leb h.dead 1) (number_holds h.placed h.block)
+    rw k
+written_words h a (Some x) w =
+    let k = dead_few (leb h.placed 1) (leb h.named 1) (leb h.dirty 1) (leb h.dead 1) (number_holds h.placed h.block)
     (number_holds h.named h.id) w in
-    rw (e, f refl, k.0, k.1) k.2
+    rw k
 
-pub put_written : (size slots used n a named id : ℕ) (b : Bool) (heads heads' bytes : List ℕ) → Ready size slots used heads bytes → n < used
-    → heads' ≡ splice heads (n * 9) (head_words (written_head (head_at heads n) a named id))
-    → named ≡ cond b 1 (head_at heads n).named → (b ≡ false → id ≡ (head_at heads n).id)
-    → Put size slots heads bytes heads' bytes n (rewritten (node_in size heads bytes n) a (marked named id))
+pub put_written : (size slots used n a : ℕ) (id : Option ℕ) (heads heads' bytes : List ℕ) → Ready size slots used heads bytes → n < used
+    → heads' ≡ splice heads (n * 9) (head_words (written_head (head_at heads n) a id))
+    → Put size slots heads bytes heads' bytes n (rewritten (node_in size heads bytes n) a (option_to_list id))
 unfolding node_in live written_head
-put_written size slots used n a named id b heads heads' bytes r hn e p q =
+put_written size slots used n a id heads heads' bytes r hn e =
     let h : Head = head_at heads n in
-    let d : Head = written_head (head_at heads n) a named id in
+    let d : Head = written_head (head_at heads n) a id in
     let w : n * 9 + 9 ≤ length heads = omega (arith, r.words, r.within) in
     let s : head_at heads' n ≡ d = ap (λ (x : List ℕ). head_at x n) e ∙ head_same heads n d (omega arith) in
     let l : Lies size (live h) (slot_bytes size bytes n) = r.lies n hn in
     record {
-      node = ap (λ (x : Head). node_of x (slot_bytes size bytes n)) s ∙ written_node h (slot_bytes size bytes n) a named id;
-      lies = rw s (lies_written h (slot_bytes size bytes n) p q l);
+      node = ap (λ (x : Head). node_of x (slot_bytes size bytes n)) s ∙ written_node h (slot_bytes size bytes n) a id;
+      lies = rw s (lies_written h (slot_bytes size bytes n) l);
       words = λ j k z. ap (λ (x : List ℕ). head_at x j) e ∙ head_other heads n j d (omega arith) (λ y. z (sym y));
       parts = λ j k z. refl;
     }
   where
-    lies_written : (h : Head) (l : List ℕ) → named ≡ cond b 1 h.named → (b ≡ false → id ≡ h.id) → Lies size (live h) l
-        → Lies size (live (written_head h a named id)) l
-    lies_written h l p q y = record {
+    lies_written : (h : Head) (l : List ℕ) → Lies size (live h) l → Lies size (live (written_head h a id)) l
+    lies_written h l y = record {
       room = y.room;
       used = y.used;
-      holds = live_words (written_head h a named id) ∙ written_words b h a named id (sym (live_words h) ∙ y.holds) p q;
+      holds = live_words (written_head h a id) ∙ written_words h a id (sym (live_words h) ∙ y.holds);
     }
 
 -- ---- what is left
@@ -171,3 +153,5 @@ pub kids_numbered : (size slots n : ℕ) (t : Tree) (heads bytes : List ℕ) →
 kids_numbered size slots n t heads bytes st hn =
     numbered_same (child_number heads t.by_id) (slot_number t.by_id (nodes_of size heads bytes t.used)) (node_in size heads bytes n).entries
     (λ j c q. number_same size t.used c heads bytes t.by_id (st.kids n j c hn q).used)
+
+pub ruleset typing = (type_root, type_node, type_physical, type_lower)

@@ -7,14 +7,14 @@ use Rattle.flush.proofs.flush.+count_from.Goals as goal
 
 ruleset laws = (rules, words_room, records_room, count_out, count_full, count_leaf, own_most, own_few, count_start, count_skip, count_turn, count_end, count_whole, at_start, at_lies, at_next, ready_part, ready_most, ready_few)
 
-pub returns-then-t-n : goal.returns-then-t-n
-returns-then-t-n t c = search laws
+pub returns-then-v-n : goal.returns-then-v-n
+returns-then-v-n t c = search laws
 
 pub returns-then-limit-s : goal.returns-then-limit-s
 returns-then-limit-s t c = search laws
 
-pub words_at-h-requires : goal.words_at-h-requires
-words_at-h-requires t c = search laws
+pub live_at-h-requires : goal.live_at-h-requires
+live_at-h-requires t c = search laws
 
 pub wanted_at-sum-requires : goal.wanted_at-sum-requires
 wanted_at-sum-requires t c = search laws
@@ -29,12 +29,12 @@ pub loop-i-init : goal.loop-i-init
 loop-i-init t c = (
   search laws,
   search laws,
-  count_start _ _ _ _ _ _ (own_most c.args.t.by_id c.words_at-h.result.dirty c.words_at-h.result.named c.args.s _ c.wanted_at-sum.result c.if-limit-s.false c.wanted_at-sum.ensures.0)
-      (own_few c.args.t.by_id c.words_at-h.result.dirty c.words_at-h.result.named c.args.s c.wanted_at-sum.result c.requires.dirty_bound.1 c.wanted_at-sum.ensures.0 c.wanted_at-sum.ensures.1),
+  count_start _ _ _ _ _ _ (own_most c.args.v.tree.by_id c.live_at-h.result c.args.s _ c.wanted_at-sum.result c.if-limit-s.false c.wanted_at-sum.ensures.0)
+      (own_few c.args.v.tree.by_id c.live_at-h.result c.args.s c.wanted_at-sum.result c.requires.1 c.wanted_at-sum.ensures.0 c.wanted_at-sum.ensures.1),
 )
 
-pub kid_of-kid-requires : goal.kid_of-kid-requires
-kid_of-kid-requires t c = search laws
+pub invariant_of-r : goal.invariant_of-r
+invariant_of-r t c = record { lies = search laws }
 
 pub loop-i-preserved-in_default : goal.loop-i-preserved-in_default
 loop-i-preserved-in_default t c = search laws
@@ -45,7 +45,7 @@ overflow_sub-d t c = search laws
 pub count_from-sum-requires : goal.count_from-sum-requires
 count_from-sum-requires t c = (
   omega (arith, c.if-d-eq0.false, c.decreases),
-  (c.requires.ready, (c.loop-i.invariant.2.most, c.loop-i.invariant.2.few, c.requires.dirty_bound.2)),
+  (c.loop-i.invariant.2.most, c.loop-i.invariant.2.few, c.requires.2),
 )
 
 pub loop-i-preserved : goal.loop-i-preserved
@@ -53,5 +53,5 @@ loop-i-preserved t c = search laws
 
 pub returns : goal.returns
 returns t c =
-    count_whole _ _ _ c.args.t _ _ c.if-t-n.false _ c.words_at-h.ensures c.args.s _ c.if-limit-s.false c.requires.dirty_bound.1 c.wanted_at-sum.ensures.0 c.wanted_at-sum.ensures.1
-    _ c.slot_of-part.ensures _ c.if-d-eq0.false _ (count_end _ _ _ _ _ _ _ _ _ _ c.loop-i-test.false c.loop-i.invariant.2)
+    count_whole _ _ _ c.args.v.tree _ _ c.if-v-n.false _ c.live_at-h.ensures c.args.s _ c.if-limit-s.false c.requires.1 c.wanted_at-sum.ensures.0 c.wanted_at-sum.ensures.1
+    _ c.slot_of-part.ensures.slot _ c.if-d-eq0.false _ (count_end _ _ _ _ _ _ _ _ _ _ c.loop-i-test.false c.loop-i.invariant.2)

@@ -12,7 +12,7 @@ decreases-count_from l = l.d
 
 abbrev pub invariant-loop-i : goal.invariant-loop-i
 invariant-loop-i l = (l._i ≤ l._i-end) × (l.at ≡ records_length l._i l.part)
-    × Counted l.limit (sum_kids (sum_from dirty_one (l.d - 1) (state_of l.size l.t l.heads l.bytes)) (entries_of l._i-end l.part))
-    (sum_kids (sum_from (id_one l.t.by_id) (l.d - 1) (state_of l.size l.t l.heads l.bytes)) (entries_of l._i-end l.part)) l.initial.sum l.sum
-    (sum_kids (sum_from dirty_one (l.d - 1) (state_of l.size l.t l.heads l.bytes)) (drop l._i (entries_of l._i-end l.part)))
-    (sum_kids (sum_from (id_one l.t.by_id) (l.d - 1) (state_of l.size l.t l.heads l.bytes)) (drop l._i (entries_of l._i-end l.part)))
+    × Counted l.limit (sum_kids (sum_from dirty_one (l.d - 1) (state_of l.v.lent.size l.v.tree l.v.heads.now l.v.bytes.now)) (entries_of l._i-end l.part))
+    (sum_kids (sum_from (id_one l.v.tree.by_id) (l.d - 1) (state_of l.v.lent.size l.v.tree l.v.heads.now l.v.bytes.now)) (entries_of l._i-end l.part)) l.initial.sum l.sum
+    (sum_kids (sum_from dirty_one (l.d - 1) (state_of l.v.lent.size l.v.tree l.v.heads.now l.v.bytes.now)) (drop l._i (entries_of l._i-end l.part)))
+    (sum_kids (sum_from (id_one l.v.tree.by_id) (l.d - 1) (state_of l.v.lent.size l.v.tree l.v.heads.now l.v.bytes.now)) (drop l._i (entries_of l._i-end l.part)))

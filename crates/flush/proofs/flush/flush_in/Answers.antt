@@ -2,7 +2,7 @@ use Rattle.tree.specs.laws.base.Refused.{handed_on}
 use Rattle.flush.specs.laws.CallLaws.{slots_some, root_alive, standing_is, in_lent, spaced_is, long_are, in_short, all_fits, in_done, untouched, finished_beyond}
 use Rattle.flush.specs.laws.StepLaws.{spaced_held}
 use borrow.Author.Rules.{rules}
-use Rattle.std.proofs.Common.{ap}
+use Rattle.std.proofs.Common.{ap, sym}
 use mathlib.Core.Bool.{not}
 use Rattle.flush.proofs.flush.flush_in.Goals as goal
 
@@ -35,11 +35,14 @@ shape_of-places-then-not-lists_hold c = search laws
 pub returns-then-not-lists_hold : goal.returns-then-not-lists_hold
 returns-then-not-lists_hold c = search laws
 
-pub short_of-requires : goal.short_of-requires
-short_of-requires c =
+pub invariant_of-v : goal.invariant_of-v
+invariant_of-v c = record { ready = c.requires.ready }
+
+pub invariant_of-chunks : goal.invariant_of-chunks
+invariant_of-chunks c =
     let a = c.args in
     let p = c.requires in
-    record { ready = p.ready; held = spaced_held _ _ _ (spaced_is a.lent a.t _ _ _ p.ready p.bytes_value _ _ _ _ _ _ c.lists_hold.ensures (ap not c.if-not-lists_hold.false)) }
+    record { held = spaced_held _ _ _ (spaced_is a.lent a.t _ _ _ p.ready p.bytes_value _ _ _ _ _ _ c.lists_hold.ensures (ap not c.if-not-lists_hold.false)) }
 
 pub returns-in_err-short_of-clause-answer : goal.returns-in_err-short_of-clause-answer
 returns-in_err-short_of-clause-answer c =
@@ -52,13 +55,13 @@ pub returns-in_err-short_of-clause-left : goal.returns-in_err-short_of-clause-le
 returns-in_err-short_of-clause-left c =
     rw (handed_on c.from_residual.result _ c.from_residual.ensures.1) (untouched _ _ _ _ _ _ _)
 
-pub write_all-all-requires : goal.write_all-all-requires
-write_all-all-requires c =
+pub write_all-requires : goal.write_all-requires
+write_all-requires c =
     let a = c.args in
     let p = c.requires in
     let e = c.lists_hold.ensures in
     let q = ap not c.if-not-lists_hold.false in
-    record { standing = standing_is a.lent a.t _ _ _ p.ready p.bytes_value; alive = root_alive a.lent a.t _ _ _ p.ready p.bytes_value; spaced = spaced_is a.lent a.t _ _ _ p.ready p.bytes_value _ _ _ _ _ _ e q; freed_len = long_are a.lent a.t _ _ _ p.ready p.bytes_value _ _ _ _ _ _ e q; fitting = all_fits a.lent a.t _ _ _ p.ready p.bytes_value _ _ _ _ _ _ e q _ _ _ c.short_of.ensures _ c.in_ok-short_of.was }
+    record { standing = standing_is a.lent a.t _ _ _ p.ready p.bytes_value; alive = root_alive a.lent a.t _ _ _ p.ready p.bytes_value; chunks = spaced_is a.lent a.t _ _ _ p.ready p.bytes_value _ _ _ _ _ _ e q; long = long_are a.lent a.t _ _ _ p.ready p.bytes_value _ _ _ _ _ _ e q; fitting = all_fits a.lent a.t _ _ _ p.ready p.bytes_value _ _ _ _ _ _ e q _ _ _ c.short_of.ensures _ c.in_ok-short_of.was }
 
 pub shape_of-image : goal.shape_of-image
 shape_of-image c = search laws
@@ -88,12 +91,16 @@ pub returns : goal.returns
 returns c =
     let a = c.args in
     let p = c.requires in
-    let x = c.write_all-all.ensures in
-    let k = c.write_all-all.auto in
+    let x = c.write_all.ensures in
+    let k = x.kept in
+    let ef = c.freed-1.given.1.1 (sym k.freed.reference) in
+    let er = c.removed-1.given.1.1 (sym k.removed.reference) in
+    let ei = c.ids-1.given.1.1 (sym k.ids.reference) in
+    let ep = c.places-1.given.1.1 (sym k.places.reference) in
     record {
-      answer = in_done a.lent a.t _ _ _ p.ready p.bytes_value _ _ _ _ _ _ c.lists_hold.ensures (ap not c.if-not-lists_hold.false) _ _ _ c.short_of.ensures _ c.in_ok-short_of.was _ _ _ _ _ _ _ _ x.flushed;
-      left = (
-        finished_beyond _ _ _ _ _ _ _ _ _ _ _ _ _ _ _ x.left (search (rules, k)) (search (rules, k)) (search (rules, k)) (search (rules, k)),
+      answer = rw (ef, er, ei, ep) (in_done a.lent a.t _ _ _ p.ready p.bytes_value _ _ _ _ _ _ c.lists_hold.ensures (ap not c.if-not-lists_hold.false) _ _ _ c.short_of.ensures _ c.in_ok-short_of.was _ _ _ _ _ _ _ _ x.flushed);
+      left = rw (ef, er, ei, ep) (
+        finished_beyond _ _ _ _ _ _ _ _ _ _ _ _ _ _ _ x.left k.freed.long k.removed.long k.ids.long k.places.long,
         x.left.ready,
         x.left.alike,
       );

@@ -1,2 +1,0 @@
--- What the proofs share: the rule of a table.
-mod Table
