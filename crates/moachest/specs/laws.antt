@@ -2,10 +2,8 @@
 pub mod RefusalLaws
 pub mod WordLaws
 pub mod AnswerLaws
-pub mod LeaveLaws
 pub mod CallLaws
-pub mod TrustedLaws
-pub mod FlushCallLaws
+pub mod QuickLaws
 pub mod SizeLaws
 pub mod WrongExportsRuledOut
 -- results that are there to be read: what each call answers is a number of the documents

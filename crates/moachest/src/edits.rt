@@ -5,310 +5,235 @@ ghost use Rattle.tree.specs.Workspace.{state_of, scratch_holds, edits};
 ghost use Rattle.tree.specs.Upsert.{upsert_in, upsert};
 ghost use Rattle.tree.specs.Remove.{remove_in, remove};
 ghost use Rattle.tree.specs.Omap.{omap_put_in, omap_put, omap_drop_in, omap_drop};
-ghost use Rattle.tree.specs.Answers.{put_value, lent_value, edited_of, edited_leaves, removed_of, removed_leaves};
+ghost use Rattle.tree.specs.Answers.{lent_value, edited_of, edited_leaves, removed_of, removed_leaves};
 ghost use Rattle.tree.specs.Trusts.{Trusts, EditedCalled, RemovedCalled};
-ghost use Rattle.moachest.specs.Words.{yes, tree_of, lent_numbers, on_tree, on_words};
-ghost use Rattle.moachest.specs.Answers.{edited_tree, edited_back, removed_tree, removed_answer, removed_back};
+ghost use Rattle.moachest.specs.Words.{tree_of, on_tree, on_words};
+ghost use Rattle.moachest.specs.Answers.{returned, edited_tree, edited_back, removed_tree, removed_answer, removed_back};
 
 use crate::{answers, words};
+use tree::lent::Lent;
 use tree::refusal::Refusal;
 
-// What is put: a ghost where `is_ghost` is not 0, else the bytes.
-fn lent_value(is_ghost: u64, value: &[u8]) -> Option<&[u8]>
-    ensures { lent_value result ≡ put_value (yes is_ghost) value.now }
-{
-    if is_ghost != 0 {
-        return None;
-    }
-    Some(value)
-}
-
-// Puts the entry of a key: the bytes of `value`, or a ghost, which has none, where `is_ghost` is not 0.
-pub fn moachest_upsert(
+// Puts the entry of a key: the bytes of `value`, or a ghost where there are none.
+#[tactic(auto, using(crate::specs::laws::CallLaws::edited), unfolding(crate::specs::Answers::edited_tree))]
+pub fn upsert(
     tree: &mut [u64],
     image: &[u8],
     heads: &mut [u64],
     bytes: &mut [u8],
     scratch: &mut [u8],
-    size: usize,
-    slots: usize,
-    mapped: u64,
-    map: u64,
+    lent: Lent,
     key: &[u8],
-    is_ghost: u64,
-    value: &[u8],
-) -> u64
-    ensures number { result ≤ 20 }
-    ensures answer { edited_of size heads.new bytes.new (edited_back result tree.new)
-        ≡ on_tree tree.old (λ t. edits size slots t heads.old bytes.old scratch.old (λ s.
-        upsert (lent_of image.now (lent_numbers size slots mapped map)) s key.now (put_value (yes is_ghost) value.now))) }
-    ensures left { edited_leaves size slots (tree_of tree.old) heads.old bytes.old heads.new bytes.new (edited_back result tree.new) }
-    ensures words { tree.new ≡ edited_tree tree.old (edited_back result tree.new) }
+    value: Option<&[u8]>,
+) -> Result<(), Refusal>
+    ensures answer { edited_of lent.size heads.new bytes.new (edited_back (returned result) tree.new)
+        ≡ on_tree tree.old (λ t. edits lent.size lent.slots t heads.old bytes.old scratch.old (λ s.
+        upsert (lent_of image.now lent) s key.now (lent_value value.entry))) }
+    ensures left { edited_leaves lent.size lent.slots (tree_of tree.old) heads.old bytes.old heads.new bytes.new
+        (edited_back (returned result) tree.new) }
+    ensures words { tree.new ≡ edited_tree tree.old (edited_back (returned result) tree.new) }
 {
-    if tree.len() < words::TREE_WORDS {
-        return u64::from(Refusal::Lent);
-    }
-    let lent = words::lent(size, slots, mapped, map);
-    let t = words::load(tree);
-    let edited = t.upsert(
-        image,
-        heads,
-        bytes,
-        scratch,
-        lent,
-        key,
-        lent_value(is_ghost, value),
-    );
-    answers::leave_tree(tree, edited)
+    let t = words::load(tree)?;
+    let edited = t.upsert(image, heads, bytes, scratch, lent, key, value)?;
+    words::store(tree, edited);
+    Ok(())
 }
 
 // As the call above, without its tests of what is lent (1). It trusts that `tree`, `heads` and `bytes` are as open or a trusted call on them left
-// them, with the same image and numbers, and leaves them so again; and that the scratch has at least two blocks' worth of bytes.
+// them, with the same image and the same numbers lent, and leaves them so again; and that the scratch has at least two blocks' worth of bytes.
 // Words that are too few are still refused.
-pub fn moachest_upsert_trusted(
+#[tactic(auto, using(crate::specs::laws::CallLaws::edited), unfolding(crate::specs::Answers::edited_tree))]
+pub fn upsert_trusted(
     tree: &mut [u64],
     image: &[u8],
     heads: &mut [u64],
     bytes: &mut [u8],
     scratch: &mut [u8],
-    size: usize,
-    slots: usize,
-    mapped: u64,
-    map: u64,
+    lent: Lent,
     key: &[u8],
-    is_ghost: u64,
-    value: &[u8],
-) -> u64
-    requires trusts { Trusts image.now (lent_numbers size slots mapped map) (tree_of tree.old) heads.old bytes.old }
-    requires room { 2 * size ≤ length scratch.old }
-    ensures number { result ≤ 20 }
-    ensures answer { edited_of size heads.new bytes.new (edited_back result tree.new)
-        ≡ on_tree tree.old (λ t. upsert_in (lent_of image.now (lent_numbers size slots mapped map))
-        (state_of size t heads.old bytes.old) key.now (put_value (yes is_ghost) value.now)) }
-    ensures left { EditedCalled image.now (lent_numbers size slots mapped map) (tree_of tree.old)
-        heads.old bytes.old heads.new bytes.new (edited_back result tree.new) }
-    ensures words { tree.new ≡ edited_tree tree.old (edited_back result tree.new) }
+    value: Option<&[u8]>,
+) -> Result<(), Refusal>
+    requires trusts { Trusts image.now lent (tree_of tree.old) heads.old bytes.old }
+    requires room { 2 * lent.size ≤ length scratch.old }
+    ensures answer { edited_of lent.size heads.new bytes.new (edited_back (returned result) tree.new)
+        ≡ on_tree tree.old (λ t. upsert_in (lent_of image.now lent)
+        (state_of lent.size t heads.old bytes.old) key.now (lent_value value.entry)) }
+    ensures left { EditedCalled image.now lent (tree_of tree.old)
+        heads.old bytes.old heads.new bytes.new (edited_back (returned result) tree.new) }
+    ensures words { tree.new ≡ edited_tree tree.old (edited_back (returned result) tree.new) }
 {
-    if tree.len() < words::TREE_WORDS {
-        return u64::from(Refusal::Lent);
-    }
-    let lent = words::lent(size, slots, mapped, map);
-    let t = words::load(tree);
-    let edited = t.upsert_in(
-        image,
-        heads,
-        bytes,
-        lent,
-        key,
-        lent_value(is_ghost, value),
-        scratch,
-    );
-    answers::leave_tree(tree, edited)
+    let t = words::load(tree)?;
+    let edited = t.upsert_in(image, heads, bytes, lent, key, value, scratch)?;
+    words::store(tree, edited);
+    Ok(())
 }
 
 // Takes the entry of a key out. `answer` says whether it was there.
-pub fn moachest_remove(
+#[tactic(auto, using(crate::specs::laws::CallLaws::removed), unfolding(crate::specs::Answers::removed_tree, crate::specs::Answers::removed_answer))]
+pub fn remove(
     tree: &mut [u64],
     image: &[u8],
     heads: &mut [u64],
     bytes: &mut [u8],
     scratch: &mut [u8],
-    size: usize,
-    slots: usize,
-    mapped: u64,
-    map: u64,
+    lent: Lent,
     key: &[u8],
     answer: &mut [u64],
-) -> u64
-    ensures number { result ≤ 20 }
-    ensures answer { removed_of size heads.new bytes.new (removed_back result tree.new answer.new)
-        ≡ on_words tree.old answer.old (λ t. edits size slots t heads.old bytes.old scratch.old
-        (λ s. remove (lent_of image.now (lent_numbers size slots mapped map)) s key.now)) }
-    ensures left { removed_leaves size slots (tree_of tree.old) heads.old bytes.old heads.new bytes.new (removed_back result tree.new answer.new) }
-    ensures words { (tree.new ≡ removed_tree tree.old (removed_back result tree.new answer.new))
-        × (answer.new ≡ removed_answer answer.old (removed_back result tree.new answer.new)) }
+) -> Result<(), Refusal>
+    ensures answer { removed_of lent.size heads.new bytes.new (removed_back (returned result) tree.new answer.new)
+        ≡ on_words tree.old answer.old (λ t. edits lent.size lent.slots t heads.old bytes.old scratch.old
+        (λ s. remove (lent_of image.now lent) s key.now)) }
+    ensures left { removed_leaves lent.size lent.slots (tree_of tree.old) heads.old bytes.old heads.new bytes.new
+        (removed_back (returned result) tree.new answer.new) }
+    ensures words { (tree.new ≡ removed_tree tree.old (removed_back (returned result) tree.new answer.new))
+        × (answer.new ≡ removed_answer answer.old (removed_back (returned result) tree.new answer.new)) }
 {
-    if tree.len() < words::TREE_WORDS {
-        return u64::from(Refusal::Lent);
-    }
-    if answer.len() < words::ANSWER_WORDS {
-        return u64::from(Refusal::Lent);
-    }
-    let lent = words::lent(size, slots, mapped, map);
-    let t = words::load(tree);
-    let removed = t.remove(image, heads, bytes, scratch, lent, key);
-    answers::leave_removed(tree, answer, removed)
+    let t = words::load_for(tree, answer)?;
+    let (t, there) = t.remove(image, heads, bytes, scratch, lent, key)?;
+    words::store(tree, t);
+    answers::put_removed(answer, there);
+    Ok(())
 }
 
 // As the call above, without its tests of what is lent (1). It trusts that `tree`, `heads` and `bytes` are as open or a trusted call on them left
-// them, with the same image and numbers, and leaves them so again; and that the scratch has at least two blocks' worth of bytes.
+// them, with the same image and the same numbers lent, and leaves them so again; and that the scratch has at least two blocks' worth of bytes.
 // Words that are too few are still refused.
-pub fn moachest_remove_trusted(
+#[tactic(auto, using(crate::specs::laws::CallLaws::removed), unfolding(crate::specs::Answers::removed_tree, crate::specs::Answers::removed_answer))]
+pub fn remove_trusted(
     tree: &mut [u64],
     image: &[u8],
     heads: &mut [u64],
     bytes: &mut [u8],
     scratch: &mut [u8],
-    size: usize,
-    slots: usize,
-    mapped: u64,
-    map: u64,
+    lent: Lent,
     key: &[u8],
     answer: &mut [u64],
-) -> u64
-    requires trusts { Trusts image.now (lent_numbers size slots mapped map) (tree_of tree.old) heads.old bytes.old }
-    requires room { 2 * size ≤ length scratch.old }
-    ensures number { result ≤ 20 }
-    ensures answer { removed_of size heads.new bytes.new (removed_back result tree.new answer.new)
+) -> Result<(), Refusal>
+    requires trusts { Trusts image.now lent (tree_of tree.old) heads.old bytes.old }
+    requires room { 2 * lent.size ≤ length scratch.old }
+    ensures answer { removed_of lent.size heads.new bytes.new (removed_back (returned result) tree.new answer.new)
         ≡ on_words tree.old answer.old (λ t. remove_in
-        (lent_of image.now (lent_numbers size slots mapped map)) (state_of size t heads.old bytes.old)
+        (lent_of image.now lent) (state_of lent.size t heads.old bytes.old)
         key.now) }
-    ensures left { RemovedCalled image.now (lent_numbers size slots mapped map) (tree_of tree.old)
+    ensures left { RemovedCalled image.now lent (tree_of tree.old)
         heads.old bytes.old heads.new bytes.new
-        (removed_back result tree.new answer.new) }
-    ensures words { (tree.new ≡ removed_tree tree.old (removed_back result tree.new answer.new))
-        × (answer.new ≡ removed_answer answer.old (removed_back result tree.new answer.new)) }
+        (removed_back (returned result) tree.new answer.new) }
+    ensures words { (tree.new ≡ removed_tree tree.old (removed_back (returned result) tree.new answer.new))
+        × (answer.new ≡ removed_answer answer.old (removed_back (returned result) tree.new answer.new)) }
 {
-    if tree.len() < words::TREE_WORDS {
-        return u64::from(Refusal::Lent);
-    }
-    if answer.len() < words::ANSWER_WORDS {
-        return u64::from(Refusal::Lent);
-    }
-    let lent = words::lent(size, slots, mapped, map);
-    let t = words::load(tree);
-    let removed = t.remove_in(image, heads, bytes, lent, key, scratch);
-    answers::leave_removed(tree, answer, removed)
+    let t = words::load_for(tree, answer)?;
+    let (t, there) = t.remove_in(image, heads, bytes, lent, key, scratch)?;
+    words::store(tree, t);
+    answers::put_removed(answer, there);
+    Ok(())
 }
 
 // Takes the versions of an id out and puts one that maps it to an address and a length.
-pub fn moachest_omap_put(
+#[tactic(auto, using(crate::specs::laws::CallLaws::edited), unfolding(crate::specs::Answers::edited_tree))]
+pub fn omap_put(
     tree: &mut [u64],
     image: &[u8],
     heads: &mut [u64],
     bytes: &mut [u8],
     scratch: &mut [u8],
-    size: usize,
-    slots: usize,
-    mapped: u64,
-    map: u64,
+    lent: Lent,
     id: u64,
     xid: u64,
     address: u64,
     length: u64,
-) -> u64
-    ensures number { result ≤ 20 }
-    ensures answer { edited_of size heads.new bytes.new (edited_back result tree.new)
-        ≡ on_tree tree.old (λ t. edits size slots t heads.old bytes.old scratch.old (λ s.
-        omap_put (lent_of image.now (lent_numbers size slots mapped map)) s id xid address length)) }
-    ensures left { edited_leaves size slots (tree_of tree.old) heads.old bytes.old heads.new bytes.new (edited_back result tree.new) }
-    ensures words { tree.new ≡ edited_tree tree.old (edited_back result tree.new) }
+) -> Result<(), Refusal>
+    ensures answer { edited_of lent.size heads.new bytes.new (edited_back (returned result) tree.new)
+        ≡ on_tree tree.old (λ t. edits lent.size lent.slots t heads.old bytes.old scratch.old (λ s.
+        omap_put (lent_of image.now lent) s id xid address length)) }
+    ensures left { edited_leaves lent.size lent.slots (tree_of tree.old) heads.old bytes.old heads.new bytes.new
+        (edited_back (returned result) tree.new) }
+    ensures words { tree.new ≡ edited_tree tree.old (edited_back (returned result) tree.new) }
 {
-    if tree.len() < words::TREE_WORDS {
-        return u64::from(Refusal::Lent);
-    }
-    let lent = words::lent(size, slots, mapped, map);
-    let t = words::load(tree);
-    let edited = t.omap_put(image, heads, bytes, scratch, lent, id, xid, address, length);
-    answers::leave_tree(tree, edited)
+    let t = words::load(tree)?;
+    let edited = t.omap_put(image, heads, bytes, scratch, lent, id, xid, address, length)?;
+    words::store(tree, edited);
+    Ok(())
 }
 
 // As the call above, without its tests of what is lent (1). It trusts that `tree`, `heads` and `bytes` are as open or a trusted call on them left
-// them, with the same image and numbers, and leaves them so again; and that the scratch has exactly `(2 * slots + 2) * size` bytes.
+// them, with the same image and the same numbers lent, and leaves them so again; and that the scratch has exactly `(2 * slots + 2) * size` bytes.
 // Words that are too few are still refused.
-pub fn moachest_omap_put_trusted(
+#[tactic(auto, using(crate::specs::laws::CallLaws::edited), unfolding(crate::specs::Answers::edited_tree))]
+pub fn omap_put_trusted(
     tree: &mut [u64],
     image: &[u8],
     heads: &mut [u64],
     bytes: &mut [u8],
     scratch: &mut [u8],
-    size: usize,
-    slots: usize,
-    mapped: u64,
-    map: u64,
+    lent: Lent,
     id: u64,
     xid: u64,
     address: u64,
     length: u64,
-) -> u64
-    requires trusts { Trusts image.now (lent_numbers size slots mapped map) (tree_of tree.old) heads.old bytes.old }
-    requires room { scratch_holds size slots scratch.old ≡ true }
-    ensures number { result ≤ 20 }
-    ensures answer { edited_of size heads.new bytes.new (edited_back result tree.new)
-        ≡ on_tree tree.old (λ t. omap_put_in (lent_of image.now (lent_numbers size slots mapped map))
-        (state_of size t heads.old bytes.old) id xid address length) }
-    ensures left { EditedCalled image.now (lent_numbers size slots mapped map) (tree_of tree.old)
-        heads.old bytes.old heads.new bytes.new (edited_back result tree.new) }
-    ensures words { tree.new ≡ edited_tree tree.old (edited_back result tree.new) }
+) -> Result<(), Refusal>
+    requires trusts { Trusts image.now lent (tree_of tree.old) heads.old bytes.old }
+    requires room { scratch_holds lent.size lent.slots scratch.old ≡ true }
+    ensures answer { edited_of lent.size heads.new bytes.new (edited_back (returned result) tree.new)
+        ≡ on_tree tree.old (λ t. omap_put_in (lent_of image.now lent)
+        (state_of lent.size t heads.old bytes.old) id xid address length) }
+    ensures left { EditedCalled image.now lent (tree_of tree.old)
+        heads.old bytes.old heads.new bytes.new (edited_back (returned result) tree.new) }
+    ensures words { tree.new ≡ edited_tree tree.old (edited_back (returned result) tree.new) }
 {
-    if tree.len() < words::TREE_WORDS {
-        return u64::from(Refusal::Lent);
-    }
-    let lent = words::lent(size, slots, mapped, map);
-    let t = words::load(tree);
-    let edited = t.omap_put_in(image, heads, bytes, lent, scratch, id, xid, address, length);
-    answers::leave_tree(tree, edited)
+    let t = words::load(tree)?;
+    let edited = t.omap_put_in(image, heads, bytes, lent, scratch, id, xid, address, length)?;
+    words::store(tree, edited);
+    Ok(())
 }
 
 // Takes the versions of an id out.
-pub fn moachest_omap_drop(
+#[tactic(auto, using(crate::specs::laws::CallLaws::edited), unfolding(crate::specs::Answers::edited_tree))]
+pub fn omap_drop(
     tree: &mut [u64],
     image: &[u8],
     heads: &mut [u64],
     bytes: &mut [u8],
     scratch: &mut [u8],
-    size: usize,
-    slots: usize,
-    mapped: u64,
-    map: u64,
+    lent: Lent,
     id: u64,
-) -> u64
-    ensures number { result ≤ 20 }
-    ensures answer { edited_of size heads.new bytes.new (edited_back result tree.new)
-        ≡ on_tree tree.old (λ t. edits size slots t heads.old bytes.old scratch.old (λ s.
-        omap_drop (lent_of image.now (lent_numbers size slots mapped map)) s id)) }
-    ensures left { edited_leaves size slots (tree_of tree.old) heads.old bytes.old heads.new bytes.new (edited_back result tree.new) }
-    ensures words { tree.new ≡ edited_tree tree.old (edited_back result tree.new) }
+) -> Result<(), Refusal>
+    ensures answer { edited_of lent.size heads.new bytes.new (edited_back (returned result) tree.new)
+        ≡ on_tree tree.old (λ t. edits lent.size lent.slots t heads.old bytes.old scratch.old (λ s.
+        omap_drop (lent_of image.now lent) s id)) }
+    ensures left { edited_leaves lent.size lent.slots (tree_of tree.old) heads.old bytes.old heads.new bytes.new
+        (edited_back (returned result) tree.new) }
+    ensures words { tree.new ≡ edited_tree tree.old (edited_back (returned result) tree.new) }
 {
-    if tree.len() < words::TREE_WORDS {
-        return u64::from(Refusal::Lent);
-    }
-    let lent = words::lent(size, slots, mapped, map);
-    let t = words::load(tree);
-    let edited = t.omap_drop(image, heads, bytes, scratch, lent, id);
-    answers::leave_tree(tree, edited)
+    let t = words::load(tree)?;
+    let edited = t.omap_drop(image, heads, bytes, scratch, lent, id)?;
+    words::store(tree, edited);
+    Ok(())
 }
 
 // As the call above, without its tests of what is lent (1). It trusts that `tree`, `heads` and `bytes` are as open or a trusted call on them left
-// them, with the same image and numbers, and leaves them so again; and that the scratch has exactly `(2 * slots + 2) * size` bytes.
+// them, with the same image and the same numbers lent, and leaves them so again; and that the scratch has exactly `(2 * slots + 2) * size` bytes.
 // Words that are too few are still refused.
-pub fn moachest_omap_drop_trusted(
+#[tactic(auto, using(crate::specs::laws::CallLaws::edited), unfolding(crate::specs::Answers::edited_tree))]
+pub fn omap_drop_trusted(
     tree: &mut [u64],
     image: &[u8],
     heads: &mut [u64],
     bytes: &mut [u8],
     scratch: &mut [u8],
-    size: usize,
-    slots: usize,
-    mapped: u64,
-    map: u64,
+    lent: Lent,
     id: u64,
-) -> u64
-    requires trusts { Trusts image.now (lent_numbers size slots mapped map) (tree_of tree.old) heads.old bytes.old }
-    requires room { scratch_holds size slots scratch.old ≡ true }
-    ensures number { result ≤ 20 }
-    ensures answer { edited_of size heads.new bytes.new (edited_back result tree.new)
-        ≡ on_tree tree.old (λ t. omap_drop_in (lent_of image.now (lent_numbers size slots mapped map))
-        (state_of size t heads.old bytes.old) id) }
-    ensures left { EditedCalled image.now (lent_numbers size slots mapped map) (tree_of tree.old)
-        heads.old bytes.old heads.new bytes.new (edited_back result tree.new) }
-    ensures words { tree.new ≡ edited_tree tree.old (edited_back result tree.new) }
+) -> Result<(), Refusal>
+    requires trusts { Trusts image.now lent (tree_of tree.old) heads.old bytes.old }
+    requires room { scratch_holds lent.size lent.slots scratch.old ≡ true }
+    ensures answer { edited_of lent.size heads.new bytes.new (edited_back (returned result) tree.new)
+        ≡ on_tree tree.old (λ t. omap_drop_in (lent_of image.now lent)
+        (state_of lent.size t heads.old bytes.old) id) }
+    ensures left { EditedCalled image.now lent (tree_of tree.old)
+        heads.old bytes.old heads.new bytes.new (edited_back (returned result) tree.new) }
+    ensures words { tree.new ≡ edited_tree tree.old (edited_back (returned result) tree.new) }
 {
-    if tree.len() < words::TREE_WORDS {
-        return u64::from(Refusal::Lent);
-    }
-    let lent = words::lent(size, slots, mapped, map);
-    let t = words::load(tree);
-    let edited = t.omap_drop_in(image, heads, bytes, lent, scratch, id);
-    answers::leave_tree(tree, edited)
+    let t = words::load(tree)?;
+    let edited = t.omap_drop_in(image, heads, bytes, lent, scratch, id)?;
+    words::store(tree, edited);
+    Ok(())
 }

@@ -1,9 +1,10 @@
-// The library: the calls as functions for C, on an open tree that the caller keeps as words.
+// The library: the calls on an open tree that the caller keeps as words, and the numbers of C.
 #![tactic(auto)]
 
 mod answers;
 pub mod edits;
 pub mod flushing;
 pub mod lookups;
+pub mod numbers;
 pub mod sizes;
 mod words;

@@ -1,298 +1,253 @@
 // Lookups: open, get, floor and range.
-ghost use Rattle.std.specs.Prelude.{◌≡◌, ◌≤◌, length};
+ghost use Rattle.std.specs.Prelude.{◌≡◌, length};
 ghost use Rattle.tree.specs.Lent.{lent_of};
 ghost use Rattle.tree.specs.Answers.{opened_of, opened_in, opened_leaves, got_means, got_in, got_output, got_leaves, floor_means, floored_in, floored_output, floored_leaves, range_means, ranged_in, ranged_output, ranged_length, ranged_leaves};
 ghost use Rattle.tree.specs.Lookup.{get_in, floor_in, range_in};
 ghost use Rattle.tree.specs.Workspace.{state_of};
 ghost use Rattle.tree.specs.Trusts.{Trusts, OpenedTrusts, GotCalled, FloorCalled, RangeCalled};
-ghost use Rattle.moachest.specs.Words.{tree_of, lent_numbers, on_tree, on_words};
-ghost use Rattle.moachest.specs.Answers.{opened_tree, opened_back, got_tree, got_answer, got_back, floored_tree, floored_answer, floored_back, ranged_tree, ranged_answer, ranged_back};
+ghost use Rattle.moachest.specs.Words.{tree_of, on_tree, on_words};
+ghost use Rattle.moachest.specs.Answers.{returned, opened_tree, opened_back, got_tree, got_answer, got_back, floored_tree, floored_answer, floored_back, ranged_tree, ranged_answer, ranged_back};
 
 use crate::{answers, words};
+use tree::lent::Lent;
 use tree::lookup;
 use tree::refusal::Refusal;
+use tree::view::View;
 
 // Opens the tree whose root is `root`, with keys in this order, as seen from a transaction. Accepted, `tree` holds its words.
-pub fn moachest_open(
+#[tactic(auto, using(crate::specs::laws::CallLaws::opened), unfolding(crate::specs::Answers::opened_tree))]
+pub fn open(
     tree: &mut [u64],
     image: &[u8],
     heads: &mut [u64],
     bytes: &mut [u8],
-    size: usize,
-    slots: usize,
-    mapped: u64,
-    map: u64,
+    lent: Lent,
     root: u64,
     order: u64,
     xid: u64,
-) -> u64
-    ensures number { result ≤ 20 }
-    ensures answer { opened_of size heads.new bytes.new (opened_back result tree.new)
-        ≡ on_tree tree.old (λ t. opened_in (lent_of image.now (lent_numbers size slots mapped map)) heads.old bytes.old root order xid) }
-    ensures left { opened_leaves size slots heads.new bytes.new (opened_back result tree.new) }
-    ensures trusts { OpenedTrusts image.now (lent_numbers size slots mapped map) heads.new bytes.new
-        (opened_back result tree.new) }
-    ensures words { tree.new ≡ opened_tree tree.old (opened_back result tree.new) }
+) -> Result<(), Refusal>
+    ensures answer { opened_of lent.size heads.new bytes.new (opened_back (returned result) tree.new)
+        ≡ on_tree tree.old (λ t. opened_in (lent_of image.now lent) heads.old bytes.old root order xid) }
+    ensures left { opened_leaves lent.size lent.slots heads.new bytes.new (opened_back (returned result) tree.new) }
+    ensures trusts { OpenedTrusts image.now lent heads.new bytes.new
+        (opened_back (returned result) tree.new) }
+    ensures words { tree.new ≡ opened_tree tree.old (opened_back (returned result) tree.new) }
 {
-    if tree.len() < words::TREE_WORDS {
-        return u64::from(Refusal::Lent);
-    }
-    let lent = words::lent(size, slots, mapped, map);
-    let opened = lookup::open(image, heads, bytes, lent, root, order, xid);
-    answers::leave_tree(tree, opened)
+    // Open needs nothing of the words but that they are enough.
+    words::load(tree)?;
+    let opened = lookup::open(image, heads, bytes, lent, root, order, xid)?;
+    words::store(tree, opened);
+    Ok(())
 }
 
 // What a key holds. `answer` says which, and a value is copied to the start of `out`.
-pub fn moachest_get(
+#[tactic(auto, using(crate::specs::laws::CallLaws::got), unfolding(crate::specs::Answers::got_tree, crate::specs::Answers::got_answer))]
+pub fn get(
     tree: &mut [u64],
     image: &[u8],
     heads: &mut [u64],
     bytes: &mut [u8],
-    size: usize,
-    slots: usize,
-    mapped: u64,
-    map: u64,
+    lent: Lent,
     key: &[u8],
     out: &mut [u8],
     answer: &mut [u64],
-) -> u64
-    ensures number { result ≤ 20 }
-    ensures answer { got_means size heads.new bytes.new out.new (got_back result tree.new answer.new)
-        ≡ on_words tree.old answer.old (λ t. got_in (lent_of image.now (lent_numbers size slots mapped
-        map)) t heads.old bytes.old (length out.old) key.now) }
+) -> Result<(), Refusal>
+    ensures answer { got_means lent.size heads.new bytes.new out.new (got_back (returned result) tree.new answer.new)
+        ≡ on_words tree.old answer.old (λ t. got_in (lent_of image.now lent) t heads.old bytes.old (length out.old) key.now) }
     ensures output { out.new
         ≡ got_output out.old (on_words tree.old answer.old (λ t. got_in (lent_of image.now
-        (lent_numbers size slots mapped map)) t heads.old bytes.old (length out.old) key.now)) }
-    ensures left { got_leaves size slots (tree_of tree.old) heads.old bytes.old heads.new bytes.new (got_back result tree.new answer.new) }
-    ensures words { (tree.new ≡ got_tree tree.old (got_back result tree.new answer.new))
-        × (answer.new ≡ got_answer answer.old (got_back result tree.new answer.new)) }
+        lent) t heads.old bytes.old (length out.old) key.now)) }
+    ensures left { got_leaves lent.size lent.slots (tree_of tree.old) heads.old bytes.old heads.new bytes.new
+        (got_back (returned result) tree.new answer.new) }
+    ensures words { (tree.new ≡ got_tree tree.old (got_back (returned result) tree.new answer.new))
+        × (answer.new ≡ got_answer answer.old (got_back (returned result) tree.new answer.new)) }
 {
-    if tree.len() < words::TREE_WORDS {
-        return u64::from(Refusal::Lent);
-    }
-    if answer.len() < words::ANSWER_WORDS {
-        return u64::from(Refusal::Lent);
-    }
-    let lent = words::lent(size, slots, mapped, map);
-    let t = words::load(tree);
-    let got = t.get(image, heads, bytes, lent, key, out);
-    answers::leave_got(tree, answer, got)
+    let t = words::load_for(tree, answer)?;
+    let (t, copied) = t.get(image, heads, bytes, lent, key, out)?;
+    words::store(tree, t);
+    answers::put_copied(answer, copied);
+    Ok(())
 }
 
 // As the call above, without its tests of what is lent (1). It trusts that `tree`, `heads` and `bytes` are as open or a trusted call on them left
 // them, with the same image and numbers, and leaves them so again. Words that are too few are still refused.
-pub fn moachest_get_trusted(
+#[tactic(auto, using(crate::specs::laws::CallLaws::got), unfolding(crate::specs::Answers::got_tree, crate::specs::Answers::got_answer))]
+pub fn get_trusted(
     tree: &mut [u64],
     image: &[u8],
     heads: &mut [u64],
     bytes: &mut [u8],
-    size: usize,
-    slots: usize,
-    mapped: u64,
-    map: u64,
+    lent: Lent,
     key: &[u8],
     out: &mut [u8],
     answer: &mut [u64],
-) -> u64
-    requires trusts { Trusts image.now (lent_numbers size slots mapped map) (tree_of tree.old) heads.old bytes.old }
-    ensures number { result ≤ 20 }
-    ensures answer { got_means size heads.new bytes.new out.new
-        (got_back result tree.new answer.new)
-        ≡ on_words tree.old answer.old (λ t. get_in (lent_of image.now (lent_numbers size slots mapped map))
-        (state_of size t heads.old bytes.old) (length out.old) key.now) }
+) -> Result<(), Refusal>
+    requires trusts { Trusts image.now lent (tree_of tree.old) heads.old bytes.old }
+    ensures answer { got_means lent.size heads.new bytes.new out.new
+        (got_back (returned result) tree.new answer.new)
+        ≡ on_words tree.old answer.old (λ t. get_in (lent_of image.now lent)
+        (state_of lent.size t heads.old bytes.old) (length out.old) key.now) }
     ensures output { out.new
         ≡ got_output out.old (on_words tree.old answer.old
-        (λ t. get_in (lent_of image.now (lent_numbers size slots mapped map))
-        (state_of size t heads.old bytes.old) (length out.old) key.now)) }
-    ensures left { GotCalled image.now (lent_numbers size slots mapped map) (tree_of tree.old)
+        (λ t. get_in (lent_of image.now lent)
+        (state_of lent.size t heads.old bytes.old) (length out.old) key.now)) }
+    ensures left { GotCalled image.now lent (tree_of tree.old)
         heads.old bytes.old heads.new bytes.new
-        (got_back result tree.new answer.new) }
-    ensures words { (tree.new ≡ got_tree tree.old (got_back result tree.new answer.new))
-        × (answer.new ≡ got_answer answer.old (got_back result tree.new answer.new)) }
+        (got_back (returned result) tree.new answer.new) }
+    ensures words { (tree.new ≡ got_tree tree.old (got_back (returned result) tree.new answer.new))
+        × (answer.new ≡ got_answer answer.old (got_back (returned result) tree.new answer.new)) }
 {
-    if tree.len() < words::TREE_WORDS {
-        return u64::from(Refusal::Lent);
-    }
-    if answer.len() < words::ANSWER_WORDS {
-        return u64::from(Refusal::Lent);
-    }
-    // Where the whole way is loaded the tree stays as it is: its words are neither gathered nor stored.
-    let quick = words::load(tree);
-    let leaf = quick.leaf_of(heads, bytes, size, slots, key);
-    if let Some(leaf) = leaf {
+    let t = words::load_for(tree, answer)?;
+    // Where the whole way is loaded the tree stays as it is, and its words are not stored.
+    let view = View {
+        tree: t,
+        heads,
+        bytes,
+        lent,
+    };
+    if let Some(leaf) = view.leaf_of(key) {
         if words::as_stored(tree) {
-            let copied = quick.copy_out(heads, bytes, size, slots, leaf, key, out);
-            return answers::leave_copied(answer, copied);
+            let copied = view.copy_out(leaf, key, out)?;
+            answers::put_copied(answer, copied);
+            return Ok(());
         }
     }
-    let lent = words::lent(size, slots, mapped, map);
-    let t = words::load(tree);
-    let got = t.get_in(image, heads, bytes, lent, key, out);
-    answers::leave_got(tree, answer, got)
+    let (t, copied) = t.get_in(image, heads, bytes, lent, key, out)?;
+    words::store(tree, t);
+    answers::put_copied(answer, copied);
+    Ok(())
 }
 
 // The last entry not above a key. `answer` says whether there is one, and its record is copied to the start of `out`.
-pub fn moachest_floor(
+#[tactic(auto, using(crate::specs::laws::CallLaws::floored), unfolding(crate::specs::Answers::floored_tree, crate::specs::Answers::floored_answer))]
+pub fn floor(
     tree: &mut [u64],
     image: &[u8],
     heads: &mut [u64],
     bytes: &mut [u8],
-    size: usize,
-    slots: usize,
-    mapped: u64,
-    map: u64,
+    lent: Lent,
     key: &[u8],
     out: &mut [u8],
     answer: &mut [u64],
-) -> u64
-    ensures number { result ≤ 20 }
-    ensures answer { floor_means size heads.new bytes.new out.new (floored_back result tree.new
+) -> Result<(), Refusal>
+    ensures answer { floor_means lent.size heads.new bytes.new out.new (floored_back (returned result) tree.new
         answer.new)
-        ≡ on_words tree.old answer.old (λ t. floored_in (lent_of image.now (lent_numbers size slots mapped
-        map)) t heads.old bytes.old (length out.old) key.now) }
+        ≡ on_words tree.old answer.old (λ t. floored_in (lent_of image.now lent) t heads.old bytes.old (length out.old) key.now) }
     ensures output { out.new
         ≡ floored_output out.old (on_words tree.old answer.old
-        (λ t. floored_in (lent_of image.now (lent_numbers size slots mapped map)) t heads.old bytes.old (length out.old) key.now)) }
-    ensures left { floored_leaves size slots (tree_of tree.old) heads.old bytes.old heads.new bytes.new (floored_back result tree.new answer.new) }
-    ensures words { (tree.new ≡ floored_tree tree.old (floored_back result tree.new answer.new))
-        × (answer.new ≡ floored_answer answer.old (floored_back result tree.new answer.new)) }
+        (λ t. floored_in (lent_of image.now lent) t heads.old bytes.old (length out.old) key.now)) }
+    ensures left { floored_leaves lent.size lent.slots (tree_of tree.old) heads.old bytes.old heads.new bytes.new
+        (floored_back (returned result) tree.new answer.new) }
+    ensures words { (tree.new ≡ floored_tree tree.old (floored_back (returned result) tree.new answer.new))
+        × (answer.new ≡ floored_answer answer.old (floored_back (returned result) tree.new answer.new)) }
 {
-    if tree.len() < words::TREE_WORDS {
-        return u64::from(Refusal::Lent);
-    }
-    if answer.len() < words::ANSWER_WORDS {
-        return u64::from(Refusal::Lent);
-    }
-    let lent = words::lent(size, slots, mapped, map);
-    let t = words::load(tree);
-    let floor = t.floor(image, heads, bytes, lent, key, out);
-    answers::leave_floor(tree, answer, floor)
+    let t = words::load_for(tree, answer)?;
+    let (t, found) = t.floor(image, heads, bytes, lent, key, out)?;
+    words::store(tree, t);
+    answers::put_found(answer, found);
+    Ok(())
 }
 
 // As the call above, without its tests of what is lent (1). It trusts that `tree`, `heads` and `bytes` are as open or a trusted call on them left
 // them, with the same image and numbers, and leaves them so again. Words that are too few are still refused.
-pub fn moachest_floor_trusted(
+#[tactic(auto, using(crate::specs::laws::CallLaws::floored), unfolding(crate::specs::Answers::floored_tree, crate::specs::Answers::floored_answer))]
+pub fn floor_trusted(
     tree: &mut [u64],
     image: &[u8],
     heads: &mut [u64],
     bytes: &mut [u8],
-    size: usize,
-    slots: usize,
-    mapped: u64,
-    map: u64,
+    lent: Lent,
     key: &[u8],
     out: &mut [u8],
     answer: &mut [u64],
-) -> u64
-    requires trusts { Trusts image.now (lent_numbers size slots mapped map) (tree_of tree.old) heads.old bytes.old }
-    ensures number { result ≤ 20 }
-    ensures answer { floor_means size heads.new bytes.new out.new
-        (floored_back result tree.new answer.new)
-        ≡ on_words tree.old answer.old (λ t. floor_in (lent_of image.now (lent_numbers size slots mapped map))
-        (state_of size t heads.old bytes.old) (length out.old) key.now) }
+) -> Result<(), Refusal>
+    requires trusts { Trusts image.now lent (tree_of tree.old) heads.old bytes.old }
+    ensures answer { floor_means lent.size heads.new bytes.new out.new
+        (floored_back (returned result) tree.new answer.new)
+        ≡ on_words tree.old answer.old (λ t. floor_in (lent_of image.now lent)
+        (state_of lent.size t heads.old bytes.old) (length out.old) key.now) }
     ensures output { out.new
         ≡ floored_output out.old (on_words tree.old answer.old
-        (λ t. floor_in (lent_of image.now (lent_numbers size slots mapped map))
-        (state_of size t heads.old bytes.old) (length out.old) key.now)) }
-    ensures left { FloorCalled image.now (lent_numbers size slots mapped map) (tree_of tree.old)
+        (λ t. floor_in (lent_of image.now lent)
+        (state_of lent.size t heads.old bytes.old) (length out.old) key.now)) }
+    ensures left { FloorCalled image.now lent (tree_of tree.old)
         heads.old bytes.old heads.new bytes.new
-        (floored_back result tree.new answer.new) }
-    ensures words { (tree.new ≡ floored_tree tree.old (floored_back result tree.new answer.new))
-        × (answer.new ≡ floored_answer answer.old (floored_back result tree.new answer.new)) }
+        (floored_back (returned result) tree.new answer.new) }
+    ensures words { (tree.new ≡ floored_tree tree.old (floored_back (returned result) tree.new answer.new))
+        × (answer.new ≡ floored_answer answer.old (floored_back (returned result) tree.new answer.new)) }
 {
-    if tree.len() < words::TREE_WORDS {
-        return u64::from(Refusal::Lent);
-    }
-    if answer.len() < words::ANSWER_WORDS {
-        return u64::from(Refusal::Lent);
-    }
-    let lent = words::lent(size, slots, mapped, map);
-    let t = words::load(tree);
-    let floor = t.floor_in(image, heads, bytes, lent, key, out);
-    answers::leave_floor(tree, answer, floor)
+    let t = words::load_for(tree, answer)?;
+    let (t, found) = t.floor_in(image, heads, bytes, lent, key, out)?;
+    words::store(tree, t);
+    answers::put_found(answer, found);
+    Ok(())
 }
 
 // The entries from `lo` up to `hi`, without it. `answer` says how many, and their records are copied to the start of `out`.
-pub fn moachest_range(
+#[tactic(auto, using(crate::specs::laws::CallLaws::ranged), unfolding(crate::specs::Answers::ranged_tree, crate::specs::Answers::ranged_answer))]
+pub fn range(
     tree: &mut [u64],
     image: &[u8],
     heads: &mut [u64],
     bytes: &mut [u8],
-    size: usize,
-    slots: usize,
-    mapped: u64,
-    map: u64,
+    lent: Lent,
     lo: &[u8],
     hi: &[u8],
     out: &mut [u8],
     answer: &mut [u64],
-) -> u64
-    ensures number { result ≤ 20 }
-    ensures answer { range_means size heads.new bytes.new out.new (ranged_back result tree.new
+) -> Result<(), Refusal>
+    ensures answer { range_means lent.size heads.new bytes.new out.new (ranged_back (returned result) tree.new
         answer.new)
-        ≡ on_words tree.old answer.old (λ t. ranged_in (lent_of image.now (lent_numbers size slots mapped
-        map)) t heads.old bytes.old (length out.old) lo.now hi.now) }
+        ≡ on_words tree.old answer.old (λ t. ranged_in (lent_of image.now lent) t heads.old bytes.old (length out.old) lo.now hi.now) }
     ensures output { out.new
         ≡ ranged_output out.old (on_words tree.old answer.old
-        (λ t. ranged_in (lent_of image.now (lent_numbers size slots mapped map)) t heads.old bytes.old (length out.old) lo.now hi.now)) }
-    ensures long { ranged_length out.new (ranged_back result tree.new answer.new) }
-    ensures left { ranged_leaves size slots (tree_of tree.old) heads.old bytes.old heads.new bytes.new (ranged_back result tree.new answer.new) }
-    ensures words { (tree.new ≡ ranged_tree tree.old (ranged_back result tree.new answer.new))
-        × (answer.new ≡ ranged_answer answer.old (ranged_back result tree.new answer.new)) }
+        (λ t. ranged_in (lent_of image.now lent) t heads.old bytes.old (length out.old) lo.now hi.now)) }
+    ensures long { ranged_length out.new (ranged_back (returned result) tree.new answer.new) }
+    ensures left { ranged_leaves lent.size lent.slots (tree_of tree.old) heads.old bytes.old heads.new bytes.new
+        (ranged_back (returned result) tree.new answer.new) }
+    ensures words { (tree.new ≡ ranged_tree tree.old (ranged_back (returned result) tree.new answer.new))
+        × (answer.new ≡ ranged_answer answer.old (ranged_back (returned result) tree.new answer.new)) }
 {
-    if tree.len() < words::TREE_WORDS {
-        return u64::from(Refusal::Lent);
-    }
-    if answer.len() < words::ANSWER_WORDS {
-        return u64::from(Refusal::Lent);
-    }
-    let lent = words::lent(size, slots, mapped, map);
-    let t = words::load(tree);
-    let ranged = t.range(image, heads, bytes, lent, lo, hi, out);
-    answers::leave_ranged(tree, answer, ranged)
+    let t = words::load_for(tree, answer)?;
+    let ranged = t.range(image, heads, bytes, lent, lo, hi, out)?;
+    words::store(tree, ranged.tree);
+    answers::put_ranged(answer, ranged);
+    Ok(())
 }
 
 // As the call above, without its tests of what is lent (1). It trusts that `tree`, `heads` and `bytes` are as open or a trusted call on them left
 // them, with the same image and numbers, and leaves them so again. Words that are too few are still refused.
-pub fn moachest_range_trusted(
+#[tactic(auto, using(crate::specs::laws::CallLaws::ranged), unfolding(crate::specs::Answers::ranged_tree, crate::specs::Answers::ranged_answer))]
+pub fn range_trusted(
     tree: &mut [u64],
     image: &[u8],
     heads: &mut [u64],
     bytes: &mut [u8],
-    size: usize,
-    slots: usize,
-    mapped: u64,
-    map: u64,
+    lent: Lent,
     lo: &[u8],
     hi: &[u8],
     out: &mut [u8],
     answer: &mut [u64],
-) -> u64
-    requires trusts { Trusts image.now (lent_numbers size slots mapped map) (tree_of tree.old) heads.old bytes.old }
-    ensures number { result ≤ 20 }
-    ensures answer { range_means size heads.new bytes.new out.new
-        (ranged_back result tree.new answer.new)
-        ≡ on_words tree.old answer.old (λ t. range_in (lent_of image.now (lent_numbers size slots mapped map))
-        (state_of size t heads.old bytes.old) (length out.old) lo.now hi.now) }
+) -> Result<(), Refusal>
+    requires trusts { Trusts image.now lent (tree_of tree.old) heads.old bytes.old }
+    ensures answer { range_means lent.size heads.new bytes.new out.new
+        (ranged_back (returned result) tree.new answer.new)
+        ≡ on_words tree.old answer.old (λ t. range_in (lent_of image.now lent)
+        (state_of lent.size t heads.old bytes.old) (length out.old) lo.now hi.now) }
     ensures output { out.new
         ≡ ranged_output out.old (on_words tree.old answer.old
-        (λ t. range_in (lent_of image.now (lent_numbers size slots mapped map))
-        (state_of size t heads.old bytes.old) (length out.old) lo.now hi.now)) }
-    ensures long { ranged_length out.new (ranged_back result tree.new answer.new) }
-    ensures left { RangeCalled image.now (lent_numbers size slots mapped map) (tree_of tree.old)
+        (λ t. range_in (lent_of image.now lent)
+        (state_of lent.size t heads.old bytes.old) (length out.old) lo.now hi.now)) }
+    ensures long { ranged_length out.new (ranged_back (returned result) tree.new answer.new) }
+    ensures left { RangeCalled image.now lent (tree_of tree.old)
         heads.old bytes.old heads.new bytes.new
-        (ranged_back result tree.new answer.new) }
-    ensures words { (tree.new ≡ ranged_tree tree.old (ranged_back result tree.new answer.new))
-        × (answer.new ≡ ranged_answer answer.old (ranged_back result tree.new answer.new)) }
+        (ranged_back (returned result) tree.new answer.new) }
+    ensures words { (tree.new ≡ ranged_tree tree.old (ranged_back (returned result) tree.new answer.new))
+        × (answer.new ≡ ranged_answer answer.old (ranged_back (returned result) tree.new answer.new)) }
 {
-    if tree.len() < words::TREE_WORDS {
-        return u64::from(Refusal::Lent);
-    }
-    if answer.len() < words::ANSWER_WORDS {
-        return u64::from(Refusal::Lent);
-    }
-    let lent = words::lent(size, slots, mapped, map);
-    let t = words::load(tree);
-    let ranged = t.range_in(image, heads, bytes, lent, lo, hi, out);
-    answers::leave_ranged(tree, answer, ranged)
+    let t = words::load_for(tree, answer)?;
+    let ranged = t.range_in(image, heads, bytes, lent, lo, hi, out)?;
+    words::store(tree, ranged.tree);
+    answers::put_ranged(answer, ranged);
+    Ok(())
 }

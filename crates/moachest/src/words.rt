@@ -1,76 +1,77 @@
-// The words of an open tree, and what is lent by numbers.
-ghost use Rattle.std.specs.Prelude.{◌≡◌, [], ◌∷◌, ◌+◌, ◌≤◌, ◌<◌, length, get_or, set, ltb};
+// The words of an open tree, and those of an answer.
+ghost use Rattle.std.specs.Prelude.{◌≡◌, ◌&&◌, false, ◌≤◌, ◌<◌, length, get_or, ltb, MatchResult};
 ghost use Rattle.seal.specs.Bytes.{splice};
-ghost use Rattle.moachest.specs.Words.{info_of, tree_of, stored, lent_numbers};
-ghost use Rattle.moachest.specs.internal.Stored.{info_words};
+ghost use Rattle.moachest.specs.Words.{tree_of, stored, tree_holds, answer_holds};
 
 use node::info::BTreeInfo;
 use tree::editor::Tree;
-use tree::lent::Lent;
+use tree::refusal::{Refusal, check};
 
-pub const TREE_WORDS: usize = 14;
+const ANSWER_WORDS: usize = 8;
 
-pub const ANSWER_WORDS: usize = 8;
-
-// One word stored; past the end none is.
-pub fn put(words: &mut [u64], i: usize, x: u64)
-    ensures { words.new ≡ set words.old i x }
+// Words stored, from the first on.
+#[tactic(auto, unfolding(seal::specs::Bytes::splice))]
+pub fn put(words: &mut [u64], first: &[u64])
+    requires { length first.now ≤ length words.old }
+    ensures { words.new ≡ splice words.old 0 first.now }
 {
-    if i < words.len() {
-        words[i] = x;
-    }
+    words[..first.len()].copy_from_slice(first);
 }
 
-// Four words stored, one after another.
-pub fn put_four(words: &mut [u64], i: usize, a: u64, b: u64, c: u64, d: u64)
-    requires { i + 4 ≤ length words.old }
-    ensures { words.new ≡ splice words.old i (a ∷ b ∷ c ∷ d ∷ []) }
+// The tree that the words are: 1 where they are too few.
+#[tactic(auto, unfolding(crate::specs::Words::tree_of, crate::specs::Words::info_of))]
+pub fn load(tree: &[u64]) -> Result<Tree, Refusal>
+    ensures { MatchResult result (λ t. (14 ≤ length tree.now) × (t ≡ tree_of tree.now))
+        (λ e. (length tree.now < 14) × (e ≡ Refusal.Lent)) }
 {
-    put(words, i, a);
-    put(words, i + 1, b);
-    put(words, i + 2, c);
-    put(words, i + 3, d);
+    let [
+        root,
+        used,
+        flags,
+        node_size,
+        key_size,
+        val_size,
+        longest_key,
+        longest_val,
+        key_count,
+        node_count,
+        by_id,
+        subtype,
+        order,
+        xid,
+        ..
+    ] = *tree
+    else {
+        return Err(Refusal::Lent);
+    };
+    Ok(Tree {
+        root: root as usize,
+        used: used as usize,
+        info: BTreeInfo {
+            flags,
+            node_size,
+            key_size,
+            val_size,
+            longest_key,
+            longest_val,
+            key_count,
+            node_count,
+        },
+        by_id: by_id != 0,
+        subtype,
+        order,
+        xid,
+    })
 }
 
-// One word.
-fn word(tree: &[u64], i: usize) -> u64
-    requires { i < length tree.now }
-    ensures { result ≡ get_or tree.now i 0 }
+// The tree that the words are, of a call that also writes an answer's words.
+pub fn load_for(tree: &[u64], answer: &[u64]) -> Result<Tree, Refusal>
+    ensures { MatchResult result (λ t. (14 ≤ length tree.now) × (8 ≤ length answer.now) × (t ≡ tree_of tree.now))
+        (λ e. ((tree_holds tree.now && answer_holds answer.now) ≡ false) × (e ≡ Refusal.Lent)) }
 {
-    tree[i]
-}
-
-// The tree-wide numbers: words 2 to 9.
-fn info_of(tree: &[u64]) -> BTreeInfo
-    requires { 14 ≤ length tree.now }
-    ensures { result ≡ info_of tree.now }
-{
-    BTreeInfo {
-        flags: word(tree, 2),
-        node_size: word(tree, 3),
-        key_size: word(tree, 4),
-        val_size: word(tree, 5),
-        longest_key: word(tree, 6),
-        longest_val: word(tree, 7),
-        key_count: word(tree, 8),
-        node_count: word(tree, 9),
-    }
-}
-
-// The tree that the words are.
-pub fn load(tree: &[u64]) -> Tree
-    requires { 14 ≤ length tree.now }
-    ensures { result ≡ tree_of tree.now }
-{
-    Tree {
-        root: word(tree, 0) as usize,
-        used: word(tree, 1) as usize,
-        info: info_of(tree),
-        by_id: word(tree, 10) != 0,
-        subtype: word(tree, 11),
-        order: word(tree, 12),
-        xid: word(tree, 13),
-    }
+    let t = load(tree)?;
+    check(Refusal::Lent, answer.len() >= ANSWER_WORDS)?;
+    Ok(t)
 }
 
 // Whether the words are as `store` leaves them: the one that is a yes or a no is 1 or 0.
@@ -78,50 +79,33 @@ pub fn as_stored(tree: &[u64]) -> bool
     requires { 14 ≤ length tree.now }
     ensures { result ≡ ltb (get_or tree.now 10 0) 2 }
 {
-    word(tree, 10) < 2
-}
-
-// The tree-wide numbers, stored.
-fn store_info(tree: &mut [u64], info: BTreeInfo)
-    requires { 14 ≤ length tree.old }
-    ensures { tree.new ≡ splice tree.old 2 (info_words info) }
-{
-    put_four(
-        tree,
-        2,
-        info.flags,
-        info.node_size,
-        info.key_size,
-        info.val_size,
-    );
-    put_four(
-        tree,
-        6,
-        info.longest_key,
-        info.longest_val,
-        info.key_count,
-        info.node_count,
-    );
+    tree[10] < 2
 }
 
 // The words of a tree, stored.
+#[tactic(auto, unfolding(crate::specs::Words::stored, crate::specs::Words::words_of))]
 pub fn store(tree: &mut [u64], t: Tree)
     requires { 14 ≤ length tree.old }
     ensures { tree.new ≡ stored tree.old t }
 {
-    put(tree, 0, t.root as u64);
-    put(tree, 1, t.used as u64);
-    store_info(tree, t.info);
-    put_four(tree, 10, t.by_id as u64, t.subtype, t.order, t.xid);
-}
-
-// What is lent by numbers: a map where `mapped` is not 0.
-pub fn lent(size: usize, slots: usize, mapped: u64, map: u64) -> Lent
-    ensures { result ≡ lent_numbers size slots mapped map }
-{
-    Lent {
-        size,
-        slots,
-        map: if mapped != 0 { Some(map) } else { None },
-    }
+    let info = t.info;
+    put(
+        tree,
+        &[
+            t.root as u64,
+            t.used as u64,
+            info.flags,
+            info.node_size,
+            info.key_size,
+            info.val_size,
+            info.longest_key,
+            info.longest_val,
+            info.key_count,
+            info.node_count,
+            t.by_id as u64,
+            t.subtype,
+            t.order,
+            t.xid,
+        ],
+    );
 }

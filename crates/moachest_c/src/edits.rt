@@ -10,6 +10,8 @@ ghost use Rattle.tree.specs.Trusts.{Trusts, EditedCalled, RemovedCalled};
 ghost use Rattle.moachest.specs.Words.{yes, tree_of, lent_numbers, on_tree, on_words};
 ghost use Rattle.moachest.specs.Answers.{edited_tree, edited_back, removed_tree, removed_answer, removed_back};
 
+use moachest::numbers;
+
 // Puts the entry of a key: the bytes of `value`, or a ghost, which has none, where `is_ghost` is not 0.
 #[unsafe(no_mangle)]
 pub extern "C" fn moachest_upsert(
@@ -33,9 +35,10 @@ pub extern "C" fn moachest_upsert(
     ensures left { edited_leaves size slots (tree_of tree.old) heads.old bytes.old heads.new bytes.new (edited_back result tree.new) }
     ensures words { tree.new ≡ edited_tree tree.old (edited_back result tree.new) }
 {
-    moachest::edits::moachest_upsert(
-        tree, image, heads, bytes, scratch, size, slots, mapped, map, key, is_ghost, value,
-    )
+    let lent = numbers::lent(size, slots, mapped, map);
+    let value = numbers::value(is_ghost, value);
+    let called = moachest::edits::upsert(tree, image, heads, bytes, scratch, lent, key, value);
+    numbers::number(called)
 }
 
 // As the call above, without its tests of what is lent (1). It trusts that `tree`, `heads` and `bytes` are as open or a trusted call on them left
@@ -66,9 +69,12 @@ pub extern "C" fn moachest_upsert_trusted(
         heads.old bytes.old heads.new bytes.new (edited_back result tree.new) }
     ensures words { tree.new ≡ edited_tree tree.old (edited_back result tree.new) }
 {
-    moachest::edits::moachest_upsert_trusted(
-        tree, image, heads, bytes, scratch, size, slots, mapped, map, key, is_ghost, value,
-    )
+    let lent = numbers::lent(size, slots, mapped, map);
+    let value = numbers::value(is_ghost, value);
+    let called = moachest::edits::upsert_trusted(
+        tree, image, heads, bytes, scratch, lent, key, value,
+    );
+    numbers::number(called)
 }
 
 // Takes the entry of a key out. `answer` says whether it was there.
@@ -94,9 +100,9 @@ pub extern "C" fn moachest_remove(
     ensures words { (tree.new ≡ removed_tree tree.old (removed_back result tree.new answer.new))
         × (answer.new ≡ removed_answer answer.old (removed_back result tree.new answer.new)) }
 {
-    moachest::edits::moachest_remove(
-        tree, image, heads, bytes, scratch, size, slots, mapped, map, key, answer,
-    )
+    let lent = numbers::lent(size, slots, mapped, map);
+    let called = moachest::edits::remove(tree, image, heads, bytes, scratch, lent, key, answer);
+    numbers::number(called)
 }
 
 // As the call above, without its tests of what is lent (1). It trusts that `tree`, `heads` and `bytes` are as open or a trusted call on them left
@@ -129,9 +135,11 @@ pub extern "C" fn moachest_remove_trusted(
     ensures words { (tree.new ≡ removed_tree tree.old (removed_back result tree.new answer.new))
         × (answer.new ≡ removed_answer answer.old (removed_back result tree.new answer.new)) }
 {
-    moachest::edits::moachest_remove_trusted(
-        tree, image, heads, bytes, scratch, size, slots, mapped, map, key, answer,
-    )
+    let lent = numbers::lent(size, slots, mapped, map);
+    let called = moachest::edits::remove_trusted(
+        tree, image, heads, bytes, scratch, lent, key, answer,
+    );
+    numbers::number(called)
 }
 
 // Takes the versions of an id out and puts one that maps it to an address and a length.
@@ -158,9 +166,11 @@ pub extern "C" fn moachest_omap_put(
     ensures left { edited_leaves size slots (tree_of tree.old) heads.old bytes.old heads.new bytes.new (edited_back result tree.new) }
     ensures words { tree.new ≡ edited_tree tree.old (edited_back result tree.new) }
 {
-    moachest::edits::moachest_omap_put(
-        tree, image, heads, bytes, scratch, size, slots, mapped, map, id, xid, address, length,
-    )
+    let lent = numbers::lent(size, slots, mapped, map);
+    let called = moachest::edits::omap_put(
+        tree, image, heads, bytes, scratch, lent, id, xid, address, length,
+    );
+    numbers::number(called)
 }
 
 // As the call above, without its tests of what is lent (1). It trusts that `tree`, `heads` and `bytes` are as open or a trusted call on them left
@@ -192,9 +202,11 @@ pub extern "C" fn moachest_omap_put_trusted(
         heads.old bytes.old heads.new bytes.new (edited_back result tree.new) }
     ensures words { tree.new ≡ edited_tree tree.old (edited_back result tree.new) }
 {
-    moachest::edits::moachest_omap_put_trusted(
-        tree, image, heads, bytes, scratch, size, slots, mapped, map, id, xid, address, length,
-    )
+    let lent = numbers::lent(size, slots, mapped, map);
+    let called = moachest::edits::omap_put_trusted(
+        tree, image, heads, bytes, scratch, lent, id, xid, address, length,
+    );
+    numbers::number(called)
 }
 
 // Takes the versions of an id out.
@@ -218,9 +230,9 @@ pub extern "C" fn moachest_omap_drop(
     ensures left { edited_leaves size slots (tree_of tree.old) heads.old bytes.old heads.new bytes.new (edited_back result tree.new) }
     ensures words { tree.new ≡ edited_tree tree.old (edited_back result tree.new) }
 {
-    moachest::edits::moachest_omap_drop(
-        tree, image, heads, bytes, scratch, size, slots, mapped, map, id,
-    )
+    let lent = numbers::lent(size, slots, mapped, map);
+    let called = moachest::edits::omap_drop(tree, image, heads, bytes, scratch, lent, id);
+    numbers::number(called)
 }
 
 // As the call above, without its tests of what is lent (1). It trusts that `tree`, `heads` and `bytes` are as open or a trusted call on them left
@@ -249,7 +261,7 @@ pub extern "C" fn moachest_omap_drop_trusted(
         heads.old bytes.old heads.new bytes.new (edited_back result tree.new) }
     ensures words { tree.new ≡ edited_tree tree.old (edited_back result tree.new) }
 {
-    moachest::edits::moachest_omap_drop_trusted(
-        tree, image, heads, bytes, scratch, size, slots, mapped, map, id,
-    )
+    let lent = numbers::lent(size, slots, mapped, map);
+    let called = moachest::edits::omap_drop_trusted(tree, image, heads, bytes, scratch, lent, id);
+    numbers::number(called)
 }

@@ -11,6 +11,8 @@ ghost use Rattle.flush.specs.internal.Calls.{FlushCalled};
 ghost use Rattle.moachest.specs.Words.{tree_of, lent_numbers, on_words};
 ghost use Rattle.moachest.specs.Answers.{flushed_answer, flushed_back};
 
+use moachest::numbers;
+
 // Writes what was changed and fills the lists; the tree is ended.
 #[unsafe(no_mangle)]
 pub extern "C" fn moachest_flush(
@@ -46,10 +48,12 @@ pub extern "C" fn moachest_flush(
         ids.old ids.new places.old places.new (flushed_back result answer.new) }
     ensures words { answer.new ≡ flushed_answer answer.old (flushed_back result answer.new) }
 {
-    moachest::flushing::moachest_flush(
-        tree, image, bitmap, counts, free, heads, bytes, freed, removed, ids, places, size, slots,
-        mapped, map, xid, next, answer,
-    )
+    let lent = numbers::lent(size, slots, mapped, map);
+    let called = moachest::flushing::flush(
+        tree, image, bitmap, counts, free, heads, bytes, freed, removed, ids, places, lent, xid,
+        next, answer,
+    );
+    numbers::number(called)
 }
 
 // The same where the words are enough and the slots are trusted: it leaves their refusal 1 out.
@@ -92,8 +96,10 @@ pub extern "C" fn moachest_flush_trusted(
         ids.old ids.new places.old places.new (flushed_back result answer.new) }
     ensures words { answer.new ≡ flushed_answer answer.old (flushed_back result answer.new) }
 {
-    moachest::flushing::moachest_flush_trusted(
-        tree, image, bitmap, counts, free, heads, bytes, freed, removed, ids, places, size, slots,
-        mapped, map, xid, next, answer,
-    )
+    let lent = numbers::lent(size, slots, mapped, map);
+    let called = moachest::flushing::flush_trusted(
+        tree, image, bitmap, counts, free, heads, bytes, freed, removed, ids, places, lent, xid,
+        next, answer,
+    );
+    numbers::number(called)
 }

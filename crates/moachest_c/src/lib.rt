@@ -1,4 +1,5 @@
-// The functions of `moachest` as C calls them: each calls the library's function of its name and states its clauses again.
+// The calls of `moachest` as C calls them, by their own names: what is lent and put comes as numbers, and a call returns one.
+// Each states the clauses of its call, of these numbers.
 #![tactic(auto)]
 
 pub mod edits;

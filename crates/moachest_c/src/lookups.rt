@@ -8,6 +8,8 @@ ghost use Rattle.tree.specs.Trusts.{Trusts, OpenedTrusts, GotCalled, FloorCalled
 ghost use Rattle.moachest.specs.Words.{tree_of, lent_numbers, on_tree, on_words};
 ghost use Rattle.moachest.specs.Answers.{opened_tree, opened_back, got_tree, got_answer, got_back, floored_tree, floored_answer, floored_back, ranged_tree, ranged_answer, ranged_back};
 
+use moachest::numbers;
+
 // Opens the tree whose root is `root`, with keys in this order, as seen from a transaction. Accepted, `tree` holds its words.
 #[unsafe(no_mangle)]
 pub extern "C" fn moachest_open(
@@ -31,9 +33,9 @@ pub extern "C" fn moachest_open(
         (opened_back result tree.new) }
     ensures words { tree.new ≡ opened_tree tree.old (opened_back result tree.new) }
 {
-    moachest::lookups::moachest_open(
-        tree, image, heads, bytes, size, slots, mapped, map, root, order, xid,
-    )
+    let lent = numbers::lent(size, slots, mapped, map);
+    let called = moachest::lookups::open(tree, image, heads, bytes, lent, root, order, xid);
+    numbers::number(called)
 }
 
 // What a key holds. `answer` says which, and a value is copied to the start of `out`.
@@ -62,9 +64,9 @@ pub extern "C" fn moachest_get(
     ensures words { (tree.new ≡ got_tree tree.old (got_back result tree.new answer.new))
         × (answer.new ≡ got_answer answer.old (got_back result tree.new answer.new)) }
 {
-    moachest::lookups::moachest_get(
-        tree, image, heads, bytes, size, slots, mapped, map, key, out, answer,
-    )
+    let lent = numbers::lent(size, slots, mapped, map);
+    let called = moachest::lookups::get(tree, image, heads, bytes, lent, key, out, answer);
+    numbers::number(called)
 }
 
 // As the call above, without its tests of what is lent (1). It trusts that `tree`, `heads` and `bytes` are as open or a trusted call on them left
@@ -99,9 +101,9 @@ pub extern "C" fn moachest_get_trusted(
     ensures words { (tree.new ≡ got_tree tree.old (got_back result tree.new answer.new))
         × (answer.new ≡ got_answer answer.old (got_back result tree.new answer.new)) }
 {
-    moachest::lookups::moachest_get_trusted(
-        tree, image, heads, bytes, size, slots, mapped, map, key, out, answer,
-    )
+    let lent = numbers::lent(size, slots, mapped, map);
+    let called = moachest::lookups::get_trusted(tree, image, heads, bytes, lent, key, out, answer);
+    numbers::number(called)
 }
 
 // The last entry not above a key. `answer` says whether there is one, and its record is copied to the start of `out`.
@@ -131,9 +133,9 @@ pub extern "C" fn moachest_floor(
     ensures words { (tree.new ≡ floored_tree tree.old (floored_back result tree.new answer.new))
         × (answer.new ≡ floored_answer answer.old (floored_back result tree.new answer.new)) }
 {
-    moachest::lookups::moachest_floor(
-        tree, image, heads, bytes, size, slots, mapped, map, key, out, answer,
-    )
+    let lent = numbers::lent(size, slots, mapped, map);
+    let called = moachest::lookups::floor(tree, image, heads, bytes, lent, key, out, answer);
+    numbers::number(called)
 }
 
 // As the call above, without its tests of what is lent (1). It trusts that `tree`, `heads` and `bytes` are as open or a trusted call on them left
@@ -168,9 +170,11 @@ pub extern "C" fn moachest_floor_trusted(
     ensures words { (tree.new ≡ floored_tree tree.old (floored_back result tree.new answer.new))
         × (answer.new ≡ floored_answer answer.old (floored_back result tree.new answer.new)) }
 {
-    moachest::lookups::moachest_floor_trusted(
-        tree, image, heads, bytes, size, slots, mapped, map, key, out, answer,
-    )
+    let lent = numbers::lent(size, slots, mapped, map);
+    let called = moachest::lookups::floor_trusted(
+        tree, image, heads, bytes, lent, key, out, answer,
+    );
+    numbers::number(called)
 }
 
 // The entries from `lo` up to `hi`, without it. `answer` says how many, and their records are copied to the start of `out`.
@@ -202,9 +206,9 @@ pub extern "C" fn moachest_range(
     ensures words { (tree.new ≡ ranged_tree tree.old (ranged_back result tree.new answer.new))
         × (answer.new ≡ ranged_answer answer.old (ranged_back result tree.new answer.new)) }
 {
-    moachest::lookups::moachest_range(
-        tree, image, heads, bytes, size, slots, mapped, map, lo, hi, out, answer,
-    )
+    let lent = numbers::lent(size, slots, mapped, map);
+    let called = moachest::lookups::range(tree, image, heads, bytes, lent, lo, hi, out, answer);
+    numbers::number(called)
 }
 
 // As the call above, without its tests of what is lent (1). It trusts that `tree`, `heads` and `bytes` are as open or a trusted call on them left
@@ -241,7 +245,9 @@ pub extern "C" fn moachest_range_trusted(
     ensures words { (tree.new ≡ ranged_tree tree.old (ranged_back result tree.new answer.new))
         × (answer.new ≡ ranged_answer answer.old (ranged_back result tree.new answer.new)) }
 {
-    moachest::lookups::moachest_range_trusted(
-        tree, image, heads, bytes, size, slots, mapped, map, lo, hi, out, answer,
-    )
+    let lent = numbers::lent(size, slots, mapped, map);
+    let called = moachest::lookups::range_trusted(
+        tree, image, heads, bytes, lent, lo, hi, out, answer,
+    );
+    numbers::number(called)
 }

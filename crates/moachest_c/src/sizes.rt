@@ -7,7 +7,7 @@ ghost use Rattle.moachest.specs.Sizes.{workspace_words, workspace_bytes, scratch
 pub extern "C" fn moachest_workspace_words(slots: usize) -> u64
     ensures { result ≡ workspace_words slots }
 {
-    moachest::sizes::moachest_workspace_words(slots)
+    moachest::sizes::workspace_words(slots)
 }
 
 // Bytes of the workspace.
@@ -15,7 +15,7 @@ pub extern "C" fn moachest_workspace_words(slots: usize) -> u64
 pub extern "C" fn moachest_workspace_bytes(slots: usize, size: usize) -> u64
     ensures { result ≡ workspace_bytes slots size }
 {
-    moachest::sizes::moachest_workspace_bytes(slots, size)
+    moachest::sizes::workspace_bytes(slots, size)
 }
 
 // Bytes of the scratch.
@@ -23,5 +23,5 @@ pub extern "C" fn moachest_workspace_bytes(slots: usize, size: usize) -> u64
 pub extern "C" fn moachest_scratch_bytes(slots: usize, size: usize) -> u64
     ensures { result ≡ scratch_bytes slots size }
 {
-    moachest::sizes::moachest_scratch_bytes(slots, size)
+    moachest::sizes::scratch_bytes(slots, size)
 }

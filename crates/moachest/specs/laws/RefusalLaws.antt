@@ -16,7 +16,7 @@ use Rattle.node.specs.declared.read.Node.{Node}
 use Rattle.node.specs.Obj.{is_node}
 use Rattle.node.specs.Cut.{cut_place, cut}
 use Rattle.node.specs.declared.info.BTreeInfo.{BTreeInfo}
-use Rattle.node.specs.declared.read.Place.{Place}
+use Rattle.node.specs.Place.{Place}
 use Rattle.node.specs.laws.base.Results.{no_answer}
 use Rattle.tree.specs.Lent.{Lent, blocks, in_image, sizes_hold}
 use Rattle.tree.specs.Hold.{lent_holds}

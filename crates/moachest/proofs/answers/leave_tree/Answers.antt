@@ -1,9 +1,0 @@
-use Rattle.moachest.specs.laws.LeaveLaws.{refused_number, done_number, edited_refused, edited_done}
-use borrow.Author.Rules.{rules}
-use Rattle.moachest.proofs.answers.leave_tree.Goals as goal
-
-pub returns-in-Err : goal.returns-in-Err
-returns-in-Err c = search (rules, refused_number, edited_refused)
-
-pub returns-in-Ok : goal.returns-in-Ok
-returns-in-Ok c = search (rules, done_number, edited_done)

@@ -1,3 +1,0 @@
--- Definitions that only internal contracts cite.
-pub mod Returned
-pub mod Stored
