@@ -1,6 +1,6 @@
 // A tree of blocks of 512 bytes, and its calls.
-ghost use Rattle.std.specs.Prelude.{◌≡◌, ◌<◌, [], true};
-ghost use Rattle.node.specs.Fit.{Sized, fits};
+ghost use Rattle.std.specs.Prelude.{◌≡◌, ◌<◌};
+ghost use Rattle.node.specs.Fit.{Sized};
 
 use node::build::NodeBuild;
 use node::head::Head;
@@ -8,10 +8,11 @@ use node::info::BTreeInfo;
 use node::order::Order;
 use node::pack;
 use node::slot::Records;
+use seal::obj::{OBJ_PHYSICAL, OBJECT_TYPE_BTREE, OBJECT_TYPE_OMAP};
 use tree::editor::Tree;
 use tree::lent::Lent;
 use tree::refusal::Refusal;
-use tree::{lookup, map};
+use tree::{lent, lookup, map};
 
 const SIZE: usize = 512;
 
@@ -21,16 +22,11 @@ const IMAGE: usize = 32 * SIZE;
 const SLOTS: usize = 64;
 
 // Words of the slots, bytes of the slots and of the scratch.
-const HEADS: usize = SLOTS * 19;
+const HEADS: usize = SLOTS * lent::WORDS_EACH;
 
 const BYTES: usize = 2 * SLOTS * (4 * SIZE);
 
 const SCRATCH: usize = (2 * SLOTS + 2) * SIZE;
-
-// A root of a physical tree, and what it is a tree of: object maps.
-const ROOT_TYPE: u64 = 0x40000002;
-
-const OMAP: u64 = 11;
 
 const LENT: Lent = Lent {
     size: SIZE,
@@ -100,16 +96,16 @@ impl Desk {
     }
 
     // An empty root leaf at block 0, opened.
+    #[tactic(auto, using(node::specs::laws::fit::Fit::fits_none), unfolding(node::specs::Records::entries_of, node::specs::Records::records_length))]
     fn begin(&mut self, info: BTreeInfo, order: u64) -> Result<Tree, Refusal>
         requires size { info.node_size ≡ 512 }
         requires tree { Sized info }
-        requires fit { fits info true 0 [] ≡ true }
     {
         let root = NodeBuild {
             oid: 0,
             xid: 0,
-            otype: ROOT_TYPE,
-            subtype: OMAP,
+            otype: OBJ_PHYSICAL | OBJECT_TYPE_BTREE,
+            subtype: OBJECT_TYPE_OMAP,
             level: 0,
             root: true,
             info,

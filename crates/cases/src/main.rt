@@ -23,11 +23,11 @@ fn row<const N: usize>(
         }
     }
     let good = got == Ok(demanded);
-    if good {
-        out.text(b" as demanded\n");
+    out.text(if good {
+        b" as demanded\n"
     } else {
-        out.text(b" NOT as demanded\n");
-    }
+        b" NOT as demanded\n"
+    });
     good
 }
 

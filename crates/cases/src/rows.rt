@@ -3,7 +3,7 @@ ghost use Rattle.std.specs.Prelude.{◌≤◌};
 
 use crate::desk;
 use crate::desk::Desk;
-use node::fit;
+use node::room::Shape;
 use seal::checksum;
 use tree::editor::Tree;
 use tree::refusal::Refusal;
@@ -21,7 +21,12 @@ fn fits(each: u64, root: bool, level: u64, n: u64, room: u64) -> u64
     requires entries { n ≤ 1024 }
     requires room { room ≤ 65536 }
 {
-    u64::from(fit::fits_sums(desk::empty(each), root, level, n, room))
+    let shape = Shape {
+        info: desk::empty(each),
+        root,
+        level,
+    };
+    u64::from(shape.fits_sums(n, room))
 }
 
 // P3: 11 and 12 entries of 32 bytes in a root leaf, 12 and 13 in another.

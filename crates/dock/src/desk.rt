@@ -7,9 +7,10 @@ use node::order::Order;
 use node::pack;
 use node::slot::Records;
 use script::out::Out;
+use seal::obj::{OBJ_PHYSICAL, OBJECT_TYPE_BTREE, OBJECT_TYPE_OMAP};
 use tree::editor::Tree;
 use tree::lent::Lent;
-use tree::lookup;
+use tree::{lent, lookup};
 
 const BLOCKS: u32 = 32;
 
@@ -21,16 +22,11 @@ const IMAGE: usize = BLOCKS as usize * SIZE;
 const SLOTS: usize = 64;
 
 // Words of the slots, bytes of the slots and of the scratch.
-const HEADS: usize = SLOTS * 19;
+const HEADS: usize = SLOTS * lent::WORDS_EACH;
 
 const BYTES: usize = 2 * SLOTS * (4 * SIZE);
 
 const SCRATCH: usize = (2 * SLOTS + 2) * SIZE;
-
-// A root of a physical tree, and what it is a tree of: object maps.
-const ROOT_TYPE: u64 = 0x40000002;
-
-const OMAP: u64 = 11;
 
 const LENT: Lent = Lent {
     size: SIZE,
@@ -42,8 +38,8 @@ const LENT: Lent = Lent {
 const EMPTY: NodeBuild = NodeBuild {
     oid: 0,
     xid: 0,
-    otype: ROOT_TYPE,
-    subtype: OMAP,
+    otype: OBJ_PHYSICAL | OBJECT_TYPE_BTREE,
+    subtype: OBJECT_TYPE_OMAP,
     level: 0,
     root: true,
     info: BTreeInfo {
@@ -113,6 +109,7 @@ impl Desk {
     }
 
     // An image with an empty tree, and its block accounts: block 0 is used, no other is.
+    #[tactic(auto, using(node::specs::laws::fit::Fit::fits_none), unfolding(node::specs::Records::entries_of, node::specs::Records::records_length))]
     fn make(&mut self, out: &mut Out) {
         self.image = [0; IMAGE];
         self.bitmap = [0; SIZE];

@@ -12,14 +12,13 @@ impl Line {
     // The line that a text is, if it is one.
     pub fn read(text: &[u8]) -> Option<Line> {
         let w = words::inner(text);
-        let count = words::count(w);
-        match words::word(w, 0) {
-            b"new" if count == 1 => Some(Line::New),
-            b"put" if count == 4 => {
+        match (words::count(w), words::word(w, 0)) {
+            (1, b"new") => Some(Line::New),
+            (4, b"put") => {
                 let [id, xid, address] = words::numbers::<3>(w, 1)?;
                 Some(Line::Put { id, xid, address })
             }
-            b"flush" if count == 2 => {
+            (2, b"flush") => {
                 let [xid] = words::numbers::<1>(w, 1)?;
                 Some(Line::Flush { xid })
             }

@@ -21,13 +21,11 @@ const ROOM: usize = 256;
 fn run(desk: &mut Desk, lines: &mut Lines, out: &mut Out) {
     let mut room = [0u8; ROOM];
     for _turn in 0..u64::MAX {
-        let Some(got) = lines.next(&mut room) else {
-            break;
-        };
-        match got {
-            Ok(0) => {}
-            Ok(n) => desk.answer(Line::read(&room[..n]), out),
-            Err(TooLong) => desk.answer(None, out),
+        match lines.next(&mut room) {
+            None => break,
+            Some(Ok(0)) => {}
+            Some(Ok(n)) => desk.answer(Line::read(&room[..n]), out),
+            Some(Err(TooLong)) => desk.answer(None, out),
         }
     }
     out.flush();

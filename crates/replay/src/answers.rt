@@ -10,28 +10,25 @@ pub fn part(o: &mut Out, s: &[u8], from: usize, to: usize) {
     }
 }
 
-// A record's key and value, or that it has none, and where the next one starts; nothing where no whole record starts
-// there.
-pub fn record(o: &mut Out, found: &[u8], from: usize) -> Option<usize> {
-    if found.len() < from {
-        return None;
-    }
-    let r = Record::at(found, from)?.parts();
+// The key and the value of a text's first record, or that it has none, and the text behind it; nothing where no whole
+// record starts the text.
+pub fn record<'a>(o: &mut Out, found: &'a [u8]) -> Option<&'a [u8]> {
+    let r = Record::at(found, 0)?.parts();
     part(o, found, r.key, r.value);
     if r.mark == record::GHOST {
         o.text(b" -");
     } else {
         part(o, found, r.value, r.next);
     }
-    Some(r.next)
+    found.get(r.next..)
 }
 
 // So many records, one after another.
 pub fn records(o: &mut Out, found: &[u8], count: u64) {
-    let mut from = 0;
+    let mut rest = found;
     for _ in 0..count {
-        match record(o, found, from) {
-            Some(next) => from = next,
+        match record(o, rest) {
+            Some(behind) => rest = behind,
             None => return,
         }
     }

@@ -12,10 +12,9 @@ impl State<'_> {
         let mut key_room = [0; limits::BYTES];
         let mut value_room = [0; limits::BYTES];
         let key = keys::read(key, &mut key_room)?;
-        let value = match value {
-            Some(word) => Some(keys::read(word, &mut value_room)?),
-            None => None,
-        };
+        let value = value
+            .map(|word| keys::read(word, &mut value_room))
+            .transpose()?;
         let Workspace {
             image,
             heads,
@@ -41,12 +40,12 @@ impl State<'_> {
             lent,
         } = self.memory.workspace(place.map)?;
         let (tree, found) = tree.remove(image, heads, bytes, scratch, lent, key)?;
-        let opened = Opened { tree, place };
-        if found {
-            self.accept(opened, b"remove 0 yes");
+        let answer: &[u8] = if found {
+            b"remove 0 yes"
         } else {
-            self.accept(opened, b"remove 0 no");
-        }
+            b"remove 0 no"
+        };
+        self.accept(Opened { tree, place }, answer);
         Ok(())
     }
 

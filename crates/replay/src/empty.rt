@@ -8,10 +8,7 @@ use node::build::NodeBuild;
 use node::info::BTreeInfo;
 use node::pack;
 use node::slot::Records;
-
-const BTREE: u64 = 2;
-
-const PHYSICAL: u64 = 0x40000000;
+use seal::obj::{OBJ_PHYSICAL, OBJ_VIRTUAL, OBJECT_TYPE_BTREE};
 
 // Where nodes have their ids from.
 #[derive(Clone, Copy, PartialEq, Eq)]
@@ -54,26 +51,22 @@ impl Root {
         }
     }
 
-    // Packs it, a node with no entries, if that fits the block.
-    #[tactic(auto, unfolding(node::specs::Records::records_length))]
+    // Packs it, a node with no entries, which fits a block of any size that a node has.
+    #[tactic(auto, using(node::specs::laws::fit::Fit::fits_none), unfolding(node::specs::Records::entries_of, node::specs::Records::records_length))]
     fn pack(self, block: &mut [u8]) -> Result<(), Fault> {
         let size = block.len();
-        if size < 512 || 65536 < size {
+        if !(512..=65536).contains(&size) {
             return Err(Fault::NotTaken);
         }
         let info = self.info(size);
-        let none = [0; 8];
-        let records = Records {
-            slot: &none,
+        let none = Records {
+            slot: &[0; 8],
             count: 0,
         };
-        if !records.fits(0, info, true, 0) {
-            return Err(Fault::NotTaken);
-        }
         // A physical root's id is its address.
         let (oid, otype) = match self.storage {
-            Storage::Physical => (self.address, PHYSICAL + BTREE),
-            Storage::Virtual => (self.id, BTREE),
+            Storage::Physical => (self.address, OBJ_PHYSICAL | OBJECT_TYPE_BTREE),
+            Storage::Virtual => (self.id, OBJ_VIRTUAL | OBJECT_TYPE_BTREE),
         };
         let build = NodeBuild {
             oid,
@@ -84,8 +77,7 @@ impl Root {
             root: true,
             info,
         };
-        let heads = [0; 9];
-        pack::pack(block, records, &heads, false, build);
+        pack::pack(block, none, &[0; 9], false, build);
         Ok(())
     }
 }

@@ -1,5 +1,5 @@
 // What fits in the program's fixed memory (main.rt says it in words).
-use script::{input, out};
+use tree::lent;
 
 // Bytes of an image.
 pub const IMAGE: usize = 4194304;
@@ -11,9 +11,9 @@ pub const ROOM: usize = 262144;
 pub const SLOTS: usize = 512;
 
 // Words and bytes of the workspace for so many slots, and of the scratch.
-pub const HEADS: usize = 9728;
+pub const HEADS: usize = SLOTS * lent::WORDS_EACH;
 
-pub const WORK: usize = 2097152;
+pub const WORK: usize = 8 * ROOM;
 
 pub const SCRATCH: usize = 655360;
 
@@ -26,12 +26,3 @@ pub const CHUNKS: usize = 2;
 pub const LINE: usize = 132096;
 
 pub const BYTES: usize = 66048;
-
-// Bytes read at once, and bytes of answers gathered before they are written: the room that `script` has.
-pub const INPUT: usize = 16384;
-
-pub const OUTPUT: usize = 32768;
-
-const _: () = prove!(INPUT == input::ROOM);
-
-const _: () = prove!(OUTPUT == out::ROOM);

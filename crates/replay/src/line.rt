@@ -73,11 +73,6 @@ fn bytes(w: &[u8], k: usize) -> Option<ByteString<'_>> {
     words::bytes(words::word(w, k))
 }
 
-// Whether word k is the one that stands for nothing.
-fn is_none(w: &[u8], k: usize) -> bool {
-    words::word(w, k) == b"-".as_slice()
-}
-
 fn storage_of(word: &[u8]) -> Option<Storage> {
     match word {
         b"physical" => Some(Storage::Physical),
@@ -108,24 +103,6 @@ fn root_of(w: &[u8]) -> Option<Root> {
     })
 }
 
-// (map ADDR) or (map -)
-fn map_of(w: &[u8]) -> Option<SetUp<'_>> {
-    if is_none(w, 1) {
-        return Some(SetUp::Map(None));
-    }
-    Some(SetUp::Map(Some(number(w, 1)?)))
-}
-
-// (upsert KEY VALUE) or (upsert KEY -)
-fn upsert_of(w: &[u8]) -> Option<Call<'_>> {
-    let key = bytes(w, 1)?;
-    if is_none(w, 2) {
-        return Some(Call::Upsert { key, value: None });
-    }
-    let value = Some(bytes(w, 2)?);
-    Some(Call::Upsert { key, value })
-}
-
 fn set_up_of(w: &[u8]) -> Option<SetUp<'_>> {
     let line = match (words::count(w), words::word(w, 0)) {
         (3, b"image") => SetUp::Image {
@@ -148,7 +125,10 @@ fn set_up_of(w: &[u8]) -> Option<SetUp<'_>> {
             free: number(w, 3)?,
         },
         (9, b"empty") => SetUp::Empty(root_of(w)?),
-        (2, b"map") => return map_of(w),
+        (2, b"map") => SetUp::Map(match words::word(w, 1) {
+            b"-" => None,
+            address => Some(words::number(address)?),
+        }),
         _ => return None,
     };
     Some(line)
@@ -167,7 +147,13 @@ fn call_of(w: &[u8]) -> Option<Call<'_>> {
             low: bytes(w, 1)?,
             high: bytes(w, 2)?,
         },
-        (3, b"upsert") => return upsert_of(w),
+        (3, b"upsert") => Call::Upsert {
+            key: bytes(w, 1)?,
+            value: match words::word(w, 2) {
+                b"-" => None,
+                value => Some(words::bytes(value)?),
+            },
+        },
         (2, b"remove") => Call::Remove(bytes(w, 1)?),
         (4, b"put") => Call::Put {
             id: number(w, 1)?,
@@ -214,16 +200,12 @@ pub fn parse(line: &[u8]) -> Option<Line<'_>> {
         return Some(Line::Passed);
     }
     let w = words::inner(line);
-    if let Some(s) = set_up_of(w) {
-        return Some(Line::SetUp(s));
-    }
-    Some(Line::Call(call_of(w)?))
+    set_up_of(w)
+        .map(Line::SetUp)
+        .or_else(|| call_of(w).map(Line::Call))
 }
 
 // The same of a line that is longer than there is room for, by its start: a comment at most.
 pub fn parse_long(start: &[u8]) -> Option<Line<'_>> {
-    if is_passed(start) {
-        return Some(Line::Passed);
-    }
-    None
+    is_passed(start).then_some(Line::Passed)
 }

@@ -76,7 +76,7 @@ impl State<'_> {
             None => self.out.text(b"(floor 0 none)\n"),
             Some(_) => {
                 self.out.open(b"floor 0");
-                answers::record(&mut self.out, scratch, 0);
+                answers::record(&mut self.out, scratch);
                 self.out.close();
             }
         }

@@ -16,7 +16,6 @@ mod limits;
 mod line;
 mod lookups;
 mod memory;
-mod nodes;
 mod report;
 mod setup;
 mod shown;
@@ -64,11 +63,13 @@ impl State<'_> {
             Call::Flush { xid, next } => self.flush(xid, next),
             Call::Walk => self.walk(),
         };
-        if let Err(Fault::Refused(x)) = answered {
-            self.out.one(call.name(), u64::from(x));
-            return Ok(());
+        match answered {
+            Err(Fault::Refused(x)) => {
+                self.out.one(call.name(), u64::from(x));
+                Ok(())
+            }
+            taken => taken,
         }
-        answered
     }
 
     // A line, answered.

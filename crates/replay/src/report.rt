@@ -32,10 +32,7 @@ fn is_new(bitmap: &[u8], old: &[u8; limits::BITMAP], a: usize) -> bool {
 // The blocks written, in the order written: blocks are chosen by rising address.
 fn written(o: &mut Out, m: &Memory, old: &[u8; limits::BITMAP]) {
     let size = m.sizes.size;
-    for a in 0..m.sizes.blocks {
-        if !is_new(m.bitmap, old, a) {
-            continue;
-        }
+    for a in (0..m.sizes.blocks).filter(|a| is_new(m.bitmap, old, *a)) {
         let start = a.saturating_mul(size);
         o.open(b"wrote");
         o.number(a as u64);

@@ -10,12 +10,11 @@ impl Memory<'_> {
     // Each chunk's block count what remains for it, its free count the same.
     fn count_chunks(&mut self, blocks: u32, each: u32) {
         let mut rest = blocks;
-        for c in 0..limits::CHUNKS {
-            let here = rest.min(each);
-            self.counts[c] = here;
-            self.free[c] = here;
-            rest -= here;
+        for count in self.counts.iter_mut() {
+            *count = rest.min(each);
+            rest -= *count;
         }
+        *self.free = *self.counts;
     }
 
     // An image of zeros, and its block accounts.
@@ -35,10 +34,8 @@ impl Memory<'_> {
 impl State<'_> {
     // (image BLOCKS SIZE)
     pub fn image(&mut self, blocks: u64, size: u64) -> Result<(), Fault> {
-        if blocks == 0 || !lent::is_size(size as usize) {
-            return Err(Fault::NotTaken);
-        }
-        if blocks.saturating_mul(size) > limits::IMAGE as u64 {
+        let fits = blocks.saturating_mul(size) <= limits::IMAGE as u64;
+        if blocks == 0 || !lent::is_size(size as usize) || !fits {
             return Err(Fault::NotTaken);
         }
         self.memory
@@ -53,10 +50,8 @@ impl State<'_> {
     // (slots N)
     pub fn slots(&mut self, n: u64) -> Result<(), Fault> {
         let slots = n as usize;
-        if slots == 0 || lent::MOST_SLOTS < slots {
-            return Err(Fault::NotTaken);
-        }
-        if limits::ROOM < slots.saturating_mul(self.memory.sizes.size) {
+        let fits = slots.saturating_mul(self.memory.sizes.size) <= limits::ROOM;
+        if slots == 0 || lent::MOST_SLOTS < slots || !fits {
             return Err(Fault::NotTaken);
         }
         self.memory.sizes.slots = slots;

@@ -1,40 +1,39 @@
 // The line that shows the entries from the root last opened or flushed.
 use crate::fault::Fault;
-use crate::nodes::Met;
 use crate::state::State;
 use crate::walk::Visitor;
-use node::read::Span;
+use node::read::ReadNode;
+use node::val::{Child, Val};
 use script::out::Out;
+
+// The number of a child, by which its block names it.
+fn number_of(child: Child) -> u64 {
+    match child {
+        Child::Disk(x) | Child::Mem(x) => x,
+    }
+}
 
 // How many entries were met.
 #[derive(Drop)]
 struct Count(u64);
 
 impl Visitor for Count {
-    fn leaf(&mut self, met: Met) {
-        self.0 = self.0.saturating_add(met.node.nkeys);
+    fn leaf(&mut self, read: ReadNode) {
+        self.0 = self.0.saturating_add(read.node.nkeys);
     }
 }
 
 impl Visitor for Out {
     // Its entries shown.
-    fn leaf(&mut self, met: Met) {
-        for i in 0..met.node.nkeys {
-            if let Some(s) = met.span(i) {
-                entry(self, met, s);
+    fn leaf(&mut self, read: ReadNode) {
+        for i in 0..read.node.nkeys as usize {
+            self.bytes(read.key_at(i));
+            match read.value_at(i) {
+                Val::Ghost => self.text(b" -"),
+                Val::Leaf(value) => self.bytes(value),
+                Val::Child(child) => self.bytes(&number_of(child).to_le_bytes()),
             }
         }
-    }
-}
-
-// An entry of a leaf.
-fn entry(o: &mut Out, met: Met, s: Span) {
-    if let Some(key) = met.key_in(s) {
-        o.bytes(key);
-    }
-    match met.value_in(s) {
-        Some(value) => o.bytes(value),
-        None => o.text(b" -"),
     }
 }
 

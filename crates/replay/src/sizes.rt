@@ -3,10 +3,8 @@ ghost use Rattle.std.specs.Prelude.{◌≡◌, ◌+◌, min};
 ghost use Rattle.script.specs.Number.{most, product};
 
 use script::number;
+use tree::lent;
 use tree::lent::Lent;
-
-// Words of a slot, of its shadow, and its mark.
-const WORDS_EACH: usize = 19;
 
 // The image's blocks, none where there is no image, and their size; the slots.
 #[derive(Clone, Copy)]
@@ -44,9 +42,10 @@ impl Sizes {
     pub fn chunks(self) -> usize {
         let each = self.chunk();
         if each == 0 {
-            return 0;
+            0
+        } else {
+            self.blocks.div_ceil(each)
         }
-        self.blocks.div_ceil(each)
     }
 
     // Bytes of the bitmap: a block a chunk.
@@ -65,7 +64,7 @@ impl Sizes {
     pub fn head_words(self) -> usize
         ensures { result ≡ product self.slots 19 }
     {
-        number::times(self.slots, WORDS_EACH)
+        number::times(self.slots, lent::WORDS_EACH)
     }
 
     // Bytes of the slots and their shadows.

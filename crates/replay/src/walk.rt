@@ -3,27 +3,22 @@ ghost use Rattle.std.specs.Prelude.{◌≤◌, ◌<◌, ◌/◌, length, OnOk};
 
 use crate::fault::Fault;
 use crate::memory::{Memory, first_mut};
-use crate::nodes::Met;
 use crate::state::{Place, State};
 use node::read;
+use node::read::ReadNode;
+use node::val::{Child, Val};
+use tree::editor::Bounds;
 use tree::lent::Lent;
 use tree::map;
 use tree::refusal::Refusal;
 
 // What is done at each leaf that is met.
 pub trait Visitor {
-    fn leaf(&mut self, met: Met);
+    fn leaf(&mut self, read: ReadNode);
 }
 
-// Keys that bound a node: not below the lower one, and below the upper one, if there is one.
-#[derive(Clone, Copy)]
-struct Bounds<'a> {
-    lower: &'a [u8],
-    upper: Option<&'a [u8]>,
-}
-
-const NO_BOUNDS: Bounds = Bounds {
-    lower: &[],
+const NO_BOUNDS: Bounds<&[u8]> = Bounds {
+    lower: None,
     upper: None,
 };
 
@@ -43,8 +38,8 @@ impl<'a> Walk<'a> {
     // The address of a reference: of an id that the last flush moved its new one.
     fn address(self, r: u64) -> Result<u64, Fault> {
         if self.place.map.is_some() {
-            let at = self.ids.iter().position(|id| *id == r);
-            if let Some(a) = at.and_then(|i| self.places.get(i)) {
+            let mut moved = self.ids.iter().zip(self.places);
+            if let Some((_, a)) = moved.find(|(id, _)| **id == r) {
                 return Ok(*a);
             }
         }
@@ -52,76 +47,85 @@ impl<'a> Walk<'a> {
     }
 
     // The node at an address, in its place.
-    fn load(self, place: read::Place, b: Bounds, a: u64) -> Result<Met<'a>, Fault>
+    fn load(self, place: read::Place, a: u64) -> Result<ReadNode<'a>, Fault>
         ensures { OnOk result (a < length self.entry.image.now / self.entry.lent.size) }
     {
-        let size = self.lent.size;
-        if (self.image.len() / size) as u64 <= a {
-            return Err(Fault::Refused(Refusal::Address));
-        }
-        let upper = b.upper.unwrap_or(b.lower);
         let order = self.place.order;
-        let node = map::load_block(self.image, self.lent, order, place, b.lower, upper, a)?;
-        let block = map::block_of(self.image, size, a);
-        Met::new(block, node).ok_or(Fault::Refused(Refusal::Layout))
+        Ok(map::load_block(self.image, self.lent, order, place, a)?)
     }
 
     // The bounds of child i: its index key, and the next one, or where there is none its parent's.
-    fn bounds(self, met: Met<'a>, b: Bounds<'a>, i: u64) -> Bounds<'a> {
-        let lower = met.key(i).unwrap_or(b.lower);
-        let upper = met.key(i.saturating_add(1)).or(b.upper);
-        Bounds { lower, upper }
+    fn bounds(self, read: ReadNode<'a>, b: Bounds<&'a [u8]>, i: usize) -> Bounds<&'a [u8]>
+        requires { i < read.node.nkeys }
+    {
+        let upper = if i + 1 < read.node.nkeys as usize {
+            Some(read.key_at(i + 1))
+        } else {
+            b.upper
+        };
+        Bounds {
+            lower: Some(read.key_at(i)),
+            upper,
+        }
     }
 
     // Child i of a node, within its bounds.
-    fn child(self, met: Met<'a>, b: Bounds<'a>, i: u64) -> Result<Met<'a>, Fault> {
-        let r = met.child(i).unwrap_or(0);
-        let v = met.node;
+    fn child(self, read: ReadNode<'a>, b: Bounds<&'a [u8]>, i: usize) -> Result<ReadNode<'a>, Fault>
+        requires { i < read.node.nkeys }
+    {
+        let r = match read.value_at(i) {
+            Val::Child(Child::Disk(r)) => r,
+            _ => 0,
+        };
+        let v = read.node;
+        let Bounds { lower, upper } = b;
         let place = read::Place {
             root: false,
             oid: r,
             parent: v.level,
             ksize: v.ksize,
             vsize: v.vsize,
-            bounded: b.upper.is_some(),
+            lower,
+            upper,
         };
-        self.load(place, b, self.address(r)?)
+        self.load(place, self.address(r)?)
     }
 
     // The root, held to 10 as open has it.
-    fn root(self) -> Result<Met<'a>, Fault> {
+    fn root(self) -> Result<ReadNode<'a>, Fault> {
         let place = read::Place {
             root: true,
             oid: self.place.root,
             parent: 0,
             ksize: 0,
             vsize: 0,
-            bounded: false,
+            lower: None,
+            upper: None,
         };
         let a = self.address(self.place.root)?;
-        let met = self.load(place, NO_BOUNDS, a)?;
+        let read = self.load(place, a)?;
         let by_id = self.place.map.is_some();
-        if !map::root_holds(self.image, self.lent, a, by_id, met.node) {
+        if !map::root_holds(self.image, self.lent, a, by_id, read.node) {
             return Err(Fault::Refused(Refusal::Root));
         }
-        Ok(met)
+        Ok(read)
     }
 
     // The leaves below a node, d levels down.
     fn below<V: Visitor>(
         self,
-        met: Met<'a>,
-        b: Bounds<'a>,
+        read: ReadNode<'a>,
+        b: Bounds<&'a [u8]>,
         d: u64,
         to: &mut V,
     ) -> Result<(), Fault> {
         if d == 0 {
-            to.leaf(met);
+            to.leaf(read);
             return Ok(());
         }
-        for i in 0..met.node.nkeys {
-            let inner = self.bounds(met, b, i);
-            let child = self.child(met, inner, i)?;
+        for i in 0..read.node.nkeys as usize {
+            let inner = self.bounds(read, b, i);
+            let child = self.child(read, inner, i)?;
             self.below(child, inner, d - 1, to)?;
         }
         Ok(())
@@ -139,7 +143,7 @@ impl Memory<'_> {
     pub fn walk(&mut self, place: Place) -> Result<Walk<'_>, Fault> {
         let s = self.sizes;
         let lent = s.lent(place.map);
-        if lent.size < 512 || 65536 < lent.size {
+        if !(512..=65536).contains(&lent.size) {
             return Err(Fault::Refused(Refusal::Lent));
         }
         let Memory {

@@ -1,4 +1,3 @@
 -- What the contracts of `speed` cite.
 pub mod Any
 pub mod OneNode
-pub mod laws

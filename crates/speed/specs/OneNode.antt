@@ -1,5 +1,5 @@
 -- One node read into a slot and packed from one, for arguments of any kind.
-use Rattle.std.specs.Prelude.{List, map, Bool, true, false, cond, ◌&&◌, ℕ, ◌-◌, ◌*◌, ◌^◌, length, leb}
+use Rattle.std.specs.Prelude.{List, [], map, Bool, true, false, cond, ◌&&◌, ℕ, ◌-◌, ◌*◌, ◌^◌, length, leb}
 use Rattle.seal.specs.Bytes.{splice}
 use Rattle.node.specs.Result.{Result, ok, refused}
 use Rattle.node.specs.Refusals as refusal
@@ -10,7 +10,7 @@ use Rattle.node.specs.Fit.{fits}
 use Rattle.node.specs.Pack.{child_number, numbered, pack_node}
 use Rattle.node.specs.declared.build.NodeBuild.{NodeBuild}
 use Rattle.node.specs.declared.read.Node.{Node}
-use Rattle.node.specs.declared.read.Place.{Place}
+use Rattle.node.specs.Place.{Place}
 
 -- a number, and a slice after the call
 pub record Answer : Type 0 where
@@ -33,13 +33,13 @@ unfoldable pub lent : List ℕ → List ℕ → Bool
 lent b l = leb 512 (length b) && leb (length b) 65536 && leb (2 * length b) (length l)
 
 -- what was read, in a slot: the bytes that its records take, and the slot with them
-unfoldable pub taken : List ℕ → Result OnDisk → Answer
+abbrev pub taken : List ℕ → Result OnDisk → Answer
 taken l (refused n) = answered (answer_of n) l
 taken l (ok x) = answered (length (records_of x.entries)) (splice l 0 (records_of x.entries))
 
--- a block read as a root, with no bounds to look at
+-- a block read as a root, with no bounds
 unfoldable pub read_into : ℕ → ℕ → List ℕ → List ℕ → Answer
-read_into o oid b l = cond (lent b l) (taken l (read_node o (root_place oid) b b b)) (answered (answer_of refusal.lent) l)
+read_into o oid b l = cond (lent b l) (taken l (read_node o (root_place oid) [] [] b)) (answered (answer_of refusal.lent) l)
 
 -- what a root is packed from: the numbers of a root's block
 unfoldable pub build_like : List ℕ → NodeBuild
@@ -69,5 +69,5 @@ unfoldable pub packable : ℕ → ℕ → List ℕ → List ℕ → List ℕ →
 packable n used like d l = leb 512 (length like) && sizes_hold (build_like like) d l && records_fit (build_like like) n used l
 
 -- the slice with the node packed at its start
-unfoldable pub pack_into : ℕ → List ℕ → List ℕ → List ℕ → List ℕ → List ℕ
+abbrev pub pack_into : ℕ → List ℕ → List ℕ → List ℕ → List ℕ → List ℕ
 pack_into n heads like d l = splice d 0 (pack_node (build_like like) (map (numbered (child_number heads false)) (entries_of n l)))

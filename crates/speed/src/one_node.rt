@@ -1,14 +1,16 @@
 // One node, read and packed: `node::read`, `node::adopt` and `node::pack` for arguments of any kind.
-ghost use Rattle.std.specs.Prelude.{◌≡◌, cond, ◌≤◌, ◌<◌, ◌^◌, length};
+ghost use Rattle.std.specs.Prelude.{◌≡◌, [], cond, ◌≤◌, ◌<◌, ◌^◌, true, false, length, MatchOption};
 ghost use Rattle.node.specs.Fit.{Sized};
+ghost use Rattle.node.specs.Place.{place_of, lent_key};
 ghost use Rattle.node.specs.Refusals.{number_of};
 ghost use Rattle.speed.specs.OneNode.{answered, answer_of, read_into, root_place, build_like, lent, sizes_hold, records_fit, packable, pack_into};
 
 use node::build::NodeBuild;
 use node::info::BTreeInfo;
 use node::order::Order;
-use node::read::{Node, Place, ReadNode};
+use node::read::{Node, Place};
 use node::refusal::Refusal;
+use node::room::Shape;
 use node::slot::Records;
 use node::{pack, read, slot};
 
@@ -19,48 +21,48 @@ fn refused(refusal: Refusal) -> u64
     0xFFFF_FFFF_FFFF_FFFF - u64::from(refusal)
 }
 
-fn root_place(oid: u64) -> Place
-    ensures { result ≡ root_place oid }
+#[tactic(auto, unfolding(crate::specs::OneNode::root_place))]
+fn root_place(oid: u64) -> Place<'static>
+    ensures place { place_of result ≡ root_place oid }
+    ensures unbounded { (lent_key result.lower ≡ []) × (lent_key result.upper ≡ []) }
 {
     Place {
         root: true,
-        oid: oid,
+        oid,
         parent: 0,
         ksize: 0,
         vsize: 0,
-        bounded: false,
+        lower: None,
+        upper: None,
     }
 }
 
 // A block of a node's size, and a slot that holds its entries in any case.
+#[tactic(auto, unfolding(crate::specs::OneNode::lent))]
 fn lent(block: &[u8], slot: &[u8]) -> bool
     ensures { result ≡ lent block.now slot.now }
 {
     let size = block.len();
-    if size < 512 {
-        return false;
-    }
-    if 65536 < size {
-        return false;
-    }
-    2 * size <= slot.len()
+    (512..=65536).contains(&size) && 2 * size <= slot.len()
 }
 
 // Reads a block as a root with this id and copies its entries to the slot: the bytes that they take there, or a refusal's answer.
+#[tactic(auto, unfolding(crate::specs::OneNode::lent, crate::specs::OneNode::read_into, node::specs::Read::read_of, node::specs::Read::on_disk))]
 pub fn rattle_read_node(block: &[u8], slot: &mut [u8], order: u64, oid: u64) -> u64
     ensures { answered result slot.new ≡ read_into order oid block.now slot.old }
 {
     if !lent(block, slot) {
         return refused(Refusal::Lent);
     }
-    let read = read::read_node(block, Order { code: order }, root_place(oid), block, block);
+    let read = read::read_node(block, Order { code: order }, root_place(oid));
     match read {
         Err(x) => refused(x),
-        Ok(node) => ReadNode { block, node }.adopt(slot) as u64,
+        Ok(read) => read.adopt(slot) as u64,
     }
 }
 
 // What a root is packed from: the numbers of a root's block.
+#[tactic(auto, unfolding(crate::specs::OneNode::build_like, crate::specs::OneNode::root_place))]
 fn build_like(like: &[u8]) -> NodeBuild
     requires { 512 ≤ length like.now }
     ensures { (result ≡ build_like like.now) × (result.info.key_size < 2 ^ 32) × (result.info.val_size < 2 ^ 32) }
@@ -74,44 +76,42 @@ fn build_like(like: &[u8]) -> NodeBuild
         subtype: v.subtype,
         level: v.level,
         root: true,
-        info: info,
+        info,
     }
 }
 
 // Whether the sizes of a node, of the slice that it goes to and of a slot hold.
+#[tactic(auto, unfolding(crate::specs::OneNode::sizes_hold))]
 fn sizes_hold(b: NodeBuild, dst: &[u8], slot: &[u8]) -> bool
     ensures { result ≡ sizes_hold b dst.now slot.now }
 {
-    let t = b.info;
-    if t.node_size < 512 {
-        return false;
-    }
-    if 65536 < t.node_size {
-        return false;
-    }
-    if (dst.len() as u64) < t.node_size {
-        return false;
-    }
-    slot.len() <= 1048576
+    let size = b.info.node_size;
+    (512..=65536).contains(&size) && size <= dst.len() as u64 && slot.len() <= 1048576
 }
 
-// Whether the n records of a slot lie in it and fit.
-fn records_fit(b: NodeBuild, slot: &[u8], n: usize, used: u64) -> bool
+// The n records of a slot, `used` bytes, where they lie in it and fit.
+#[tactic(auto, unfolding(crate::specs::OneNode::records_fit, node::specs::Slot::records_hold))]
+fn fitting(b: NodeBuild, slot: &[u8], n: usize, used: u64) -> Option<Records<'_>>
     requires { Sized b.info × (length slot.now ≤ 2 ^ 20) }
-    ensures { result ≡ records_fit b n used slot.now }
+    ensures { MatchOption result (records_fit b n used slot.now ≡ false)
+        (λ r. (records_fit b n used slot.now ≡ true) × (r.slot.now ≡ slot.now) × (r.count ≡ n)) }
 {
-    if !slot::records_hold(slot, n as u64, used) {
-        return false;
+    let count = n as u64;
+    if !slot::records_hold(slot, count, used) {
+        return None;
     }
-    let records = Records {
-        slot,
-        count: n as u64,
+    let records = Records { slot, count };
+    let shape = Shape {
+        info: b.info,
+        root: b.root,
+        level: b.level,
     };
-    records.fits(used, b.info, b.root, b.level)
+    records.fits(used, shape).then_some(records)
 }
 
 // Packs the n records of a slot, `used` bytes, as a root with the numbers of the root block `like`: false where they are not n records, or do
 // not fit.
+#[tactic(auto, unfolding(crate::specs::OneNode::packable, crate::specs::OneNode::sizes_hold, crate::specs::OneNode::records_fit))]
 pub fn rattle_pack_node(
     dst: &mut [u8],
     slot: &[u8],
@@ -131,12 +131,8 @@ pub fn rattle_pack_node(
     if !sizes_hold(b, dst, slot) {
         return false;
     }
-    if !records_fit(b, slot, n, used) {
+    let Some(records) = fitting(b, slot, n, used) else {
         return false;
-    }
-    let records = Records {
-        slot,
-        count: n as u64,
     };
     pack::pack(dst, records, heads, false, b);
     true

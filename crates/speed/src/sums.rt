@@ -10,9 +10,10 @@ pub fn rattle_compute(object: &[u8]) -> u64
     ensures { result ≡ sum_of object.now }
 {
     if object.len() < 8 {
-        return 0;
+        0
+    } else {
+        checksum::compute(object)
     }
-    checksum::compute(object)
 }
 
 pub fn rattle_verify(object: &[u8]) -> bool
@@ -25,8 +26,7 @@ pub fn rattle_verify(object: &[u8]) -> bool
 pub fn rattle_seal(object: &mut [u8])
     ensures { object.new ≡ sealed_of object.old }
 {
-    if object.len() < 8 {
-        return;
+    if 8 <= object.len() {
+        checksum::seal(object);
     }
-    checksum::seal(object);
 }
