@@ -1,25 +1,28 @@
 -- Wrong answers, one table: for each public contract an input, what its definition gives there, and two wrong answers that it rules out.
 -- laws/WrongAnswersRuledOut has the result. A contract is an equality to the definition, so what the definition does not give no program may answer.
 use Rattle.std.specs.Prelude.{List, [], ◌∷◌, ◌++◌, Bool, true, false, ◌&&◌, not, ℕ, ◌+◌, Some, None, replicate, length, get_or, take, drop, leb}
+use Rattle.std.specs.Ordering.{is_eq}
 use Prim.Native.String.{String}
 use Rattle.seal.specs.Bytes.{window, splice, moved, bytes_of, u16_at, u32_at, u64_at}
 use Rattle.seal.specs.Checksum.{fletcher, verified, sealed}
 use Rattle.seal.specs.Obj.{header_at, header_bytes, kind_of, storage_of}
 use Rattle.node.specs.Result.{Result}
-use Rattle.node.specs.Order.{pair, byte, known, keyed_length, less, same_key, pair_key}
+use Rattle.node.specs.Order.{pair, byte, known, keyed_length, less, pair_key}
 use Rattle.node.specs.Entry.{Entry, Val, ghost, leaf, disk, value_length, value_bytes}
-use Rattle.node.specs.Records.{mark_of, records_of, record_bytes, mark_length, record_length, entry_of, records_length, entries_of}
+use Rattle.node.specs.Records.{mark_of, record_of, records_of, mark_length, record_length, entry_of, records_length, entries_of}
 use Rattle.node.specs.Find.{place_of, is_there, not_above}
 use Rattle.node.specs.Fit.{align8, padded, data_space, toc_slots, toc_length, fits_sums, fits, packed_length}
 use Rattle.node.specs.Cut.{cut}
 use Rattle.node.specs.Read.{OnDisk, info_at, parsed, is_fixed, span_at, is_ghost, entry_at, entries_from, read_node}
-use Rattle.node.specs.Slot.{head_at, head_words, insert_at, remove_at, with_key, with_value, records_hold, is_child, suit, suits, key_length_holds, value_length_holds}
-use Rattle.node.specs.internal.SlotSteps.{lengths_of, longer_of, child_of, read_head, records_stand}
+use Rattle.node.specs.Slot.{head_at, head_words, insert_at, remove_at, with_key, with_value, records_hold, is_child, suit, suits, key_length_holds, value_length_holds, child_means}
+use Rattle.node.specs.internal.SlotSteps.{lengths_of, longer_of, read_head, records_stand}
+use Rattle.node.specs.internal.Sought.{compared}
+use Rattle.node.specs.declared.val.Child.TheVariants as child
 use Rattle.node.specs.Pack.{child_number, pack_node}
 use Rattle.node.specs.declared.info.BTreeInfo.{BTreeInfo}
 use Rattle.node.specs.declared.fit.Lengths.{Lengths}
 use Rattle.node.specs.declared.read.Node.{Node}
-use Rattle.node.specs.declared.read.Place.{Place}
+use Rattle.node.specs.Place.{Place}
 use Rattle.node.specs.declared.read.Span.{Span}
 use Rattle.tree.specs.Lent as lend
 use Rattle.tree.specs.Lent.{is_size, sizes_hold, lent_of}
@@ -356,8 +359,8 @@ order_rows =
       wrong' = 5 ∷ replicate 7 0 ++ 5 ∷ replicate 7 0;
     }
     ∷ record {
-      contract = "order::same";
-      gives = number (same_key (1 ∷ []) (1 ∷ [])) ∷ number (same_key (1 ∷ []) (1 ∷ 1 ∷ [])) ∷ [];
+      contract = "order::compare";
+      gives = number (is_eq (compared byte (1 ∷ []) (1 ∷ []))) ∷ number (is_eq (compared byte (1 ∷ []) (1 ∷ 1 ∷ []))) ∷ [];
       right = 1 ∷ 0 ∷ [];
       wrong = 1 ∷ 1 ∷ [];
       wrong' = 0 ∷ 0 ∷ [];
@@ -426,7 +429,7 @@ record_rows =
     }
     ∷ record {
       contract = "record::put";
-      gives = record_bytes (1 ∷ 2 ∷ []) 1 (9 ∷ []);
+      gives = record_of (record { key = 1 ∷ 2 ∷ []; value = leaf (9 ∷ []) });
       right = 2 ∷ 0 ∷ 1 ∷ 0 ∷ 1 ∷ 2 ∷ 9 ∷ [];
       wrong = 1 ∷ 0 ∷ 2 ∷ 0
           ∷ 1 ∷ 2 ∷ 9 ∷ [];
@@ -493,7 +496,7 @@ record_rows =
     }
     ∷ record {
       contract = "slot::relink";
-      gives = records_of (with_value 0 (child_of 0xFFFD 5) (record { key = 1 ∷ []; value = disk 9 } ∷ []));
+      gives = records_of (with_value 0 (child_means (child.Mem 5)) (record { key = 1 ∷ []; value = disk 9 } ∷ []));
       right = 1 ∷ 0 ∷ 0xFD ∷ 0xFF ∷ 1 ∷ 5 ∷ replicate 7 0;
       wrong = 1 ∷ 0 ∷ 0xFE ∷ 0xFF ∷ 1 ∷ 5 ∷ replicate 7 0;
       wrong' = 1 ∷ 0 ∷ 0xFD ∷ 0xFF ∷ 1 ∷ 9 ∷ replicate 7 0;

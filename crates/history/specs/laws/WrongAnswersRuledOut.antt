@@ -52,8 +52,8 @@ unfolding Rattle.history.specs.WrongAnswers.eight Rattle.history.specs.WrongAnsw
     Rattle.node.specs.Slot.entry_holds Rattle.node.specs.Slot.child_means Rattle.node.specs.Slot.value_means
     Rattle.node.specs.internal.SlotSteps.parts_at Rattle.node.specs.internal.SlotSteps.lengths_of Rattle.node.specs.internal.SlotSteps.longer_of
     Rattle.node.specs.internal.SlotSteps.pair_id Rattle.node.specs.internal.SlotSteps.found_in Rattle.node.specs.internal.SlotSteps.last_in
-    Rattle.node.specs.internal.SlotSteps.child_of Rattle.node.specs.internal.SlotSteps.read_head Rattle.node.specs.internal.SlotSteps.mark_holds
-    Rattle.node.specs.internal.SlotSteps.records_stand Rattle.node.specs.internal.SlotSteps.checked_of Rattle.node.specs.Pack.child_number
+    Rattle.node.specs.internal.SlotSteps.read_head Rattle.node.specs.internal.SlotSteps.mark_holds Rattle.node.specs.internal.SlotSteps.records_stand
+    Rattle.node.specs.internal.SlotSteps.checked_of Rattle.node.specs.internal.Sought.compared Rattle.node.specs.Pack.child_number
     Rattle.node.specs.Pack.numbered_value Rattle.node.specs.Pack.numbered Rattle.node.specs.Pack.pad_to Rattle.node.specs.Pack.value_offset
     Rattle.node.specs.Pack.toc_entry Rattle.node.specs.Pack.toc Rattle.node.specs.Pack.key_area Rattle.node.specs.Pack.value_area
     Rattle.node.specs.Pack.node_flags Rattle.node.specs.Pack.head_bytes Rattle.node.specs.Pack.info_bytes Rattle.node.specs.Pack.pack_node

@@ -10,7 +10,7 @@ use Rattle.node.specs.Read.{OnDisk, info_at}
 use Rattle.node.specs.Slot.{MemNode}
 use Rattle.node.specs.laws.base.Tests.{and_split}
 use Rattle.node.specs.declared.info.BTreeInfo.{BTreeInfo}
-use Rattle.node.specs.declared.read.Place.{Place}
+use Rattle.node.specs.Place.{Place}
 use Rattle.tree.specs.Lent.{Lent, sizes_hold, block_at, in_image}
 use Rattle.tree.specs.State.{State}
 use Rattle.tree.specs.Load.{Bounds, unbounded, load_block, root_place, child_place, address_of, adopted}

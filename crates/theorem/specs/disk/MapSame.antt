@@ -15,7 +15,7 @@ use Rattle.node.specs.laws.order.Found.{way_in}
 use Rattle.node.specs.Read.{OnDisk, info_at}
 use Rattle.node.specs.laws.base.Tests.{by_test, never, and_split, and_right}
 use Rattle.node.specs.declared.info.BTreeInfo.{BTreeInfo}
-use Rattle.node.specs.declared.read.Place.{Place}
+use Rattle.node.specs.Place.{Place}
 use Rattle.tree.specs.Lent.{Lent, blocks, block_at, in_image}
 use Rattle.tree.specs.Load.{Bounds, unbounded, child_bounds, load_block, root_place, child_place, disk_number, root_holds, map_child, map_last, map_floor}
 use Rattle.tree.specs.Load.{map_root_holds, map_address, address_of}

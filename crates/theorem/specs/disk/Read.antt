@@ -21,7 +21,7 @@ use Rattle.node.specs.laws.read.LoadLine.{layout_level, entries_filled}
 use Rattle.node.specs.laws.read.Loaded.{Passed, read_passed, entries_length, Held, span_held, span_fixed, entry_key}
 use Rattle.node.specs.declared.read.Node.{Node}
 use Rattle.node.specs.declared.read.Span.{Span}
-use Rattle.node.specs.declared.read.Place.{Place}
+use Rattle.node.specs.Place.{Place}
 use Rattle.seal.specs.laws.WindowLaws.{length_window}
 use Rattle.theorem.specs.model.Bounds.{Terms, KeyOk, ValueOk, value_sized}
 use Rattle.theorem.specs.disk.Walk.{AllDisk}

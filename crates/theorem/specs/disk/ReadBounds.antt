@@ -13,7 +13,7 @@ use Rattle.node.specs.laws.order.Order.{rank_lt, rank_le}
 use Rattle.node.specs.Entry.{Entry, rise_after, rising, every}
 use Rattle.node.specs.Read.{OnDisk, keys_within, in_bounds}
 use Rattle.node.specs.laws.base.Tests.{by_test, and_split, or_right}
-use Rattle.node.specs.declared.read.Place.{Place}
+use Rattle.node.specs.Place.{Place}
 use Rattle.tree.specs.Lent.{block_at}
 use Rattle.tree.specs.Load.{Bounds, bound_key, tighter_lower, tighter_upper, load_block, child_place}
 use Rattle.history.specs.Walk.{Disk, resolve}

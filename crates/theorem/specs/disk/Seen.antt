@@ -19,7 +19,7 @@ use Rattle.node.specs.laws.read.LoadLine.{node_line}
 use Rattle.node.specs.laws.read.Loaded.{Passed, read_passed}
 use Rattle.node.specs.declared.read.Node.{Node}
 use Rattle.node.specs.declared.read.Span.{Span}
-use Rattle.node.specs.declared.read.Place.{Place}
+use Rattle.node.specs.Place.{Place}
 use Rattle.tree.specs.Lent.{Lent, is_size, blocks, sizes_hold, block_at, in_image}
 use Rattle.tree.specs.State.{no_node}
 use Rattle.tree.specs.Load.{Bounds, unbounded, bound_key, load_block, root_place, child_place, adopted}

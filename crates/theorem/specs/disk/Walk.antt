@@ -26,7 +26,7 @@ use Rattle.node.specs.laws.read.Loaded.{read_passed}
 use Rattle.node.specs.Slot.{MemNode}
 use Rattle.node.specs.laws.base.Tests.{by_test, never, and_both}
 use Rattle.node.specs.declared.info.BTreeInfo.{BTreeInfo}
-use Rattle.node.specs.declared.read.Place.{Place}
+use Rattle.node.specs.Place.{Place}
 use Rattle.tree.specs.Lent.{block_at, in_image}
 use Rattle.tree.specs.Load.{Bounds, unbounded, bound_key, tighter_lower, tighter_upper, child_bounds, load_block, child_place, disk_number, adopted}
 use Rattle.history.specs.Walk.{Disk, resolve, Visit, Walk, joined, walk_kids, walk_below, blocks_of}

@@ -21,7 +21,7 @@ use Rattle.node.specs.laws.pack.Layout.{contents_of, free_of, tail_of, after_sum
 use Rattle.node.specs.laws.pack.HeaderBack.{head_table_lem, info_table_lem, head_table, info_table}
 use Rattle.node.specs.declared.info.BTreeInfo.{BTreeInfo}
 use Rattle.node.specs.declared.build.NodeBuild.{NodeBuild}
-use Rattle.node.specs.declared.read.Place.{Place}
+use Rattle.node.specs.Place.{Place}
 use Rattle.theorem.specs.model.Bounds.{Terms, K, Items, nil, cons, KeyOk, Row, value_sized}
 use Rattle.theorem.specs.model.Lazy.{node_of, names, names_same, Child, Ok}
 use Rattle.theorem.specs.flush.Writes.{naming}

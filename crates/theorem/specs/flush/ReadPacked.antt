@@ -18,7 +18,7 @@ use Rattle.node.specs.laws.pack.HeaderBack.{level_back}
 use Rattle.node.specs.laws.pack.LoadsBack.{loads_back}
 use Rattle.node.specs.laws.base.Tests.{by_test}
 use Rattle.node.specs.declared.build.NodeBuild.{NodeBuild}
-use Rattle.node.specs.declared.read.Place.{Place}
+use Rattle.node.specs.Place.{Place}
 use Rattle.tree.specs.Lent.{Lent, blocks, block_at, in_image}
 use Rattle.tree.specs.State.{State, node_at, no_node}
 use Rattle.tree.specs.Load.{unbounded, bound_key, load_block, child_place, root_place, adopted}

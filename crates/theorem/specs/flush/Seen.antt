@@ -18,7 +18,7 @@ use Rattle.node.specs.Read.{OnDisk, on_disk, parsed, is_fixed, flags_hold, layou
 use Rattle.node.specs.Read.{span_at, spans_hold, spans_length, entries_hold, entries_from}
 use Rattle.node.specs.Slot.{MemNode}
 use Rattle.node.specs.declared.read.Node.{Node}
-use Rattle.node.specs.declared.read.Place.{Place}
+use Rattle.node.specs.Place.{Place}
 use Rattle.node.specs.declared.info.BTreeInfo.{BTreeInfo}
 use Rattle.node.specs.laws.base.Bytes.{Bytes, bytes_window, field_below}
 use Rattle.node.specs.laws.base.Tests.{by_test, and_split, and_left, and_right}

@@ -7,7 +7,7 @@ use Rattle.node.specs.Result.{Result, ok, refused, ◌>>=◌}
 use Rattle.node.specs.Refusals as refusal
 use Rattle.node.specs.Read.{OnDisk, on_disk, parsed, layout_holds, flags_hold, is_fixed, read_node}
 use Rattle.node.specs.declared.read.Node.{Node}
-use Rattle.node.specs.declared.read.Place.{Place}
+use Rattle.node.specs.Place.{Place}
 use Rattle.node.specs.laws.base.Tests.{by_test, never, and_right}
 use Rattle.node.specs.laws.base.Results.{bind_ok, checked_ok}
 use Rattle.node.specs.laws.read.LoadLine.{layout_level, entries_filled}

@@ -14,7 +14,7 @@ use Rattle.node.specs.Read.{OnDisk, parsed, layout_holds, entries_hold, entries_
 use Rattle.node.specs.Cut.{cut_place, cut}
 use Rattle.node.specs.declared.info.BTreeInfo.{BTreeInfo}
 use Rattle.node.specs.declared.read.Node.{Node}
-use Rattle.node.specs.declared.read.Place.{Place}
+use Rattle.node.specs.Place.{Place}
 use Rattle.tree.specs.Lent.{Lent, in_image}
 use Rattle.tree.specs.State.{State, node_at}
 use Rattle.tree.specs.Load.{Bounds, unbounded, load_block, root_place, map_child, map_last, or_else, map_floor, mapping, map_root_holds, map_address}

@@ -16,7 +16,7 @@ use Rattle.node.specs.laws.base.Tests.{by_test, never, and_split, and_left, and_
 use Rattle.node.specs.laws.order.Rising.{every_at}
 use Rattle.node.specs.laws.read.Loaded.{Passed, read_passed, entries_every, span_held, by_value}
 use Rattle.node.specs.declared.read.Node.{Node}
-use Rattle.node.specs.declared.read.Place.{Place}
+use Rattle.node.specs.Place.{Place}
 use Rattle.tree.specs.Lent.{Lent, block_at}
 use Rattle.tree.specs.State.{State, no_node, node_at, put_node, with_entries}
 use Rattle.tree.specs.Hold.{key_fits, value_fits, child_holds, stands_on_disk, node_stands, node_holds, every_live, named_once, hold_together, numbers_hold}

@@ -16,7 +16,7 @@ use Rattle.node.specs.Read.{OnDisk, on_disk, parsed}
 use Rattle.node.specs.laws.read.Loaded.{read_passed}
 use Rattle.node.specs.laws.base.Tests.{by_test}
 use Rattle.node.specs.Slot.{MemNode}
-use Rattle.node.specs.declared.read.Place.{Place}
+use Rattle.node.specs.Place.{Place}
 use Rattle.tree.specs.Lent.{block_at}
 use Rattle.tree.specs.Load.{unbounded, child_place, adopted}
 use Rattle.history.specs.Walk.{Disk, resolve, Visit, blocks_of, ids_of}
