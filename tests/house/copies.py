@@ -9,6 +9,7 @@ PARTS = ('src', 'specs', 'proofs')
 KEPT = re.compile(r'(?:pub(?:\(\w+\))? )?(struct|enum|const|mod|use) ')
 NAMES = re.compile(r'[A-Za-z_]\w*')
 OF_LAWS = re.compile(r'ghost use \S+\.specs\.laws\b')
+GHOST = re.compile(r'    (?:pub )?ghost ')
 
 
 def items(source):
@@ -36,8 +37,8 @@ def imports(item):
 
 
 def types_alone(source, laws):
-    """A source file's types and constants, with what they import: for definitions and laws, which cite no function. Without `laws`, no type
-    whose ghost fields name one: no definition speaks of such a type."""
+    """A source file's types and constants, with what they import: for definitions and laws, which cite no function. Without `laws`, no
+    ghost field that names one: no definition speaks of such a field."""
     kept, uses, lawful = ['#![tactic(auto)]'] if '#![tactic(auto)]' in source else [], [], set()
     for head, item in items(source):
         m = KEPT.match(item)
@@ -45,13 +46,12 @@ def types_alone(source, laws):
             uses.append(item)
         elif not laws and OF_LAWS.match(item):
             lawful.update(imports(item)[1])
-        elif m and any(lawful & set(NAMES.findall(field)) for field in re.findall(r'^    (?:pub )?ghost .*', item, re.M)):
-            continue
         elif m:
+            item = '\n'.join(line for line in item.split('\n') if not (GHOST.match(line) and lawful & set(NAMES.findall(line))))
             kept.append(f'{head}\n{item}' if head else item)
         elif item.startswith('ghost use') and re.search(r'^    (?:pub )?ghost ', source, re.M):
             kept.append(item)
-    said = set(NAMES.findall(re.sub(r'//.*', '', '\n'.join(kept))))
+    said = set(NAMES.findall(re.sub(r'//.*|^ghost use .*', '', '\n'.join(kept), flags=re.M)))
     for item in uses:
         path, names = imports(item)
         names = [n for n in names if n.split(' ')[-1] in said or item.startswith('pub') and n[0].isupper()]
