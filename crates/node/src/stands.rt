@@ -45,7 +45,7 @@ fn entry_holds(r: Record<'_>, order: Order, info: BTreeInfo, leaf: bool) -> bool
 }
 
 // Whether a key is above the key before it; the first has none before it. By `compare`, since with a call of `less` for each record a
-// checked lookup takes a third longer.
+// checked lookup takes a quarter longer.
 #[tactic(auto, using(crate::specs::laws::order::Compared::compared_lt))]
 fn rises(order: Order, last: Option<&[u8]>, key: &[u8]) -> bool
     ensures { MatchOption last.entry (IsTrue result) (λ k. result ≡ less order.code k.now key.now) }
