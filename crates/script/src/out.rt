@@ -45,6 +45,7 @@ impl<W> Out<W> {
     }
 }
 
+#[tactic(auto, using(crate::specs::laws::OutLaws::gathered))]
 impl<W: Write> Out<W> {
     // Writes what waits: nothing waits then.
     pub fn flush(&mut self)
@@ -58,6 +59,7 @@ impl<W: Write> Out<W> {
         self.waiting.clear();
     }
 
+    #[tactic(auto, unfolding(crate::specs::Out::puts, crate::specs::Out::put, crate::specs::Out::sents, crate::specs::Out::sent))]
     pub fn byte(&mut self, b: u8)
         ensures { Gathers W.contents self.old self.new (b ∷ []) }
     {
@@ -86,6 +88,7 @@ impl<W: Write> Out<W> {
     }
 
     // Two hexadecimal digits a byte.
+    #[tactic(auto, using(crate::specs::laws::OutLaws::gathered), unfolding(crate::specs::Out::hex_text))]
     fn hex(&mut self, s: &[u8])
         ensures { Gathers W.contents self.old self.new (hex_text s.now) }
     {
@@ -127,6 +130,7 @@ impl<W: Write> Out<W> {
     }
 
     // An answer of a name and a number.
+    #[tactic(auto, using(crate::specs::laws::OutLaws::gathered), unfolding(crate::specs::Out::one_text))]
     pub fn one(&mut self, name: &[u8], x: u64)
         ensures { Gathers W.contents self.old self.new (one_text name.now x) }
     {
@@ -136,6 +140,7 @@ impl<W: Write> Out<W> {
     }
 
     // The start of an answer: a name and two numbers.
+    #[tactic(auto, using(crate::specs::laws::OutLaws::gathered), unfolding(crate::specs::Out::two_open_text))]
     pub fn two_open(&mut self, name: &[u8], x: u64, y: u64)
         ensures { Gathers W.contents self.old self.new (two_open_text name.now x y) }
     {
@@ -145,6 +150,7 @@ impl<W: Write> Out<W> {
     }
 
     // An answer of a name and two numbers.
+    #[tactic(auto, using(crate::specs::laws::OutLaws::gathered), unfolding(crate::specs::Out::two_text))]
     pub fn two(&mut self, name: &[u8], x: u64, y: u64)
         ensures { Gathers W.contents self.old self.new (two_text name.now x y) }
     {

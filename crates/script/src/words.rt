@@ -39,6 +39,7 @@ fn longer(n: u64, b: u8) -> Option<u64>
 }
 
 // The number of a word, where it is a decimal number below 2^64. `parse` takes a + before it too.
+#[tactic(auto, using(crate::specs::laws::NumberLaws::numbers))]
 pub fn number(w: &[u8]) -> Option<u64>
     ensures { result ≡ number_read w.now }
 {
@@ -104,7 +105,7 @@ impl ByteString<'_> {
     }
 
     // Its bytes, as many as there is room for. The answer is how many.
-    #[tactic(auto, using(crate::specs::laws::ByteLaws::length_pairs))]
+    #[tactic(auto, using(std::proofs::lemmas::Grind::common_steps, crate::specs::laws::ByteLaws::paired))]
     pub fn decode(self, out: &mut [u8]) -> usize
         ensures count { result ≡ min (length (bytes_of self.entry)) (length out.old) }
         ensures bytes { out.new ≡ take result (bytes_of self.entry) ++ drop result out.old }

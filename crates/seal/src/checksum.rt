@@ -37,6 +37,7 @@ impl Sums {
 // takes them into four sums of which each waits for one addition only: the words at even places (with sum1), those at
 // odd places, and what each of the two comes to turn by turn. With the words v and u a turn, sum2 grows by
 // (even + odd - u) + (even + odd).
+#[tactic(auto, using(crate::specs::laws::ChecksumLaws::pair_turns))]
 fn add_chunk(chunk: &[u8], sums: Sums) -> Sums
     requires { (length chunk.now ≤ 4096) × (sums.sum1 < M) × (sums.sum2 < M) }
     ensures { (result.sum1 ≡ s1 sums.sum1 (words chunk.now))
@@ -67,6 +68,7 @@ fn add_chunk(chunk: &[u8], sums: Sums) -> Sums
 }
 
 // Both sums of all words of `body`, reduced once a chunk.
+#[tactic(auto, using(crate::specs::laws::ChecksumLaws::chunks))]
 fn fletcher64(body: &[u8]) -> Sums
     ensures { (result.sum1 ≡ s1 0 (words body.now) % M) × (result.sum2 ≡ s2 0 0 (words body.now) % M) }
 {

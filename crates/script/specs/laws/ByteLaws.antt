@@ -15,7 +15,7 @@ length_pairs (a ∷ b ∷ w) =
 
 -- each byte is that of its pair, among the first m of k pairs
 pub chunk_byte : (w : List ℕ) (k m i : ℕ) (d : List ℕ) → i < k → i < m → 2 * k ≤ length w
-    → get_or (pairs w) i 0 ≡ byte_of (get_or (get_or (take m (first_chunks 2 k w)) i d) 0 0) (get_or (get_or (take m (first_chunks 2 k w)) i d) 1 0)
+    → byte_of (get_or (get_or (take m (first_chunks 2 k w)) i d) 0 0) (get_or (get_or (take m (first_chunks 2 k w)) i d) 1 0) ≡ get_or (pairs w) i 0
 unfolding pairs
 chunk_byte w zero m i d h f g = absurd (omega arith)
 chunk_byte w (suc k) zero i d h f g = absurd (omega arith)
@@ -23,3 +23,5 @@ chunk_byte [] (suc k) (suc m) i d h f g = absurd (omega arith)
 chunk_byte (a ∷ []) (suc k) (suc m) i d h f g = absurd (omega arith)
 chunk_byte (a ∷ b ∷ w) (suc k) (suc m) zero d h f g = refl
 chunk_byte (a ∷ b ∷ w) (suc k) (suc m) (suc i) d h f g = chunk_byte w k m i d (omega arith) (omega arith) (omega arith)
+
+pub ruleset paired = (length_pairs, chunk_byte)

@@ -1,6 +1,6 @@
 -- Laws of decimal numbers in words. Assumes nothing.
 use Rattle.std.specs.Prelude.{◌≡◌, List, [], ◌∷◌, Option, None, Some, cond, ℕ, suc, ◌+◌, ◌*◌, ◌^◌, ◌≤◌, ◌<◌, length, drop, get_or}
-use Rattle.std.proofs.Common.{sym, ◌∙◌, le_refl, add-one, arith, drop-cons, drop_of_length-le, le-leb, ⊎_elim}
+use Rattle.std.proofs.Common.{le_refl, add-one, arith, drop-cons, drop_of_length-le, le-leb, ⊎_elim}
 use Rattle.std.proofs.Math.Bool.{and-false}
 use Rattle.std.proofs.lemmas.Bool.{lt-leb, cases_lt}
 use Rattle.script.specs.Number.{most}
@@ -44,28 +44,28 @@ made_none b n w h = ⊎_elim
 
 -- ---- what is left from i on makes of n what all makes of 0
 
-pub number_none : (w : List ℕ) → length w ≡ 0 → None ≡ number_read w
+pub number_none : (w : List ℕ) → length w ≡ 0 → number_read w ≡ None
 unfolding is_number
 number_none w h = rw h
 
-pub number_start : (w : List ℕ) → (length w ≡ 0 → ⊥) → made 0 w ≡ number_read w
+pub number_start : (w : List ℕ) → 0 < length w → number_read w ≡ made 0 (drop 0 w)
 unfolding is_number made
 number_start w h =
     let g : 1 ≤ length w = omega arith in
     rw (le-leb 1 (length w) g)
 
-pub number_stop : (w : List ℕ) (i n : ℕ) (t : Option ℕ) → made n (drop i w) ≡ t → i < length w
-    → (digit_of (get_or w i 0) < 10 × n * 10 + digit_of (get_or w i 0) < 2 ^ 64 → ⊥) → None ≡ t
-number_stop w i n t e h k = sym (made_none (get_or w i 0) n (drop (suc i) w) k) ∙ rw (drop-cons w i 0 h) at e
+pub number_stop : (w : List ℕ) (i n : ℕ) → i < length w → (digit_of (get_or w i 0) < 10 × n * 10 + digit_of (get_or w i 0) < 2 ^ 64 → ⊥)
+    → made n (drop i w) ≡ None
+number_stop w i n h k = rw (drop-cons w i 0 h) (made_none (get_or w i 0) n (drop (suc i) w) k)
 
-pub number_turn : (w : List ℕ) (i n m : ℕ) (t : Option ℕ) → made n (drop i w) ≡ t → i < length w
-    → (digit_of (get_or w i 0) < 10 × n * 10 + digit_of (get_or w i 0) < 2 ^ 64) × (m ≡ n * 10 + digit_of (get_or w i 0))
-    → made m (drop (i + 1) w) ≡ t
-number_turn w i n m t e h (k, q) = rw (add-one, q) (sym (made_cons (get_or w i 0) n (drop (suc i) w) k.0) ∙ rw (drop-cons w i 0 h) at e)
+pub number_turn : (w : List ℕ) (i n : ℕ) → i < length w → digit_of (get_or w i 0) < 10
+    → made n (drop i w) ≡ made (n * 10 + digit_of (get_or w i 0)) (drop (i + 1) w)
+number_turn w i n h k = rw (drop-cons w i 0 h, add-one) (made_cons (get_or w i 0) n (drop (suc i) w) k)
 
-pub number_end : (w : List ℕ) (i n : ℕ) (t : Option ℕ) → made n (drop i w) ≡ t → length w ≤ i → n < 2 ^ 64 → Some n ≡ t
+pub number_end : (w : List ℕ) (i n : ℕ) → length w ≤ i → n < 2 ^ 64 → made n (drop i w) ≡ Some n
 unfolding made numeral all_digits spelled
-number_end w i n t e h k =
+number_end w i n h k =
     let g : n ≤ most = omega arith in
-    let f = rw (drop_of_length-le w h) at e in
-    rw (le-leb n most g) at f
+    rw (drop_of_length-le w h, le-leb n most g)
+
+pub ruleset numbers = (number_none, number_start, number_stop, number_turn, number_end)

@@ -1,21 +1,14 @@
 -- Laws of answers: what a buffer gathers, text by text. Assumes nothing.
-use Rattle.std.specs.Prelude.{◌≡◌, refl, List, [], ◌∷◌, ◌++◌, Bool, true, false, eqb, ℕ, zero, suc, ◌-◌, ◌/◌, ◌%◌, ◌^◌, ◌≤◌, ◌<◌, length, Option, None, Some, IsNone, IsSome, decimal}
-use Rattle.std.proofs.Common.{sym, ap, ◌∙◌, pow-suc, arith, append_assoc, append-nil, lt-ltb, le-ltb, eqb-true}
+use Rattle.std.specs.Prelude.{◌≡◌, refl, List, [], ◌∷◌, ◌++◌, ℕ, zero, suc, ◌-◌, ◌/◌, ◌%◌, ◌^◌, ◌≤◌, ◌<◌, Option, None, Some, IsNone, IsSome, decimal}
+use Rattle.std.proofs.Common.{sym, ap, ◌∙◌, pow-suc, arith, append_assoc, append-nil, lt-ltb}
 use Rattle.std.proofs.Math.Nat.{one-le-pow}
-use Rattle.std.proofs.KnownBytes.{Appends-nil, Appends-trans}
-use Rattle.std.proofs.lemmas.Bool.{eqb-false}
+use Rattle.std.proofs.KnownBytes.{Appends-trans}
 use Rattle.std.proofs.lemmas.Fmt.{decimal_digit, decimal_step}
-use Rattle.arrayvec.specs.ArrayVec.{ArrayVec}
 use Rattle.io.specs.Digits.{last_digits, IsDigitCount}
-use Rattle.script.specs.declared.out.TheConstants.{ROOM}
 use Rattle.script.specs.declared.out.Out.{Out}
 use Rattle.script.specs.Out.{put, puts, sent, sents, Wrote, Gathers, hex_digit, hex_text}
 
 -- ---- what is written
-
--- nothing written
-pub wrote_none : {E : Type 0} (f : Option E) (a : Option (List ℕ)) → Wrote f f a a []
-wrote_none f a = record { kept = λ s. refl; grown = λ n. Appends-nil a }
 
 none_before : {E : Type 0} (g h : Option E) → (IsSome g → h ≡ g) → IsNone h → IsNone g
 none_before None h k n = refl
@@ -34,22 +27,18 @@ wrote_both f g h a b c xs ys p q = record {
 
 -- ---- a text, and then one more
 
-puts_append : (s t h : List ℕ) → puts h (s ++ t) ≡ puts (puts h s) t
+pub puts_append : (s t h : List ℕ) → puts h (s ++ t) ≡ puts (puts h s) t
 unfolding puts
 puts_append [] t h = refl
 puts_append (b ∷ s) t h = puts_append s t (put h b)
 
-sents_append : (s t h : List ℕ) → sents h (s ++ t) ≡ sents h s ++ sents (puts h s) t
+pub sents_append : (s t h : List ℕ) → sents h (s ++ t) ≡ sents h s ++ sents (puts h s) t
 unfolding sents puts
 sents_append [] t h = refl
 sents_append (b ∷ s) t h = ap (λ (x : List ℕ). sent h b ++ x) (sents_append s t (put h b))
     ∙ sym (append_assoc (sent h b) (sents (put h b) s) (sents (puts (put h b) s) t))
 
 module _ {W : Type 0} {contents : W → Option (List ℕ)} where
-  pub gathers_none : (o : Out W) → Gathers contents o o []
-  unfolding puts sents
-  gathers_none o = record { buffer = refl; written = wrote_none o.failed (contents o.to) }
-
   pub gathers_both : {o p q : Out W} {s t : List ℕ} → Gathers contents o p s → Gathers contents p q t → Gathers contents o q (s ++ t)
   gathers_both {o} {p} {q} {s} {t} g h =
       let e : sents o.waiting.items s ++ sents p.waiting.items t ≡ sents o.waiting.items (s ++ t) =
@@ -59,33 +48,23 @@ module _ {W : Type 0} {contents : W → Option (List ℕ)} where
         written = rw e at (wrote_both o.failed p.failed q.failed (contents o.to) (contents p.to) (contents q.to) _ _ g.written h.written);
       }
 
-  -- ---- a byte
+-- ---- what the definitions say of the first byte
 
-  -- where there is room for it
-  pub gathers_room : (o m : Out W) (v : ArrayVec ℕ) (b : ℕ) (full : Bool) → full ≡ eqb (length o.waiting.items) ROOM → full ≡ false
-      → length o.waiting.items ≤ ROOM → m ≡ o → v.items ≡ m.waiting.items ++ (b ∷ [])
-      → Gathers contents o (record { waiting = v; to = m.to; failed = m.failed }) (b ∷ [])
-  unfolding puts put sents sent
-  gathers_room o m v b full t n l e f =
-      let k : length o.waiting.items ≡ ROOM → ⊥ = eqb-false (length o.waiting.items) ROOM (sym t ∙ n) in
-      let h : length o.waiting.items < ROOM = omega arith in
-      rw e (record {
-        buffer = rw (lt-ltb (length o.waiting.items) ROOM h) (rw e at f);
-        written = rw (lt-ltb (length o.waiting.items) ROOM h) (wrote_none o.failed (contents o.to));
-      })
+pub puts_nil : (h : List ℕ) → puts h [] ≡ h
+unfolding puts
+puts_nil h = refl
 
-  -- where there is none, after what waited is written
-  pub gathers_full : (o p m : Out W) (v : ArrayVec ℕ) (b : ℕ) (full : Bool) → full ≡ eqb (length o.waiting.items) ROOM → full ≡ true
-      → p.waiting.items ≡ [] → Wrote o.failed p.failed (contents o.to) (contents p.to) o.waiting.items → m ≡ p
-      → v.items ≡ m.waiting.items ++ (b ∷ []) → Gathers contents o (record { waiting = v; to = m.to; failed = m.failed }) (b ∷ [])
-  unfolding puts put sents sent
-  gathers_full o p m v b full t n w r e f =
-      let k : length o.waiting.items ≡ ROOM = eqb-true (length o.waiting.items) ROOM (sym t ∙ n) in
-      let h : ROOM ≤ length o.waiting.items = omega arith in
-      rw e (record {
-        buffer = rw (le-ltb (length o.waiting.items) ROOM h) (rw (e, w) at f);
-        written = rw (le-ltb (length o.waiting.items) ROOM h, append-nil o.waiting.items) r;
-      })
+pub puts_cons : (b : ℕ) (s h : List ℕ) → puts h (b ∷ s) ≡ puts (put h b) s
+unfolding puts
+puts_cons b s h = refl
+
+pub sents_nil : (h : List ℕ) → sents h [] ≡ []
+unfolding sents
+sents_nil h = refl
+
+pub sents_cons : (b : ℕ) (s h : List ℕ) → sents h (b ∷ s) ≡ sent h b ++ sents (put h b) s
+unfolding sents
+sents_cons b s h = refl
 
 -- ---- numbers
 
@@ -139,3 +118,7 @@ pub hex_append : (s t : List ℕ) → hex_text (s ++ t) ≡ hex_text s ++ hex_te
 unfolding hex_text
 hex_append [] t = refl
 hex_append (b ∷ s) t = ap (λ (x : List ℕ). hex_digit (b / 16) ∷ hex_digit (b % 16) ∷ x) (hex_append s t)
+
+-- ---- a text after a text
+
+pub ruleset gathered = (puts_append, sents_append, append_assoc, puts_cons, sents_cons, puts_nil, sents_nil, append-nil, fewest_decimal)

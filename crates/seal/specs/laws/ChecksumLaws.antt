@@ -67,7 +67,7 @@ unfolding s2
 s2_mod a a' b b' [] h k = k
 s2_mod a a' b b' (w ∷ ws) h k = s2_mod (a + w) (a' + w) (b + (a + w)) (b' + (a' + w)) ws (omega arith) (omega arith)
 
--- ---- two words a turn, of which w is the pair: the first onto `even`, the second onto `odd`; and the ends, with no word left and with one
+-- ---- two words a turn; and the ends, with no word left and with one
 
 -- the words of runs of eight bytes
 unfoldable pub pair_words : List (List ℕ) → List ℕ
@@ -92,27 +92,23 @@ words_pairs l (suc k) b h =
     let d : drop (k * 8) r ≡ drop (suc k * 8) l = drop-drop (k * 8) 8 l ∙ ap (λ (n : ℕ). drop n l) e in
     cc
 
-pub pair_turn_1 : (ps : List (List ℕ)) (k even odd w r : ℕ) (d : List ℕ) → k < length ps → w ≡ u64_at (get_or ps k d) 0
-    → s1 (even + odd) (pair_words (drop k ps)) ≡ r
-    → s1 (even + w % 2 ^ 32 + (odd + w / 2 ^ 32)) (pair_words (drop (k + 1) ps)) ≡ r
+pub pair_turn_1 : (ps : List (List ℕ)) (k a : ℕ) → k < length ps
+    → s1 a (pair_words (drop k ps)) ≡ s1 (a + u64_at (get_or ps k []) 0 % 2 ^ 32 + u64_at (get_or ps k []) 0 / 2 ^ 32) (pair_words (drop (k + 1) ps))
 unfolding pair_words s1
-pair_turn_1 ps k even odd w r d h e q =
-    let a : even + w % 2 ^ 32 + (odd + w / 2 ^ 32) ≡ even + odd + w % 2 ^ 32 + w / 2 ^ 32 = omega arith in
-    rw (a, add-one, e) (rw (drop-cons ps k d h) at q)
+pair_turn_1 ps k a h = rw (drop-cons ps k [] h, add-one)
 
-pub pair_turn_2 : (ps : List (List ℕ)) (k even odd evens odds y w r : ℕ) (d : List ℕ) → k < length ps → odd ≤ odds → w ≡ u64_at (get_or ps k d) 0
-    → s2 (even + odd) (y + 2 * (evens + odds) - odd) (pair_words (drop k ps)) ≡ r
-    → s2 (even + w % 2 ^ 32 + (odd + w / 2 ^ 32)) (y + 2 * (evens + (even + w % 2 ^ 32) + (odds + (odd + w / 2 ^ 32))) - (odd + w / 2 ^ 32))
-    (pair_words (drop (k + 1) ps)) ≡ r
+pub pair_turn_2 : (ps : List (List ℕ)) (k a b : ℕ) → k < length ps
+    → s2 a b (pair_words (drop k ps))
+    ≡ s2 (a + u64_at (get_or ps k []) 0 % 2 ^ 32 + u64_at (get_or ps k []) 0 / 2 ^ 32)
+    (b + 2 * (a + u64_at (get_or ps k []) 0 % 2 ^ 32) + u64_at (get_or ps k []) 0 / 2 ^ 32) (pair_words (drop (k + 1) ps))
 unfolding pair_words s2
-pair_turn_2 ps k even odd evens odds y w r d h o e q =
-    let v : ℕ = w % 2 ^ 32 in
-    let u : ℕ = w / 2 ^ 32 in
-    let x : ℕ = even + odd in
-    let z : ℕ = y + 2 * (evens + odds) - odd in
-    let a : even + v + (odd + u) ≡ x + v + u = omega arith in
-    let b : y + 2 * (evens + (even + v) + (odds + (odd + u))) - (odd + u) ≡ z + (x + v) + (x + v + u) = omega arith in
-    rw (b, a, add-one, e) (rw (drop-cons ps k d h) at q)
+pair_turn_2 ps k a b h =
+    let v : ℕ = u64_at (get_or ps k []) 0 % 2 ^ 32 in
+    let u : ℕ = u64_at (get_or ps k []) 0 / 2 ^ 32 in
+    let e : b + 2 * (a + v) + u ≡ b + (a + v) + (a + v + u) = omega arith in
+    rw (e, drop-cons ps k [] h, add-one)
+
+pub ruleset pair_turns = (pair_turn_1, pair_turn_2)
 
 -- x and y are the two sums of all pairs: what is left goes on from them
 pairs_done : (l rest : List ℕ) (ps : List (List ℕ)) (k a b x y : ℕ) → AreBytes l → ps ≡ first_chunks 8 (length l / 8) l → length ps ≤ k
@@ -156,23 +152,26 @@ words_chunk l c (x ∷ r) e h =
     let n : length l ≡ length c + suc (length r) = rw (e, length-append) in
     ap words e ∙ words_append c (x ∷ r) (omega arith)
 
-pub chunk_turn : (l c r : List ℕ) (n a b x y x' y' t u : ℕ) → l ≡ c ++ r → length c ≡ min n (length l) → n ≡ 4096
-    → x ≡ s1 a (words c) → y ≡ s2 a b (words c) → x' ≡ x % M → y' ≡ y % M
-    → s1 a (words l) % M ≡ t → s2 a b (words l) % M ≡ u
-    → (s1 x' (words r) % M ≡ t) × (s2 x' y' (words r) % M ≡ u)
-chunk_turn l c r n a b x y x' y' t u e h k f g f' g' p q =
-    let m : words l ≡ words c ++ words r = words_chunk l c r e (rw k at h) in
-    let p' : s1 x (words r) % M ≡ t = rw (m, s1_append, ← f) at p in
-    let q' : s2 x y (words r) % M ≡ u = rw (m, s2_append, ← f, ← g) at q in
-    (s1_mod x' x (words r) (omega arith) ∙ p', s2_mod x' x y' y (words r) (omega arith) (omega arith) ∙ q')
+pub chunk_turn_1 : (c r : List ℕ) (a : ℕ) → length c ≡ min 4096 (length (c ++ r))
+    → s1 (s1 a (words c) % M) (words r) % M ≡ s1 a (words (c ++ r)) % M
+chunk_turn_1 c r a h =
+    rw (words_chunk (c ++ r) c r refl h, s1_append) (s1_mod (s1 a (words c) % M) (s1 a (words c)) (words r) (omega arith))
 
-pub chunks_end : (l : List ℕ) (x y t u : ℕ) → length l ≡ 0 → x < M → y < M → s1 x (words l) % M ≡ t → s2 x y (words l) % M ≡ u → (x ≡ t) × (y ≡ u)
-unfolding s1 s2
-chunks_end l x y t u e h k p q =
-    let z : words l ≡ [] = words_short l (omega arith) in
-    let p' : x % M ≡ t = rw z at p in
-    let q' : y % M ≡ u = rw z at q in
-    (omega arith, omega arith)
+pub chunk_turn_2 : (c r : List ℕ) (a b : ℕ) → length c ≡ min 4096 (length (c ++ r))
+    → s2 (s1 a (words c) % M) (s2 a b (words c) % M) (words r) % M ≡ s2 a b (words (c ++ r)) % M
+chunk_turn_2 c r a b h =
+    rw (words_chunk (c ++ r) c r refl h, s2_append)
+    (s2_mod (s1 a (words c) % M) (s1 a (words c)) (s2 a b (words c) % M) (s2 a b (words c)) (words r) (omega arith) (omega arith))
+
+pub chunk_end_1 : (l : List ℕ) (a : ℕ) → length l < 4 → s1 a (words l) ≡ a
+unfolding s1
+chunk_end_1 l a h = rw (words_short l h)
+
+pub chunk_end_2 : (l : List ℕ) (a b : ℕ) → length l < 4 → s2 a b (words l) ≡ b
+unfolding s2
+chunk_end_2 l a b h = rw (words_short l h)
+
+pub ruleset chunks = (chunk_turn_1, chunk_turn_2, chunk_end_1, chunk_end_2)
 
 -- ---- the stored number, from sums that are reduced
 

@@ -1,12 +1,7 @@
 use Rattle.std.proofs.Common.{◌<◌, ◌^◌}
 use Rattle.std.proofs.lemmas.List.{take_more}
-use Rattle.script.specs.Out.{hex_text}
-use Rattle.script.specs.laws.OutLaws.{gathers_none, gathers_both, hex_append, two_digits}
+use Rattle.script.specs.laws.OutLaws.{gathers_both, hex_append, two_digits}
 use Rattle.script.proofs.out.Out.hex.Goals as goal
-
-pub loop-b-init : goal.loop-b-init
-unfolding hex_text
-loop-b-init g c = gathers_none c.args.self.now
 
 pub loop-b-preserved : goal.loop-b-preserved
 loop-b-preserved g c =

@@ -1,9 +1,6 @@
 use Rattle.std.proofs.lemmas.List.{take_more}
-use Rattle.script.specs.laws.OutLaws.{gathers_none, gathers_both}
+use Rattle.script.specs.laws.OutLaws.{gathers_both}
 use Rattle.script.proofs.out.Out.text.Goals as goal
-
-pub loop-b-init : goal.loop-b-init
-loop-b-init g c = gathers_none c.args.self.now
 
 pub loop-b-preserved : goal.loop-b-preserved
 loop-b-preserved g c =
