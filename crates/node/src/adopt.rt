@@ -1,27 +1,29 @@
 // A node that was read, its entries copied into a slot as records (specs/Records.antt).
-ghost use Rattle.std.specs.Prelude.{◌≡◌, ◌+◌, ◌*◌, ◌≤◌, ◌<◌, length};
+ghost use Rattle.std.specs.Prelude.{◌≡◌, ◌+◌, ◌*◌, ◌≤◌, length};
 ghost use Rattle.seal.specs.Bytes.{splice};
 ghost use Rattle.node.specs.Records.{record_of, records_of, records_length, entries_of};
 ghost use Rattle.node.specs.Read.{span_at, span_length, entry_at, entries_from};
 
-use crate::read::ReadNode;
+use crate::read::{ReadEntry, ReadNode};
 use crate::{read, record};
 
-impl ReadNode<'_> {
-    // Entry i as the record that starts at `at`; where the next starts.
+impl ReadEntry<'_> {
+    // Put as the record that starts at `at`; where the next starts.
     #[tactic(auto, using(crate::specs::laws::read::Adopt::one_record))]
-    fn put_entry(self, i: usize, slot: &mut [u8], at: usize) -> usize
-        requires { (i < self.node.nkeys) × (at + (4 + span_length (span_at self.node self.block.now i)) ≤ length slot.old) }
-        ensures { (slot.new ≡ splice slot.old at (record_of (entry_at self.entry.node self.entry.block.now i)))
-            × (result ≡ at + (4 + span_length (span_at self.entry.node self.entry.block.now i))) }
+    fn put(self, slot: &mut [u8], at: usize) -> usize
+        requires { at + (4 + span_length (span_at self.read.node self.read.block.now self.index)) ≤ length slot.old }
+        ensures { (slot.new ≡ splice slot.old at (record_of (entry_at self.entry.read.node self.entry.read.block.now self.entry.index)))
+            × (result ≡ at + (4 + span_length (span_at self.entry.read.node self.entry.read.block.now self.entry.index))) }
     {
-        let s = self.span_at(i);
-        let key = read::key_in(self.block, s);
-        let value = self.value_at(i);
+        let s = self.span();
+        let key = read::key_in(self.read.block, s);
+        let value = self.value();
         record::put(slot, at, key, value);
         at + 4 + key.len() + value.len()
     }
+}
 
+impl ReadNode<'_> {
     // All entries, from the slot's start on; how many bytes their records take. The slot's entries are the node's then.
     #[tactic(auto, using(crate::specs::laws::read::Accepted::copied))]
     pub fn adopt(self, slot: &mut [u8]) -> usize
@@ -37,7 +39,7 @@ impl ReadNode<'_> {
         let n = self.node.nkeys as usize;
         let mut at = 0;
         for i in 0..n {
-            at = self.put_entry(i, slot, at);
+            at = self.entry(i).put(slot, at);
         }
         at
     }

@@ -1,17 +1,15 @@
 // The cut of a node that does not fit (`split_up` of write/tree.rs).
-ghost use Rattle.std.specs.Prelude.{◌≡◌, false, ◌+◌, ◌-◌, ◌≤◌, ◌<◌, ◌^◌, length, IfOk};
+ghost use Rattle.std.specs.Prelude.{◌≡◌, false, ◌+◌, ◌-◌, ◌≤◌, ◌<◌, ◌^◌, IfOk};
 ghost use Rattle.node.specs.Records.{records_length, entries_of};
-ghost use Rattle.node.specs.Fit.{Sized, fits_sums};
+ghost use Rattle.node.specs.Fit.{fits_sums};
 ghost use Rattle.node.specs.Cut.{cut, cut_means};
 ghost use Rattle.node.specs.internal.CutSteps.{left_of, further_sums, parts_fit};
 ghost use Rattle.node.specs.internal.SlotSteps.{lengths_of};
 
-use crate::fit::Lengths;
-use crate::info::BTreeInfo;
+use crate::fit::{Lengths, SlotNode};
 use crate::record::Record;
 use crate::refusal::{Refusal, check};
 use crate::room::Shape;
-use crate::slot::Records;
 
 // Where a node is cut: after its first `place` entries. The right part starts at byte `at` of the slot.
 #[derive(Clone, Copy)]
@@ -27,28 +25,24 @@ pub struct Left {
     pub lengths: Lengths,
 }
 
-// A node that is cut: its records, what they take, its level, and its tree's numbers.
+// A node that is cut, and what its records take.
 #[derive(Clone, Copy)]
 struct Whole<'s> {
-    records: Records<'s>,
-    info: BTreeInfo,
-    level: u64,
+    node: SlotNode<'s>,
     lengths: Lengths,
-    ghost sized: { Sized info },
-    ghost small: { length records.slot.now ≤ 2 ^ 20 },
-    ghost counted: { lengths ≡ lengths_of info records.count records.slot.now },
+    ghost counted: { lengths ≡ lengths_of node.shape.info node.records.count node.records.slot.now },
 }
 
 impl Whole<'_> {
     // Whether n of the entries fit whose keys and values take `room` as packed. Neither part is a root.
     fn part_fits(self, n: u64, room: u64) -> bool
         requires { (n < 2 ^ 32) × (room < 2 ^ 32) }
-        ensures { result ≡ fits_sums self.entry.info false self.entry.level n room }
+        ensures { result ≡ fits_sums self.entry.node.shape.info false self.entry.node.shape.level n room }
     {
         let part = Shape {
-            info: self.info,
+            info: self.node.shape.info,
             root: false,
-            level: self.level,
+            level: self.node.shape.level,
         };
         part.fits_sums(n, room)
     }
@@ -56,19 +50,23 @@ impl Whole<'_> {
     // The left part: up to the place of the cut.
     #[tactic(auto, using(crate::specs::laws::fit::Cut::walk))]
     fn left(self) -> Left
-        requires { 1 < self.records.count }
-        ensures left { result ≡ left_of self.entry.info self.entry.level self.entry.records.count self.entry.records.slot.now }
-        ensures less { (result.place < self.entry.records.count)
+        requires { 1 < self.node.records.count }
+        ensures left { result ≡ left_of self.entry.node.shape.info self.entry.node.shape.level
+            self.entry.node.records.count self.entry.node.records.slot.now }
+        ensures less { (result.place < self.entry.node.records.count)
             × (result.lengths.keys + result.lengths.values ≤ self.entry.lengths.keys + self.entry.lengths.values) }
     {
-        let n = self.records.count as usize;
-        let mut lengths = Lengths::NONE.longer(self.records.record(0), self.info);
+        let n = self.node.records.count as usize;
+        let mut lengths = Lengths::default().longer(
+            self.node.records.record(0),
+            self.node.shape.info,
+        );
         for place in 1..n - 1 {
             let r = Record {
-                slot: self.records.slot,
+                slot: self.node.records.slot,
                 at: lengths.at,
             };
-            let next = lengths.longer(r, self.info);
+            let next = lengths.longer(r, self.node.shape.info);
             let left = Left { place, lengths };
             let parts = Parts { whole: self, left };
             if !parts.further(next) {
@@ -88,7 +86,7 @@ impl Whole<'_> {
 struct Parts<'s> {
     whole: Whole<'s>,
     left: Left,
-    ghost fewer: { left.place < whole.records.count },
+    ghost fewer: { left.place < whole.node.records.count },
     ghost less: { left.lengths.keys + left.lengths.values ≤ whole.lengths.keys + whole.lengths.values },
 }
 
@@ -96,14 +94,14 @@ impl Parts<'_> {
     // Whether the right part fits.
     #[tactic(auto, using(crate::specs::laws::fit::Cut::whole))]
     fn right_fits(self) -> bool
-        ensures { result ≡ fits_sums self.entry.whole.info false self.entry.whole.level
-            (self.entry.whole.records.count - self.entry.left.place)
+        ensures { result ≡ fits_sums self.entry.whole.node.shape.info false self.entry.whole.node.shape.level
+            (self.entry.whole.node.records.count - self.entry.left.place)
             (self.entry.whole.lengths.keys + self.entry.whole.lengths.values
             - (self.entry.left.lengths.keys + self.entry.left.lengths.values)) }
     {
         let all = self.whole.lengths.keys + self.whole.lengths.values;
         let taken = self.left.lengths.keys + self.left.lengths.values;
-        let count = self.whole.records.count - self.left.place as u64;
+        let count = self.whole.node.records.count - self.left.place as u64;
         self.whole.part_fits(count, all - taken)
     }
 
@@ -112,12 +110,13 @@ impl Parts<'_> {
     // An entry's size is unpadded and counts 8 more than key and value: 4 more than its record.
     #[tactic(auto, using(crate::specs::laws::fit::Cut::whole), unfolding(crate::specs::internal::CutSteps::further_sums))]
     fn further(self, next: Lengths) -> bool
-        requires { (next.at ≤ 2 ^ 20) × (next.keys + next.values < 2 ^ 24) }
-        ensures { result ≡ further_sums self.entry.whole.info self.entry.whole.level self.entry.whole.records.count
+        requires at { next.at ≤ 2 ^ 20 }
+        requires room { next.keys + next.values < 2 ^ 24 }
+        ensures { result ≡ further_sums self.entry.whole.node.shape.info self.entry.whole.node.shape.level self.entry.whole.node.records.count
             self.entry.whole.lengths self.entry.left next }
     {
         let more = (self.left.place + 1) as u64;
-        let half = (self.whole.lengths.at as u64 + 4 * self.whole.records.count) / 2;
+        let half = (self.whole.lengths.at as u64 + 4 * self.whole.node.records.count) / 2;
         self.whole.part_fits(more, next.keys + next.values)
             && (next.at as u64 + 4 * more <= half || !self.right_fits())
     }
@@ -125,7 +124,7 @@ impl Parts<'_> {
     // Whether both parts fit.
     #[tactic(auto, using(crate::specs::laws::fit::Cut::whole), unfolding(crate::specs::internal::CutSteps::parts_fit))]
     fn fit(self) -> bool
-        ensures { result ≡ parts_fit self.entry.whole.info self.entry.whole.level self.entry.whole.records.count
+        ensures { result ≡ parts_fit self.entry.whole.node.shape.info self.entry.whole.node.shape.level self.entry.whole.node.records.count
             self.entry.whole.lengths self.entry.left }
     {
         let taken = self.left.lengths.keys + self.left.lengths.values;
@@ -133,20 +132,18 @@ impl Parts<'_> {
     }
 }
 
-impl Records<'_> {
+impl SlotNode<'_> {
     // The cut: 13 where a single entry is too large, 14 where no cut leaves two parts that fit.
     #[tactic(auto, using(crate::specs::laws::fit::Cut::cuts))]
-    pub fn cut(self, shape: Shape) -> Result<CutAt, Refusal>
-        requires { length self.slot.now ≤ 2 ^ 20 }
-        ensures place { cut_means result ≡ cut shape.info shape.level (entries_of self.entry.count self.entry.slot.now) }
-        ensures start { IfOk result (λ c. c.at ≡ records_length c.place self.entry.slot.now) }
+    pub fn cut(self) -> Result<CutAt, Refusal>
+        ensures place { cut_means result ≡ cut self.entry.shape.info self.entry.shape.level
+            (entries_of self.entry.records.count self.entry.records.slot.now) }
+        ensures start { IfOk result (λ c. c.at ≡ records_length c.place self.entry.records.slot.now) }
     {
-        check(Refusal::Single, 1 < self.count)?;
+        check(Refusal::Single, 1 < self.records.count)?;
         let whole = Whole {
-            records: self,
-            info: shape.info,
-            level: shape.level,
-            lengths: self.lengths(shape.info),
+            node: self,
+            lengths: self.lengths(),
         };
         let left = whole.left();
         let parts = Parts { whole, left };

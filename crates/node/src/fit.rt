@@ -10,8 +10,8 @@ use crate::room;
 use crate::room::Shape;
 use crate::slot::Records;
 
-// What the first records of a slot take.
-#[derive(Clone, Copy)]
+// What the first records of a slot take: of none of them, nothing.
+#[derive(Clone, Copy, Default)]
 pub struct Lengths {
     // Bytes in the slot: where the next record starts.
     pub at: usize,
@@ -21,13 +21,6 @@ pub struct Lengths {
 }
 
 impl Lengths {
-    // Of no records.
-    pub const NONE: Lengths = Lengths {
-        at: 0,
-        keys: 0,
-        values: 0,
-    };
-
     // The lengths with the record that starts after those counted.
     #[tactic(auto, using(crate::specs::laws::fit::Fit::counting))]
     pub fn longer(self, r: Record<'_>, info: BTreeInfo) -> Lengths
@@ -44,20 +37,28 @@ impl Lengths {
     }
 }
 
-impl Records<'_> {
+// A node in its slot: its records, and its shape. The slot is small, so that what the records take can be summed.
+#[derive(Clone, Copy)]
+pub struct SlotNode<'s> {
+    pub records: Records<'s>,
+    pub shape: Shape,
+    ghost small: { length records.slot.now ≤ 2 ^ 20 },
+}
+
+impl SlotNode<'_> {
     // What the records take.
     #[tactic(auto, using(crate::specs::laws::fit::Fit::lengths))]
-    pub fn lengths(self, info: BTreeInfo) -> Lengths
-        requires { length self.slot.now ≤ 2 ^ 20 }
-        ensures { (result ≡ lengths_of info self.entry.count self.entry.slot.now) × (result.keys + result.values < 2 ^ 24) }
+    pub fn lengths(self) -> Lengths
+        ensures { (result ≡ lengths_of self.entry.shape.info self.entry.records.count self.entry.records.slot.now)
+            × (result.keys + result.values < 2 ^ 24) }
     {
-        let mut s = Lengths::NONE;
-        for _ in 0..self.count {
+        let mut s = Lengths::default();
+        for _ in 0..self.records.count {
             let r = Record {
-                slot: self.slot,
+                slot: self.records.slot,
                 at: s.at,
             };
-            s = s.longer(r, info);
+            s = s.longer(r, self.shape.info);
         }
         s
     }
@@ -65,27 +66,27 @@ impl Records<'_> {
     // Whether the entries fit, which take `used` bytes in the slot. Padding adds at most 7 bytes to a key and 7 to a
     // value, and a record's head has 4: where there is room for so much, their lengths need not be looked at.
     #[tactic(auto, using(crate::specs::laws::fit::Fit::fitting))]
-    pub fn fits(self, used: u64, shape: Shape) -> bool
-        requires small { length self.slot.now ≤ 2 ^ 20 }
-        requires used { used ≡ records_length self.count self.slot.now }
-        ensures { result ≡ fits shape.info shape.root shape.level (entries_of self.entry.count self.entry.slot.now) }
+    pub fn fits(self, used: u64) -> bool
+        requires { used ≡ records_length self.records.count self.records.slot.now }
+        ensures { result ≡ fits self.entry.shape.info self.entry.shape.root self.entry.shape.level
+            (entries_of self.entry.records.count self.entry.records.slot.now) }
     {
-        if shape.fits_sums(self.count, used + 10 * self.count) {
+        let n = self.records.count;
+        if self.shape.fits_sums(n, used + 10 * n) {
             return true;
         }
-        let s = self.lengths(shape.info);
-        shape.fits_sums(self.count, s.keys + s.values)
+        let s = self.lengths();
+        self.shape.fits_sums(n, s.keys + s.values)
     }
 
     // What the entries take as packed: contents, keys and values.
     #[tactic(auto, using(crate::specs::laws::fit::Fit::packing))]
-    pub fn packed_length(self, shape: Shape) -> u64
-        requires { length self.slot.now ≤ 2 ^ 20 }
-        ensures { (result ≡ packed_length shape.info shape.root shape.level (entries_of self.entry.count self.entry.slot.now))
-            × (result < 2 ^ 40) }
+    pub fn packed_length(self) -> u64
+        ensures { (result ≡ packed_length self.entry.shape.info self.entry.shape.root self.entry.shape.level
+            (entries_of self.entry.records.count self.entry.records.slot.now)) × (result < 2 ^ 40) }
     {
-        let s = self.lengths(shape.info);
-        let toc = shape.toc_length(self.count);
+        let s = self.lengths();
+        let toc = self.shape.toc_length(self.records.count);
         toc + (s.keys + s.values)
     }
 }

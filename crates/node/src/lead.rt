@@ -28,6 +28,7 @@ pub fn lead_of(key: &[u8], i: usize) -> u64
 
 // How two keys stand in byte order: eight bytes at a time, then one at a time, then by their lengths. `a.cmp(b)` looks for groups of
 // equal bytes first, with which a lookup among short keys takes longer.
+#[tactic(auto, using(crate::specs::laws::order::Leading::ends))]
 pub fn byte_compare(a: &[u8], b: &[u8]) -> Ordering
     ensures { result ≡ compared byte a.now b.now }
 {

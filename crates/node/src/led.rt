@@ -50,10 +50,11 @@ fn run_while<S: Sought, M: Fn(u64) -> Option<u64>>(
 
 impl Records<'_> {
     // Those of a leaf, ghosts aside: a value has as many bytes as its mark says.
+    #[tactic(auto, using(crate::specs::laws::slot::Records::mark_leaf))]
     pub fn run_plain<S: Sought>(self, s: &S) -> Run
         ensures { Passed S.order (S.wanted s.now) self.entry.count self.entry.slot.now result }
     {
-        run_while(self, s, 4, |m| if m <= 0xFFFC { Some(m) } else { None })
+        run_while(self, s, 4, |m| (m <= 0xFFFC).then_some(m))
     }
 
     // Those that have the first one's mark: all their values have one length.
@@ -69,7 +70,7 @@ impl Records<'_> {
         }
         let mark = self.record(0).mark();
         let bare = 4 + record::mark_length(mark);
-        run_while(self, s, bare, |m| if m == mark { Some(0) } else { None })
+        run_while(self, s, bare, |m| (m == mark).then_some(0))
     }
 
     // Those of a leaf, or of an index whose children are all loaded, or all not.

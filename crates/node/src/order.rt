@@ -52,7 +52,7 @@ impl Order {
     }
 
     // Whether the key a stands before the key b.
-    #[tactic(auto, using(crate::specs::laws::order::Compared::compared_lt), unfolding(crate::specs::Order::less, crate::specs::Order::keyed))]
+    #[tactic(auto, using(crate::specs::laws::order::Compared::lesser))]
     pub fn less(self, a: &[u8], b: &[u8]) -> bool
         ensures { result ≡ less self.code a.now b.now }
     {
@@ -79,12 +79,8 @@ fn pair_compare(a: &[u8], b: &[u8]) -> Ordering
     requires { (length a.now ≡ 16) × (length b.now ≡ 16) }
     ensures { result ≡ compared pair a.now b.now }
 {
-    let x = bytes::field_at::<8>(a, 0);
-    let y = bytes::field_at::<8>(b, 0);
-    if x != y {
-        return x.cmp(&y);
-    }
-    bytes::field_at::<8>(a, 8).cmp(&bytes::field_at::<8>(b, 8))
+    let ids = bytes::field_at::<8>(a, 0).cmp(&bytes::field_at::<8>(b, 0));
+    ids.then_with(|| bytes::field_at::<8>(a, 8).cmp(&bytes::field_at::<8>(b, 8)))
 }
 
 // Whether a stands before b as bytes. It is called and not repeated where `less` stands: with its loop there, a range over pairs takes

@@ -18,7 +18,8 @@ use crate::{layout, room};
 use seal::obj::{OBJECT_TYPE_BTREE, OBJECT_TYPE_BTREE_NODE, OBJECT_TYPE_MASK, ObjHeader};
 use seal::{bytes, checksum};
 
-const MAX_DEPTH: u64 = 32;
+// The highest level of a node.
+pub const MAX_DEPTH: u64 = 32;
 
 #[derive(Clone, Copy)]
 pub struct Node {
@@ -276,22 +277,70 @@ pub struct ReadNode<'b> {
     ghost sound: { Sound node block.now },
 }
 
-impl<'b> ReadNode<'b> {
-    // Entry i of the contents.
-    pub fn span_at(self, i: usize) -> Span
-        requires { i < self.node.nkeys }
-        ensures { result ≡ span_at self.entry.node self.entry.block.now i }
+// An entry of a node that was read.
+#[derive(Clone, Copy)]
+pub struct ReadEntry<'b> {
+    pub read: ReadNode<'b>,
+    // Which it is.
+    pub index: usize,
+    ghost there: { index < read.node.nkeys },
+}
+
+impl<'b> ReadEntry<'b> {
+    // Where it lies.
+    pub fn span(self) -> Span
+        ensures { result ≡ span_at self.entry.read.node self.entry.read.block.now self.entry.index }
     {
-        span_at(self.block, self.node, i)
+        span_at(self.read.block, self.read.node, self.index)
     }
 
-    // The key of entry i.
+    // Its key.
     #[tactic(auto, using(crate::specs::laws::read::Keys::sound_key, crate::specs::laws::read::Keys::key_of))]
-    pub fn key_at(self, i: usize) -> &'b [u8]
-        requires { i < self.node.nkeys }
-        ensures { result.now ≡ (entry_at self.entry.node self.entry.block.now i).key }
+    pub fn key(self) -> &'b [u8]
+        ensures { result.now ≡ (entry_at self.entry.read.node self.entry.read.block.now self.entry.index).key }
     {
-        key_in(self.block, self.span_at(i))
+        key_in(self.read.block, self.span())
+    }
+
+    // Its value, in place: a leaf's bytes in the block, or the child's number.
+    #[tactic(auto, using(crate::specs::laws::read::Keys::value))]
+    pub fn value(self) -> Val<'b>
+        ensures { value_means result ≡ (entry_at self.entry.read.node self.entry.read.block.now self.entry.index).value }
+    {
+        let s = self.span();
+        if is_ghost(s) {
+            return Val::Ghost;
+        }
+        let start = self.read.node.vals - s.voff;
+        if self.read.node.level == 0 {
+            Val::Leaf(&self.read.block[start..start + s.vlen])
+        } else {
+            Val::Child(Child::Disk(bytes::field_at::<8>(self.read.block, start)))
+        }
+    }
+
+    // Its child: it is one of an index node.
+    #[tactic(auto, using(crate::specs::laws::read::Keys::child))]
+    pub fn child(self) -> u64
+        requires { 1 ≤ self.read.node.level }
+        ensures { (entry_at self.entry.read.node self.entry.read.block.now self.entry.index).value ≡ disk result }
+    {
+        let s = self.span();
+        let start = self.read.node.vals - s.voff;
+        bytes::field_at::<8>(self.read.block, start)
+    }
+}
+
+impl<'b> ReadNode<'b> {
+    // Entry i.
+    pub fn entry(self, i: usize) -> ReadEntry<'b>
+        requires { i < self.node.nkeys }
+        ensures { (result.read ≡ self.entry) × (result.index ≡ i) }
+    {
+        ReadEntry {
+            read: self,
+            index: i,
+        }
     }
 
     // Of 9 of the load line: keys that the order can hold, and that rise.
@@ -303,31 +352,16 @@ impl<'b> ReadNode<'b> {
         if n == 0 {
             return true;
         }
-        let mut last = self.key_at(0);
+        let mut last = self.entry(0).key();
         if !order.keyed(last.len()) {
             return false;
         }
         for i in 1..n {
-            let key = self.key_at(i);
+            let key = self.entry(i).key();
             if !order.keyed(key.len()) || !order.less(last, key) {
                 return false;
             }
             last = key;
-        }
-        true
-    }
-
-    // Whether the keys of the entries from one to another, the last left out, are within the bounds.
-    #[tactic(auto, using(crate::specs::laws::read::Keys::bound))]
-    fn within(self, order: Order, place: Place<'_>, from: usize, to: usize) -> bool
-        requires { (from ≤ to) × (to ≤ self.node.nkeys) }
-        ensures { result ≡ keys_within order.code (place_of place.entry) (lent_key place.entry.lower) (lent_key place.entry.upper)
-            (entries_from self.entry.node self.entry.block.now from (to - from)) }
-    {
-        for i in from..to {
-            if !place.bounds(order, self.key_at(i)) {
-                return false;
-            }
         }
         true
     }
@@ -345,39 +379,10 @@ impl<'b> ReadNode<'b> {
             return true;
         }
         if place.bounds_are_keys(order) {
-            self.within(order, place, 0, 1) && self.within(order, place, n - 1, n)
+            place.bounds(order, self.entry(0).key()) && place.bounds(order, self.entry(n - 1).key())
         } else {
-            self.within(order, place, 0, n)
+            (0..n).all(|i| place.bounds(order, self.entry(i).key()))
         }
-    }
-
-    // The value of entry i, in place: a leaf's bytes in the block, or the child's number.
-    #[tactic(auto, using(crate::specs::laws::read::Keys::value))]
-    pub fn value_at(self, i: usize) -> Val<'b>
-        requires { i < self.node.nkeys }
-        ensures { value_means result ≡ (entry_at self.entry.node self.entry.block.now i).value }
-    {
-        let s = self.span_at(i);
-        if is_ghost(s) {
-            return Val::Ghost;
-        }
-        let start = self.node.vals - s.voff;
-        if self.node.level == 0 {
-            Val::Leaf(&self.block[start..start + s.vlen])
-        } else {
-            Val::Child(Child::Disk(bytes::field_at::<8>(self.block, start)))
-        }
-    }
-
-    // The child of entry i of an index node.
-    #[tactic(auto, using(crate::specs::laws::read::Keys::child))]
-    pub fn child_at(self, i: usize) -> u64
-        requires { (i < self.node.nkeys) × (1 ≤ self.node.level) }
-        ensures { (entry_at self.entry.node self.entry.block.now i).value ≡ disk result }
-    {
-        let s = self.span_at(i);
-        let start = self.node.vals - s.voff;
-        bytes::field_at::<8>(self.block, start)
     }
 }
 
@@ -393,7 +398,7 @@ fn is_node(otype: u64) -> bool
 }
 
 // The load line from 3 to 9.
-#[tactic(auto, unfolding(crate::specs::Read::read_node, crate::specs::Read::read_of, crate::specs::Read::keys_hold))]
+#[tactic(auto, using(crate::specs::laws::read::LoadLine::loads), unfolding(crate::specs::Read::read_node, crate::specs::Read::read_of))]
 pub fn read_node<'b>(
     block: &'b [u8],
     order: Order,

@@ -218,6 +218,7 @@ impl Val<'_> {
 }
 
 // A record stored at an offset.
+#[tactic(auto, using(crate::specs::laws::slot::Records::put_record))]
 pub fn put(slot: &mut [u8], at: usize, key: &[u8], value: Val<'_>)
     requires { at + 4 + length key.now + value_length (value_means value) ≤ length slot.old }
     ensures { slot.new ≡ splice slot.old at (record_of (record { key = key.now; value = value_means value.entry })) }

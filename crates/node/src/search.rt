@@ -16,7 +16,7 @@ impl ReadNode<'_> {
     {
         let n = self.node.nkeys;
         for i in 0..n {
-            if order.less(key, self.key_at(i as usize)) {
+            if order.less(key, self.entry(i as usize).key()) {
                 return i;
             }
         }

@@ -4,7 +4,7 @@ ghost use Rattle.std.specs.Prelude.{◌≡◌, true, ℕ, ◌+◌, ◌-◌, ◌�
 ghost use Rattle.node.specs.Entry.{value_length};
 ghost use Rattle.node.specs.Records.{record_length, entry_of, records_length, entries_of};
 ghost use Rattle.node.specs.Slot.{insert_at, remove_at, with_key, with_value, records_hold, is_child, child_means, value_means};
-ghost use Rattle.node.specs.internal.SlotSteps.{found_in, last_in};
+ghost use Rattle.node.specs.internal.SlotSteps.{found_in, last_in, EntryUpto, EntryIn};
 ghost use Rattle.node.specs.internal.Storable.{Held};
 ghost use Rattle.node.specs.internal.Sought.{Passed};
 
@@ -38,6 +38,16 @@ pub struct Run {
     pub last: usize,
 }
 
+// Where an entry stands that is written: how many records the slot has and which of them it is, the bytes that they take
+// and where it starts. After the last of them stands none yet.
+#[derive(Clone, Copy)]
+pub struct EntryAt {
+    pub count: u64,
+    pub index: u64,
+    pub used: usize,
+    pub at: usize,
+}
+
 // n records at the start of a slot, which lie within it.
 #[derive(Clone, Copy)]
 pub struct Records<'s> {
@@ -48,6 +58,7 @@ pub struct Records<'s> {
 
 impl<'s> Records<'s> {
     // Where record i starts.
+    #[tactic(auto, using(crate::specs::laws::slot::Walk::goes_on))]
     pub fn offset_of(self, i: u64) -> usize
         requires { i ≤ self.count }
         ensures { result ≡ records_length i self.entry.slot.now }
@@ -60,6 +71,7 @@ impl<'s> Records<'s> {
     }
 
     // Record i.
+    #[tactic(auto, using(crate::specs::laws::slot::Slot::at_lies))]
     pub fn record(self, i: u64) -> Record<'s>
         requires { i < self.count }
         ensures { (result.slot.now ≡ self.entry.slot.now) × (result.at ≡ records_length i self.entry.slot.now) }
@@ -71,6 +83,7 @@ impl<'s> Records<'s> {
     }
 
     // The place of a key, from where a run of passed records ends.
+    #[tactic(auto, using(crate::specs::laws::slot::Passed::place))]
     fn below_from<S: Sought>(self, run: Run, s: &S) -> Found
         requires { Passed S.order (S.wanted s.now) self.count self.slot.now run }
         ensures { result ≡ found_in S.order (S.wanted s.now) self.entry.count self.entry.slot.now }
@@ -95,6 +108,7 @@ impl<'s> Records<'s> {
     }
 
     // The entries not above a key, from where a run of passed records ends.
+    #[tactic(auto, using(crate::specs::laws::slot::Passed::above))]
     fn not_above_from<S: Sought>(self, run: Run, s: &S) -> Last
         requires { Passed S.order (S.wanted s.now) self.count self.slot.now run }
         ensures { result ≡ last_in S.order (S.wanted s.now) self.entry.count self.entry.slot.now }
@@ -113,6 +127,7 @@ impl<'s> Records<'s> {
     }
 
     // The place of a key: after the entries whose keys are below it. It is asked for in leaves, and in pair order records mostly have one length.
+    #[tactic(auto, using(crate::specs::laws::slot::Passed::found_other))]
     pub fn below(self, order: Order, key: &[u8]) -> Found
         ensures { result ≡ found_in order.code key.now self.entry.count self.entry.slot.now }
     {
@@ -125,6 +140,7 @@ impl<'s> Records<'s> {
     }
 
     // The entries whose keys are not above a key: the last of them is where a descent goes on.
+    #[tactic(auto, using(crate::specs::laws::slot::Passed::last_other))]
     pub fn not_above(self, order: Order, key: &[u8]) -> Last
         ensures { result ≡ last_in order.code key.now self.entry.count self.entry.slot.now }
     {
@@ -138,6 +154,7 @@ impl<'s> Records<'s> {
 }
 
 // Whether n records lie within the slot and take `used` bytes. Stops at the first that does not lie within it.
+#[tactic(auto, using(crate::specs::laws::slot::Find::hold))]
 pub fn records_hold(slot: &[u8], n: u64, used: u64) -> bool
     ensures { result ≡ records_hold n used slot.now }
 {
@@ -151,80 +168,77 @@ pub fn records_hold(slot: &[u8], n: u64, used: u64) -> bool
     at as u64 == used
 }
 
-// A record put before record i. The answer of this and the next three is the bytes in use after it.
-pub fn insert(
-    slot: &mut [u8],
-    n: u64,
-    i: u64,
-    used: usize,
-    at: usize,
-    key: &[u8],
-    value: Val<'_>,
-) -> usize
-    requires place { (used ≡ records_length n slot.old) × (at ≡ records_length i slot.old) × (i ≤ n) }
-    requires room { used + 4 + length key.now + value_length (value_means value) ≤ length slot.old }
+// A record put before an entry. The answer of this and the next three is the bytes in use after it.
+#[tactic(auto, using(crate::specs::laws::slot::Slot::writes_insert))]
+pub fn insert(slot: &mut [u8], e: EntryAt, key: &[u8], value: Val<'_>) -> usize
+    requires place { EntryUpto slot.old e }
+    requires room { e.used + 4 + length key.now + value_length (value_means value) ≤ length slot.old }
     requires stored { (length key.now < 2 ^ 16) × Held (value_means value) }
-    ensures used { (result ≡ used + 4 + length key.now + value_length (value_means value.entry))
-        × (records_length (n + 1) slot.new ≡ result) }
-    ensures entries { entries_of (n + 1) slot.new
-        ≡ insert_at i (record { key = key.now; value = value_means value.entry }) (entries_of n slot.old) }
+    ensures used { result ≡ e.used + 4 + length key.now + value_length (value_means value.entry) }
+    ensures taken { records_length (e.count + 1) slot.new ≡ result }
+    ensures entries { entries_of (e.count + 1) slot.new
+        ≡ insert_at e.index (record { key = key.now; value = value_means value.entry }) (entries_of e.count slot.old) }
 {
-    let next = at + 4 + key.len() + value.len();
-    bytes::shift(slot, at, next, used - at);
-    record::put(slot, at, key, value);
-    next + (used - at)
+    let next = e.at + 4 + key.len() + value.len();
+    bytes::shift(slot, e.at, next, e.used - e.at);
+    record::put(slot, e.at, key, value);
+    next + (e.used - e.at)
 }
 
-pub fn remove(slot: &mut [u8], n: u64, i: u64, used: usize, at: usize) -> usize
-    requires place { (used ≡ records_length n slot.old) × (at ≡ records_length i slot.old) × (i < n) }
-    requires within { records_length n slot.old ≤ length slot.old }
-    ensures used { (result + record_length (drop at slot.old) ≡ used)
-        × (records_length (n - 1) slot.new ≡ result) }
-    ensures entries { entries_of (n - 1) slot.new ≡ remove_at i (entries_of n slot.old) }
+#[tactic(auto, using(crate::specs::laws::slot::Slot::writes_remove))]
+pub fn remove(slot: &mut [u8], e: EntryAt) -> usize
+    requires place { EntryIn slot.old e }
+    requires within { records_length e.count slot.old ≤ length slot.old }
+    ensures used { result + record_length (drop e.at slot.old) ≡ e.used }
+    ensures taken { records_length (e.count - 1) slot.new ≡ result }
+    ensures entries { entries_of (e.count - 1) slot.new ≡ remove_at e.index (entries_of e.count slot.old) }
 {
-    let next = Record { slot, at }.next();
-    bytes::shift(slot, next, at, used - next);
-    at + (used - next)
+    let next = Record { slot, at: e.at }.next();
+    bytes::shift(slot, next, e.at, e.used - next);
+    e.at + (e.used - next)
 }
 
-// Record i with another key.
-pub fn set_key(slot: &mut [u8], n: u64, i: u64, used: usize, at: usize, key: &[u8]) -> usize
-    requires place { (used ≡ records_length n slot.old) × (at ≡ records_length i slot.old) × (i < n) }
-    requires room { used + length key.now ≤ length slot.old }
+// An entry with another key.
+#[tactic(auto, using(crate::specs::laws::slot::Slot::writes_set_key))]
+pub fn set_key(slot: &mut [u8], e: EntryAt, key: &[u8]) -> usize
+    requires place { EntryIn slot.old e }
+    requires room { e.used + length key.now ≤ length slot.old }
     requires stored { length key.now < 2 ^ 16 }
-    ensures used { (result + length (entry_of (drop at slot.old)).key ≡ used + length key.now)
-        × (records_length n slot.new ≡ result) }
-    ensures entries { entries_of n slot.new
-        ≡ with_key i key.now (entries_of n slot.old) }
+    ensures used { result + length (entry_of (drop e.at slot.old)).key ≡ e.used + length key.now }
+    ensures taken { records_length e.count slot.new ≡ result }
+    ensures entries { entries_of e.count slot.new
+        ≡ with_key e.index key.now (entries_of e.count slot.old) }
 {
-    let r = Record { slot, at }.parts();
+    let r = Record { slot, at: e.at }.parts();
     let from = r.value;
     let klen = key.len();
-    let to = at + 4 + klen;
-    bytes::shift(slot, from, to, used - from);
-    bytes::copy_to(key, slot, at + 4);
-    bytes::put_field::<2>(slot, at, klen as u64);
-    to + (used - from)
+    let to = e.at + 4 + klen;
+    bytes::shift(slot, from, to, e.used - from);
+    bytes::copy_to(key, slot, e.at + 4);
+    bytes::put_field::<2>(slot, e.at, klen as u64);
+    to + (e.used - from)
 }
 
-// Record i with another value.
-pub fn set_value(slot: &mut [u8], n: u64, i: u64, used: usize, at: usize, value: Val<'_>) -> usize
-    requires place { (used ≡ records_length n slot.old) × (at ≡ records_length i slot.old) × (i < n) }
-    requires room { used + value_length (value_means value) ≤ length slot.old }
+// An entry with another value.
+#[tactic(auto, using(crate::specs::laws::slot::Slot::writes_set_value))]
+pub fn set_value(slot: &mut [u8], e: EntryAt, value: Val<'_>) -> usize
+    requires place { EntryIn slot.old e }
+    requires room { e.used + value_length (value_means value) ≤ length slot.old }
     requires stored { Held (value_means value) }
-    ensures used { (result + value_length (entry_of (drop at slot.old)).value
-        ≡ used + value_length (value_means value.entry))
-        × (records_length n slot.new ≡ result) }
-    ensures entries { entries_of n slot.new ≡ with_value i (value_means value.entry) (entries_of n slot.old) }
+    ensures used { result + value_length (entry_of (drop e.at slot.old)).value
+        ≡ e.used + value_length (value_means value.entry) }
+    ensures taken { records_length e.count slot.new ≡ result }
+    ensures entries { entries_of e.count slot.new
+        ≡ with_value e.index (value_means value.entry) (entries_of e.count slot.old) }
 {
-    let r = Record { slot, at }.parts();
+    let r = Record { slot, at: e.at }.parts();
     let v = r.value;
     let from = r.next;
     let to = v + value.len();
-    bytes::shift(slot, from, to, used - from);
+    bytes::shift(slot, from, to, e.used - from);
     value.store(slot, v);
-    bytes::put_field::<2>(slot, at + 2, value.mark());
-    to + (used - from)
+    bytes::put_field::<2>(slot, e.at + 2, value.mark());
+    to + (e.used - from)
 }
 
 // The child of record i is another, on disk or in a slot: its mark and its number change in place, and no record moves.

@@ -114,10 +114,7 @@ impl<'a> Sought for ByteKey<'a> {
         if x != self.first {
             return x < self.first;
         }
-        if klen < 16 {
-            return false;
-        }
-        lead::lead_at(r.slot, r.at + 12) < self.second
+        16 <= klen && lead::lead_at(r.slot, r.at + 12) < self.second
     }
 
     fn compare(&self, r: Record<'_>) -> Ordering {

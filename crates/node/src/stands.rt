@@ -50,10 +50,7 @@ fn entry_holds(r: Record<'_>, order: Order, info: BTreeInfo, leaf: bool) -> bool
 fn rises(order: Order, last: Option<&[u8]>, key: &[u8]) -> bool
     ensures { MatchOption last.entry (IsTrue result) (λ k. result ≡ less order.code k.now key.now) }
 {
-    match last {
-        Some(last) => order.compare(last, key).is_lt(),
-        None => true,
-    }
+    last.is_none_or(|last| order.compare(last, key).is_lt())
 }
 
 // What n records take, if they lie in the slot and take `used` bytes there, each entry holds, and the keys rise.
@@ -69,12 +66,10 @@ pub fn check(
     requires { length slot.now ≤ 2 ^ 20 }
     ensures { result ≡ checked_of order.code info leaf n used slot.now }
 {
-    let mut s = Lengths::NONE;
+    let mut s = Lengths::default();
     let mut last = None;
     for _ in 0..n {
-        let Some(r) = Record::at(slot, s.at) else {
-            return None;
-        };
+        let r = Record::at(slot, s.at)?;
         if !entry_holds(r, order, info, leaf) {
             return None;
         }
@@ -85,5 +80,5 @@ pub fn check(
         s = s.longer(r, info);
         last = Some(key);
     }
-    if s.at as u64 == used { Some(s) } else { None }
+    (s.at as u64 == used).then_some(s)
 }

@@ -102,6 +102,7 @@ impl<'s> Iterator for Walk<'s> {
 
     ghost remaining = { λ s. at_most (s.records.count - s.index) };
 
+    #[tactic(auto, using(crate::specs::laws::slot::SameHead::step))]
     fn next(&mut self) -> Option<(u64, Record<'s>)> {
         let i = self.index;
         if self.records.count <= i {

@@ -1,6 +1,6 @@
 -- What the functions over one slot compute: where a record lies, what records take, where a key is, the words of a node just read,
 -- one pass over the records.
-use Rattle.std.specs.Prelude.{◌≡◌, List, Bool, true, cond, ◌&&◌, ℕ, ◌+◌, ◌-◌, ◌≤◌, length, drop, leb, eqb, Option, Some, None}
+use Rattle.std.specs.Prelude.{◌≡◌, List, Bool, true, cond, ◌&&◌, ℕ, ◌+◌, ◌-◌, ◌≤◌, ◌<◌, length, drop, leb, eqb, Option, Some, None}
 use Rattle.seal.specs.Bytes.{u16_at, u64_at}
 use Rattle.node.specs.Entry.{rising, every}
 use Rattle.node.specs.Records.{mark_length, record_length, entries_of, records_length}
@@ -12,6 +12,7 @@ use Rattle.node.specs.declared.record.RecordParts.{RecordParts}
 use Rattle.node.specs.declared.fit.Lengths.{Lengths}
 use Rattle.node.specs.declared.slot.Found.{Found}
 use Rattle.node.specs.declared.slot.Last.{Last}
+use Rattle.node.specs.declared.slot.EntryAt.{EntryAt}
 use Rattle.node.specs.declared.head.Head.{Head}
 use Rattle.node.specs.declared.read.Node.{Node}
 
@@ -50,6 +51,16 @@ unfoldable pub last_in : ℕ → List ℕ → ℕ → List ℕ → Last
 last_in o k n l =
     let i : ℕ = not_above o k (entries_of n l) in
     record { count = i; at = records_length (i - 1) l }
+
+-- where an entry of a slot stands, or one that is put after the last: what its numbers say of the slot's bytes
+pub record EntryUpto (l : List ℕ) (e : EntryAt) : Type 0 where
+  pub used : e.used ≡ records_length e.count l
+  pub start : e.at ≡ records_length e.index l
+  pub upto : e.index ≤ e.count
+
+-- the same where an entry stands
+abbrev pub EntryIn : List ℕ → EntryAt → Type 0
+EntryIn l e = EntryUpto l e × (e.index < e.count)
 
 -- the words of a node just read from a block: without a mark its id is 0
 unfoldable pub read_head : Node → ℕ → ℕ → Bool → Head

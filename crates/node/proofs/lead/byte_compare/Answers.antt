@@ -1,10 +1,6 @@
 use Rattle.std.proofs.Common.{◌∙◌, arith}
-use Rattle.node.specs.laws.order.Leading.{lead_differs, lead_turn, byte_cmp, byte_turn, length_cmp}
+use Rattle.node.specs.laws.order.Leading.{lead_turn, byte_cmp, byte_turn}
 use Rattle.node.proofs.lead.byte_compare.Goals as goal
-
-pub returns-then-x-y : goal.returns-then-x-y
-returns-then-x-y c =
-    c.cmp.ensures ∙ lead_differs _ _ _ _ c.loop-k.invariant _ _ c.lead_at-x.ensures c.lead_at-y.ensures c.if-x-y.true
 
 pub loop-k-preserved : goal.loop-k-preserved
 loop-k-preserved c =
@@ -15,6 +11,3 @@ returns-then-a-i c = c.cmp-then-a-i.ensures ∙ byte_cmp _ _ _ _ c.loop-i.invari
 
 pub loop-i-preserved : goal.loop-i-preserved
 loop-i-preserved c = byte_turn _ _ _ _ c.loop-i.invariant (omega arith) c.if-a-i.false
-
-pub returns : goal.returns
-returns c = c.cmp-2.ensures ∙ length_cmp _ _ _ _ c.loop-i.invariant (omega arith)

@@ -23,6 +23,7 @@ use Rattle.node.specs.Cut.{entry_size, size, left_part, kept_within, shorten, le
 use Rattle.node.specs.internal.CutSteps.{left_of, further_sums, parts_fit}
 use Rattle.node.specs.internal.SlotSteps.{lengths_of, longer_of}
 use Rattle.node.specs.declared.info.BTreeInfo.{BTreeInfo}
+use Rattle.node.specs.laws.slot.Slot.{at_start}
 use Rattle.node.specs.declared.fit.Lengths.{Lengths}
 use Rattle.node.specs.declared.cut.Left.{Left}
 use Rattle.node.specs.declared.refusal.Refusal.TheVariants as is
@@ -583,7 +584,20 @@ module _ (t : BTreeInfo) (level n : ℕ) (l : List ℕ) (s : Left) (e : s ≡ le
 
 pub ruleset whole = (count_most, whole_at, whole_room)
 
-pub ruleset walk =
-    (count_most, first_in, first_lengths, place_first, walk_in, walk_keys, walk_values, walk_next, walk_more, walk_stop, walk_last, last_below)
+pub ruleset walk = (
+  at_start,
+  count_most,
+  first_in,
+  first_lengths,
+  place_first,
+  walk_in,
+  walk_keys,
+  walk_values,
+  walk_next,
+  walk_more,
+  walk_stop,
+  walk_last,
+  last_below,
+)
 
 pub ruleset cuts = (count_most, single_means, after_start, nowhere_means, after_means)

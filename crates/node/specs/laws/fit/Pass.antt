@@ -8,7 +8,8 @@ use Prim.Native.Nat.{ℕ, ◌+◌, ◌≤◌, ◌<◌, ◌^◌}
 use native.Mathlib.Omega.{arith}
 use Rattle.std.proofs.Math.ListN.{length, drop}
 use Rattle.std.proofs.Math.Dec.{eqb}
-use borrow.Author.Tests.{eq-eqb, ne_eqb, not-true, not-false}
+use Rattle.std.specs.Bool.{then_some}
+use borrow.Author.Tests.{eq-eqb, ne_eqb, eqb-true, eqb-false, not-true, not-false}
 use Rattle.seal.specs.Bytes.{u16_at, window}
 use Rattle.seal.specs.laws.WindowLaws.{length_window}
 use Rattle.node.specs.Order.{less}
@@ -112,9 +113,11 @@ module _ (o : ℕ) (t : BTreeInfo) (isLeaf : Bool) (n : ℕ) (l : List ℕ) wher
   unfolding checked_of
   refuses used h = rw (← h)
 
-  pub check_start : Checking o t isLeaf n l 0 (record { at = 0; keys = 0; values = 0 })
+  pub check_start : (s : Lengths) → s.at ≡ 0 → s.keys ≡ 0 → s.values ≡ 0 → Checking o t isLeaf n l 0 s
   unfolding records_length
-  check_start = record { few = omega arith; within = omega arith; sums = lengths_none t l; hold = refl }
+  check_start s a k v =
+      let e : ◌≡◌ {A = Lengths} (record { at = s.at; keys = s.keys; values = s.values }) (record { at = 0; keys = 0; values = 0 }) = rw (a, k, v) in
+      record { few = omega arith; within = omega arith; sums = e ∙ lengths_none t l; hold = refl }
 
   module _ (i : ℕ) (s : Lengths) (g : Checking o t isLeaf n l i s) where
     at_is : s.at ≡ records_length i l
@@ -193,14 +196,20 @@ module _ (o : ℕ) (t : BTreeInfo) (isLeaf : Bool) (n : ℕ) (l : List ℕ) wher
         let b : every T es ≡ true = sym g.hold ∙ ap (every T) (none h) in
         a ∙ sym (rw (b, ← c) (both (records_hold n used l)))
 
-    pub check_used : (used : ℕ) → n ≤ i → true ≡ rising o es → (s.at ≡ used → ⊥) → None ≡ checked_of o t isLeaf n used l
+    check_used : (used : ℕ) → n ≤ i → true ≡ rising o es → (s.at ≡ used → ⊥) → None ≡ checked_of o t isLeaf n used l
     check_used used h c f = refuses used (sym (ne_eqb s.at used f) ∙ stand_is used h c)
 
-    pub check_held : (used : ℕ) → n ≤ i → true ≡ rising o es → s.at ≡ used → Some s ≡ checked_of o t isLeaf n used l
+    check_held : (used : ℕ) → n ≤ i → true ≡ rising o es → s.at ≡ used → Some s ≡ checked_of o t isLeaf n used l
     unfolding checked_of
     check_held used h c e =
         let z : records_stand o t isLeaf n used l ≡ true = sym (stand_is used h c) ∙ eq-eqb s.at used e in
         rw z (ap Some (lengths_done t i n l s g.sums g.few h))
+
+    pub check_done : (used : ℕ) → n ≤ i → true ≡ rising o es → then_some (eqb s.at used) s ≡ checked_of o t isLeaf n used l
+    check_done used h c =
+        by_test (eqb s.at used)
+        (λ e. rw e (check_held used h c (eqb-true s.at used e)))
+        (λ e. rw e (check_used used h c (eqb-false s.at used e)))
 
     -- the key of the record there is above the one before it, `last`, or not
     module _ {A : Type 0} (now : A → List ℕ) (last : Option A) (rise : Rises o now last (drop i es) (rising o es)) where

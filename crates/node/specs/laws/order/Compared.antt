@@ -63,3 +63,17 @@ module _ (a b : List ℕ) (p : length a ≡ 16) (q : length b ≡ 16) where
 
 -- what `pair_compare` takes of these
 pub ruleset pairs = (by_id, by_xid)
+
+-- what are no two pairs stands before another as bytes do
+pub less_by_code : (o : ℕ) (a b : List ℕ)
+    → less o a b ≡ cond (eqb o 0 && eqb (length a) 16 && eqb (length b) 16) (less pair a b) (less byte a b)
+unfolding less keyed keyed_length
+less_by_code o a b =
+    by_test (eqb o 0)
+    (λ p. by_test (eqb (length a) 16)
+    (λ q. by_test (eqb (length b) 16) (λ r. simp (p, q, r)) (λ r. simp (p, q, r)))
+    (λ q. by_test (eqb (length b) 16) (λ r. simp (p, q, r)) (λ r. simp (p, q, r))))
+    (λ p. simp p)
+
+-- what `Order::less` takes of these
+pub ruleset lesser = (compared_lt, less_by_code)

@@ -170,3 +170,6 @@ module _ (a b : List ℕ) (n i : ℕ) (c : Comparing a b n i) where
   pub length_cmp : n ≤ i → nat_cmp (length a) (length b) ≡ compared byte a b
   length_cmp h =
       byte_said (length a) (length b) a b (byte_end a b i n c.least h c.few c.there) (byte_end b a i n back_least h c.few c.back)
+
+-- what `byte_compare` takes of these
+pub ruleset ends = (lead_differs, length_cmp)

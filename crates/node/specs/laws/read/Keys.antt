@@ -1,5 +1,6 @@
 -- Laws of a node's keys on disk: entry by entry, in order, within bounds. Assumes nothing.
 use Rattle.std.specs.Prelude.{◌≡◌, refl, Bool, ◌&&◌, ◌||◌, not}
+use Rattle.std.specs.List.{range_with_len, list_all}
 use Rattle.std.proofs.Math.Path.{sym, ap, ap₂}
 use Rattle.std.proofs.Common.{◌∙◌, add-zero, zero-add, not-suc-le-zero, le_of_suc-le-suc}
 use mathlib.Core.List.{List, [], ◌∷◌}
@@ -11,7 +12,7 @@ use Rattle.std.proofs.Math.ListN.{length, take, drop}
 use Rattle.std.specs.Borrow.{Bor}
 use borrow.Author.Tests.{not-true, not-false, eq-eqb, ne_eqb, eqb-false}
 use Rattle.seal.specs.Bytes.{window, u64_at}
-use Rattle.node.specs.laws.base.Tests.{and_left, and_right, and-true, and-false}
+use Rattle.node.specs.laws.base.Tests.{and_left, and_right, and-false}
 use Rattle.node.specs.laws.base.Bytes.{Bytes, bytes_window}
 use Rattle.node.specs.Order.{less, keyed, keyed_length}
 use Rattle.node.specs.laws.order.Order.{key_known}
@@ -146,42 +147,23 @@ module _ (o : ℕ) (p : Place) (lower upper : List ℕ) (v : Node) (b : List ℕ
   abbrev all : ℕ → ℕ → Bool
   all i m = keys_within o p lower upper (entries_from v b i m)
 
-  module _ (w : Bool) (to i : ℕ) (k : List ℕ) (r : Bool) (e : w ≡ all i (to - i)) (lt : i < to) (ek : k ≡ (entry_at v b i).key)
-      (er : r ≡ in_bounds o p lower upper k) where
-    bounds_of : r ≡ in_bounds o p lower upper (entry_at v b i).key
-    bounds_of = er ∙ ap (in_bounds o p lower upper) ek
-
-    pub within_fails : not r ≡ true → false ≡ w
-    unfolding keys_within entries_from every
-    within_fails n =
-        let m : to - i ≡ suc (to - suc i) = omega arith in
-        let f : in_bounds o p lower upper (entry_at v b i).key ≡ false = sym bounds_of ∙ not-true r n in
-        sym (e ∙ rw (m, f))
-
-    pub within_turn : not r ≡ false → w ≡ all (i + 1) (to - (i + 1))
-    unfolding keys_within entries_from every
-    within_turn n =
-        let m : to - i ≡ suc (to - suc i) = omega arith in
-        let f : in_bounds o p lower upper (entry_at v b i).key ≡ true = sym bounds_of ∙ not-false r n in
-        e ∙ rw (m, f, add-one i)
-
-  pub within_done : (w : Bool) (to i : ℕ) → w ≡ all i (to - i) → to ≤ i → true ≡ w
+  -- each of the entries from entry i on, one after another
+  pub within_each : (i n : ℕ) → list_all (λ (j : ℕ). in_bounds o p lower upper (entry_at v b j).key) (range_with_len i n) ≡ all i n
   unfolding keys_within entries_from every
-  within_done w to i e h =
-      let m : to - i ≡ 0 = omega arith in
-      sym (e ∙ rw m)
+  within_each i zero = refl
+  within_each i (suc n) = ap (λ (x : Bool). in_bounds o p lower upper (entry_at v b i).key && x) (rw add-one (within_each (suc i) n))
 
   pub within_none : v.nkeys ≡ 0 → true ≡ all 0 v.nkeys
   unfolding keys_within entries_from every
   within_none e = rw e
 
-  pub within_first : (r : Bool) → (v.nkeys ≡ 0 → ⊥) → r ≡ all 0 (1 - 0) → not r ≡ true → false ≡ all 0 v.nkeys
+  pub within_first : (k : List ℕ) (r : Bool) → (v.nkeys ≡ 0 → ⊥) → k ≡ (entry_at v b 0).key → r ≡ in_bounds o p lower upper k → r ≡ false
+      → r ≡ all 0 v.nkeys
   unfolding keys_within entries_from every
-  within_first r n e h =
+  within_first k r n e q h =
       let m : v.nkeys ≡ suc (v.nkeys - 1) = omega arith in
-      let f : in_bounds o p lower upper (entry_at v b 0).key ≡ false = sym (e ∙ and-true (in_bounds o p lower upper (entry_at v b 0).key))
-      ∙ not-true r h in
-      sym (ap (all 0) m ∙ rw f)
+      let f : in_bounds o p lower upper (entry_at v b 0).key ≡ false = ap (in_bounds o p lower upper) (sym e) ∙ sym q ∙ h in
+      h ∙ sym (ap (all 0) m ∙ rw f)
 
 -- every key of those that rise is above a bound if the first is, and below one if the last is
 every_all : (es : List Entry) → every (λ (x : Entry). true) es ≡ true
@@ -251,23 +233,20 @@ module _ (o : ℕ) (p : Place) (lower upper : List ℕ) (v : Node) (b : List ℕ
         (above_all u ∙ a) (omega arith) in
         ap (λ (q : Bool). q && is_below (entry_at v b n).key) (z ∙ sym a) ∙ sym (ends_all u t)
 
-  pub within_ends : (u r q : Bool) → (v.nkeys ≡ 0 → ⊥) → keys_rise o (entries_from v b 0 v.nkeys) ≡ true
+  pub within_ends : (u : Bool) (x y : List ℕ) (r q : Bool) → (v.nkeys ≡ 0 → ⊥) → keys_rise o (entries_from v b 0 v.nkeys) ≡ true
       → u ≡ ((p.root || keyed o lower) && (not p.bounded || keyed o upper)) → u ≡ true
-      → r ≡ keys_within o p lower upper (entries_from v b 0 (1 - 0)) → not r ≡ false
-      → q ≡ keys_within o p lower upper (entries_from v b (v.nkeys - 1) (v.nkeys - (v.nkeys - 1))) → q ≡ keys_within o p lower upper
-      (entries_from v b 0 v.nkeys)
-  unfolding keys_within entries_from every
-  within_ends u r q some h eu nu er nr eq =
+      → x ≡ (entry_at v b 0).key → r ≡ in_bounds o p lower upper x → r ≡ true
+      → y ≡ (entry_at v b (v.nkeys - 1)).key → q ≡ in_bounds o p lower upper y
+      → q ≡ keys_within o p lower upper (entries_from v b 0 v.nkeys)
+  within_ends u x y r q some h eu nu ex er nr ey eq =
       let n : ℕ = v.nkeys - 1 in
       let m : v.nkeys ≡ suc n = omega arith in
-      let k : v.nkeys - (v.nkeys - 1) ≡ 1 = omega arith in
-      let first : in_bounds o p lower upper (entry_at v b 0).key ≡ true = sym (er ∙ and-true (in_bounds o p lower upper (entry_at v b 0).key))
-      ∙ not-false r nr in
-      let h' : keys_rise o (entries_from v b 0 (suc n)) ≡ true = ap (λ (x : ℕ). keys_rise o (entries_from v b 0 x)) (sym m) ∙ h in
-      eq ∙ ap (λ (x : ℕ). keys_within o p lower upper (entries_from v b n x)) k ∙ and-true (in_bounds o p lower upper (entry_at v b n).key)
+      let first : in_bounds o p lower upper (entry_at v b 0).key ≡ true = ap (in_bounds o p lower upper) (sym ex) ∙ sym er ∙ nr in
+      let h' : keys_rise o (entries_from v b 0 (suc n)) ≡ true = ap (λ (z : ℕ). keys_rise o (entries_from v b 0 z)) (sym m) ∙ h in
+      eq ∙ ap (in_bounds o p lower upper) ey
       ∙ ends n h' (and_left (p.root || keyed o lower) (not p.bounded || keyed o upper) (sym eu ∙ nu))
       (and_right (p.root || keyed o lower) (not p.bounded || keyed o upper) (sym eu ∙ nu)) first
-      ∙ ap (λ (x : ℕ). keys_within o p lower upper (entries_from v b 0 x)) (sym m)
+      ∙ ap (λ (z : ℕ). keys_within o p lower upper (entries_from v b 0 z)) (sym m)
 
 -- ---- a value in place
 
@@ -319,8 +298,6 @@ module _ (v : Node) (b : List ℕ) (i : ℕ) (s : Span) (e : s ≡ span_at v b i
 -- ---- what the code takes of these
 
 pub ruleset rise = (keys_none, rise_none, rise_start, rise_unkeyed, rise_falls, rise_turn, rise_done)
-
-pub ruleset bound = (within_fails, within_turn, within_done)
 
 pub ruleset bounds = (within_none, within_first, within_ends)
 

@@ -2,7 +2,7 @@
 use Rattle.std.specs.Prelude.{◌≡◌, List, Bool, cond, ◌&&◌, ◌||◌, not, ℕ, ◌+◌, ◌-◌, ◌*◌, ◌≤◌, length, leb, eqb}
 use Rattle.std.proofs.Math.Path.{ap}
 use Rattle.std.proofs.Common.{arith}
-use Rattle.std.proofs.Math.Bool.{true}
+use Rattle.std.proofs.Math.Bool.{true, false}
 use borrow.Author.Tests.{leb-true}
 use Rattle.seal.specs.Checksum.{verified}
 use Rattle.node.specs.laws.base.Tests.{and_left, and_right}
@@ -16,6 +16,8 @@ use Rattle.node.specs.Read.{map_ok, parsed, is_fixed, flags_hold, layout_holds, 
 use Rattle.node.specs.internal.ReadSteps.{Laid, Sound}
 use Rattle.node.specs.declared.read.Node.{Node}
 use Rattle.node.specs.Place.{Place}
+use Rattle.node.specs.Entry.{Entry}
+use Rattle.node.specs.laws.base.Bytes.{bytes_known}
 
 -- ---- what a check leaves
 
@@ -98,3 +100,18 @@ node_read x r e f = ap (map_ok f) e
 
 pub node_refused : {R : Type 0} (x : std.Result R Refusal) (k : Refusal) → x ≡ Err k → (f : R → Node) → map_ok f x ≡ Err k
 node_refused x k e f = ap (map_ok f) e
+
+-- ---- 9, in two tests: keys that rise, keys within the bounds
+
+module _ (o : ℕ) (p : Place) (lower upper : List ℕ) (es : List Entry) where
+  pub keys_fallen : keys_rise o es ≡ false → keys_hold o p lower upper es ≡ false
+  unfolding keys_hold
+  keys_fallen e = rw e
+
+  pub keys_risen : keys_rise o es ≡ true → keys_hold o p lower upper es ≡ keys_within o p lower upper es
+  unfolding keys_hold
+  keys_risen e = rw e
+
+-- ---- what `read_node` takes of these
+
+pub ruleset loads = (layout_laid, entries_sound, bytes_known, keys_fallen, keys_risen)

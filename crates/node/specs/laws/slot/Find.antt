@@ -13,7 +13,7 @@ use Rattle.node.specs.Entry.{Entry}
 use Rattle.node.specs.Records.{mark_length, value_of, record_length, entry_of, records_length}
 use Rattle.node.specs.laws.slot.Records.{record_mark, records_less}
 use Rattle.node.specs.Slot.{records_hold, is_child, suit}
-use Rattle.node.specs.laws.slot.Slot.{at_next}
+use Rattle.node.specs.laws.slot.Slot.{at_next, at_start}
 use Rattle.std.specs.Prelude.{Option, Some, None, MatchOption}
 use Rattle.node.specs.declared.record.Record.{Record}
 
@@ -116,3 +116,6 @@ suit_index isLeaf t e p q = rw (q, ← p)
 pub ruleset child = (child_disk, child_other)
 
 pub ruleset suits = (suit_leaf, suit_index)
+
+-- what `records_hold` takes of these
+pub ruleset hold = (at_start, hold_end)

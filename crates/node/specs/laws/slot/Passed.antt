@@ -234,3 +234,9 @@ pub bare_next : (l : List ℕ) (at after klen mark bare more : ℕ) → klen ≡
 bare_next l at after klen mark bare more k m e a =
     let r : 4 + klen + mark_length mark ≡ record_length (drop at l) = like_length l at klen mark (mark_length mark) k m refl in
     omega arith
+
+-- ---- what the searches take of these
+
+pub ruleset place = (at_next, place_turn, there_turn, found_here, found_none)
+
+pub ruleset above = (above_turn, last_kept, last_here, last_none)

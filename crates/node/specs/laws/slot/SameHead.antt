@@ -4,7 +4,7 @@ use Rattle.std.proofs.Common.{sym, ap, ◌∙◌, arith}
 use Rattle.seal.specs.Bytes.{u16_at}
 use Rattle.node.specs.Records.{mark_length, record_length, records_length}
 use Rattle.node.specs.laws.slot.Records.{record_klen, record_mark, record_parts}
-use Rattle.node.specs.laws.slot.Slot.{at_next}
+use Rattle.node.specs.laws.slot.Slot.{at_lies, at_next}
 
 head_length : (l : List ℕ) (at klen mark : ℕ) → klen ≡ u16_at l at → mark ≡ u16_at l (at + 2)
     → record_length (drop at l) ≡ 4 + klen + mark_length mark
@@ -54,3 +54,6 @@ like_start = refl
 pub ruleset like = (like_length, like_room, like_fits, like_mark, like_same, same_room)
 
 pub ruleset parts = (record_parts, like_room)
+
+-- what a step of a walk takes of these
+pub ruleset step = (at_lies, like_next)

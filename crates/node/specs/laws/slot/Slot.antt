@@ -16,11 +16,12 @@ use Rattle.node.specs.laws.base.Splice.{window_drop, take_splice, drop_splice, s
 use Rattle.std.specs.Borrow.{Bor}
 use Rattle.node.specs.Entry.{Entry, Val, leaf, disk, mem, value_length, value_bytes}
 use Rattle.node.specs.Records.{mark_of, mark_length, value_of, record_bytes, record_of, record_length, entry_of, records_length, entries_of}
-use Rattle.node.specs.internal.SlotSteps.{parts_at}
+use Rattle.node.specs.internal.SlotSteps.{parts_at, EntryUpto}
 use Rattle.node.specs.internal.Storable.{Held}
 use Rattle.node.specs.laws.slot.Records.{mark_child, length_bytes, records_local, entries_local, records_add, entries_add, records_next, records_rest, records_less, entries_front, entries_rest, entries_head, decoded, decoded_length, entry_key_length, entry_value_length, at_key, at_mark, at_value, at_vlen, at_length, at_after, length_value_bytes, value_back, mark_fits, mark_small}
 use Rattle.node.specs.Slot.{insert_at, remove_at, rekeyed, with_key, revalued, with_value, child_means, value_means}
 use Rattle.node.specs.declared.record.RecordParts.{RecordParts}
+use Rattle.node.specs.declared.slot.EntryAt.{EntryAt}
 use Rattle.node.specs.declared.val.Child.TheVariants as child
 use Rattle.node.specs.declared.val.Val.TheVariants as held
 
@@ -49,6 +50,21 @@ next_used l n i used at p q h =
     let b = records_less (i + 1) n l (omega arith) in
     let c = at_next l i at (at + record_length (drop at l)) q refl in
     omega arith
+
+-- where an entry stands that is written
+pub entry_used : (l : List ℕ) (e : EntryAt) → EntryUpto l e → e.at ≤ e.used
+entry_used l e q = at_used l e.count e.index e.used e.at q.used q.start q.upto
+
+pub entry_end : (l : List ℕ) (e : EntryAt) → EntryUpto l e → e.index < e.count → e.at + record_length (drop e.at l) ≤ e.used
+entry_end l e q h = next_used l e.count e.index e.used e.at q.used q.start h
+
+pub entry_lies : (l : List ℕ) (e : EntryAt) → EntryUpto l e → e.index < e.count → records_length e.count l ≤ length l
+    → e.at + record_length (drop e.at l) ≤ length l
+entry_lies l e q h w = at_lies l e.count e.index e.at w h q.start
+
+pub entry_lies_room : (l : List ℕ) (e : EntryAt) (m : ℕ) → EntryUpto l e → e.index < e.count → e.used + m ≤ length l
+    → e.at + record_length (drop e.at l) ≤ length l
+entry_lies_room l e m q h w = omega (arith, entry_end l e q h)
 
 -- the records from record j on take what is left
 rest_length : (l : List ℕ) (n j used end : ℕ) → used ≡ records_length n l → end ≡ records_length j l → j ≤ n
@@ -218,31 +234,31 @@ module _ (l l₁ l₂ key value : List ℕ) (n i used at mark : ℕ) (pu : used 
       (length_bytes_of 2 mark) lk (ap mark_length lm ∙ mv) ii h within pu pa pa insert_changed
       ∙ omega arith
 
-module _ (l l₁ l₂ key : List ℕ) (v : Val) (n i used at : ℕ) (pu : used ≡ records_length n l) (pa : at ≡ records_length i l) (h : i ≤ n)
-    (room : used + 4 + length key + value_length v ≤ length l) (kf : length key < 2 ^ 16) (held_lem : Held v)
-    (e₁ : l₁ ≡ moved l at (at + 4 + length key + value_length v) (used - at))
-    (e₂ : l₂ ≡ splice l₁ at (record_of (record { key = key; value = v }))) where
-  value_room_lem : used + 4 + length key + length (value_bytes v) ≤ length l
+module _ (l l₁ l₂ key : List ℕ) (v : Val) (e : EntryAt) (x : ℕ) (q : EntryUpto l e) (ex : x ≡ value_length v)
+    (room : e.used + 4 + length key + value_length v ≤ length l) (kf : length key < 2 ^ 16) (held_lem : Held v)
+    (e₁ : l₁ ≡ moved l e.at (e.at + 4 + length key + x) (e.used - e.at))
+    (e₂ : l₂ ≡ splice l₁ e.at (record_of (record { key = key; value = v }))) where
+  value_room_lem : e.used + 4 + length key + length (value_bytes v) ≤ length l
   value_room_lem = omega (arith, length_value_bytes v)
 
-  shifted : l₁ ≡ moved l at (at + 4 + length key + length (value_bytes v)) (used - at)
-  shifted = e₁ ∙ ap (λ (x : ℕ). moved l at (at + 4 + length key + x) (used - at)) (sym (length_value_bytes v))
+  shifted : l₁ ≡ moved l e.at (e.at + 4 + length key + length (value_bytes v)) (e.used - e.at)
+  shifted = e₁ ∙ ap (λ (y : ℕ). moved l e.at (e.at + 4 + length key + y) (e.used - e.at)) (ex ∙ sym (length_value_bytes v))
 
-  stored : l₂ ≡ splice l₁ at (record_bytes key (mark_of v) (value_bytes v))
+  stored : l₂ ≡ splice l₁ e.at (record_bytes key (mark_of v) (value_bytes v))
   unfolding record_of record_bytes
   stored = e₂
 
-  pub insert_entries : entries_of (n + 1) l₂ ≡ insert_at i (record { key = key; value = v }) (entries_of n l)
+  pub insert_entries : entries_of (e.count + 1) l₂ ≡ insert_at e.index (record { key = key; value = v }) (entries_of e.count l)
   insert_entries =
-      inserted_entries l l₁ l₂ key (value_bytes v) n i used at (mark_of v) pu pa h value_room_lem kf (mark_small v held_lem) (mark_fits v held_lem)
-      shifted stored
-      ∙ ap (λ (x : Val). insert_at i (record { key = key; value = x }) (entries_of n l)) (value_back v held_lem)
+      inserted_entries l l₁ l₂ key (value_bytes v) e.count e.index e.used e.at (mark_of v) q.used q.start q.upto value_room_lem kf
+      (mark_small v held_lem) (mark_fits v held_lem) shifted stored
+      ∙ ap (λ (y : Val). insert_at e.index (record { key = key; value = y }) (entries_of e.count l)) (value_back v held_lem)
 
-  pub insert_length : records_length (n + 1) l₂ ≡ used + 4 + length key + value_length v
+  pub insert_length : records_length (e.count + 1) l₂ ≡ e.at + 4 + length key + x + (e.used - e.at)
   insert_length =
-      inserted_length l l₁ l₂ key (value_bytes v) n i used at (mark_of v) pu pa h value_room_lem kf (mark_small v held_lem) (mark_fits v held_lem)
-      shifted stored
-      ∙ ap (λ (x : ℕ). used + 4 + length key + x) (length_value_bytes v)
+      inserted_length l l₁ l₂ key (value_bytes v) e.count e.index e.used e.at (mark_of v) q.used q.start q.upto value_room_lem kf
+      (mark_small v held_lem) (mark_fits v held_lem) shifted stored
+      ∙ omega (arith, length_value_bytes v, ex, entry_used l e q)
 
 -- ---- a record removed
 
@@ -261,21 +277,29 @@ module _ (l l₁ : List ℕ) (n i used at next : ℕ) (within : records_length n
   count_less : i + (0 + (n - (i + 1))) ≡ n - 1
   count_less = omega arith
 
-  pub remove_entries : entries_of (n - 1) l₁ ≡ remove_at i (entries_of n l)
+  removed_entries : entries_of (n - 1) l₁ ≡ remove_at i (entries_of n l)
   unfolding remove_at entries_of
-  remove_entries =
+  removed_entries =
       let ij : i ≤ i + 1 = omega arith in
       let jn : i + 1 ≤ n = omega arith in
       ap (λ (x : ℕ). entries_of x l₁) (sym count_less)
       ∙ replaced_entries l l₁ [] n i (i + 1) 0 used at next ij jn within pu pa (at_next l i at next pa pn) fill_none remove_changed
 
-  pub remove_length : records_length (n - 1) l₁ ≡ at + (used - next)
-  remove_length =
+  removed_length : records_length (n - 1) l₁ ≡ at + (used - next)
+  removed_length =
       let ij : i ≤ i + 1 = omega arith in
       let jn : i + 1 ≤ n = omega arith in
       ap (λ (x : ℕ). records_length x l₁) (sym count_less)
       ∙ replaced_length l l₁ [] n i (i + 1) 0 used at next ij jn within pu pa (at_next l i at next pa pn) fill_none remove_changed
       ∙ ap (λ (x : ℕ). at + x) (zero-add (used - next))
+
+module _ (l l₁ : List ℕ) (e : EntryAt) (next : ℕ) (q : EntryUpto l e) (h : e.index < e.count) (within : records_length e.count l ≤ length l)
+    (pn : next ≡ e.at + record_length (drop e.at l)) (e₁ : l₁ ≡ moved l next e.at (e.used - next)) where
+  pub remove_entries : entries_of (e.count - 1) l₁ ≡ remove_at e.index (entries_of e.count l)
+  remove_entries = removed_entries l l₁ e.count e.index e.used e.at next within q.used q.start h pn e₁
+
+  pub remove_length : records_length (e.count - 1) l₁ ≡ e.at + (e.used - next)
+  remove_length = removed_length l l₁ e.count e.index e.used e.at next within q.used q.start h pn e₁
 
 -- ---- the parts of a record, as windows of the slot
 
@@ -354,8 +378,8 @@ module _ (l l₁ l₂ l₃ key : List ℕ) (n i used at from klen mark : ℕ) (p
   same_count : i + (1 + (n - (i + 1))) ≡ n
   same_count = omega arith
 
-  pub set_key_length : records_length n l₃ ≡ at + 4 + length key + (used - from)
-  set_key_length =
+  rekeyed_length : records_length n l₃ ≡ at + 4 + length key + (used - from)
+  rekeyed_length =
       let ij : i ≤ i + 1 = omega arith in
       let jn : i + 1 ≤ n = omega arith in
       let nu = key_used in
@@ -369,17 +393,9 @@ module _ (l l₁ l₂ l₃ key : List ℕ) (n i used at from klen mark : ℕ) (p
       (at_next l i at next pa refl) key_changed
       ∙ omega arith
 
-  pub set_key_used : at + 4 + length key + (used - from) + length (entry_of (drop at l)).key ≡ used + length key
-  set_key_used =
-      let nu = key_used in
-      let ni = next_is in
-      let lies : record_length (drop at l) ≤ length (drop at l) = rw length-drop (omega arith) in
-      let lk = entry_key_length (drop at l) lies in
-      omega arith
-
-  pub set_key_entries : entries_of n l₃ ≡ with_key i key (entries_of n l)
+  rekeyed_entries : entries_of n l₃ ≡ with_key i key (entries_of n l)
   unfolding with_key rekeyed
-  set_key_entries =
+  rekeyed_entries =
       let ij : i ≤ i + 1 = omega arith in
       let jn : i + 1 ≤ n = omega arith in
       let nu = key_used in
@@ -392,6 +408,31 @@ module _ (l l₁ l₂ l₃ key : List ℕ) (n i used at from klen mark : ℕ) (p
       ∙ ap (λ (x : Val). take i (entries_of n l) ++ (record { key = key; value = x } ∷ drop (i + 1) (entries_of n l)))
       (ap (λ (x : ℕ). value_of x (window from (mark_length mark) l)) mark_kept ∙ sym (part_value at from klen mark l pk pm pf))
       ∙ ap (λ (x : List Entry). take i (entries_of n l) ++ rekeyed key x) (sym (entries_head i n at l h pa))
+
+pub set_key_used : (l key : List ℕ) (e : EntryAt) (r : RecordParts) → EntryUpto l e → e.index < e.count → r ≡ parts_at l e.at
+    → e.used + length key ≤ length l
+    → e.at + 4 + length key + (e.used - r.value) + length (entry_of (drop e.at l)).key ≡ e.used + length key
+set_key_used l key e r q h er room =
+    let n = entry_end l e q h in
+    let lies : record_length (drop e.at l) ≤ length (drop e.at l) = rw length-drop (omega arith) in
+    omega (
+      arith,
+      entry_key_length (drop e.at l) lies,
+      at_value l e.at r er,
+      part_length e.at (u16_at (drop e.at l) 0) (u16_at (drop e.at l) 2) l refl refl,
+    )
+
+module _ (l l₁ l₂ l₃ key : List ℕ) (e : EntryAt) (r : RecordParts) (q : EntryUpto l e) (h : e.index < e.count) (er : r ≡ parts_at l e.at)
+    (room : e.used + length key ≤ length l) (kf : length key < 2 ^ 16)
+    (e₁ : l₁ ≡ moved l r.value (e.at + 4 + length key) (e.used - r.value)) (e₂ : l₂ ≡ splice l₁ (e.at + 4) key)
+    (e₃ : l₃ ≡ splice l₂ e.at (bytes_of 2 (length key))) where
+  pub set_key_length : records_length e.count l₃ ≡ e.at + 4 + length key + (e.used - r.value)
+  set_key_length = rekeyed_length l l₁ l₂ l₃ key e.count e.index e.used e.at r.value (u16_at (drop e.at l) 0) (u16_at (drop e.at l) 2) q.used
+      q.start h room kf refl refl (at_value l e.at r er) e₁ e₂ e₃
+
+  pub set_key_entries : entries_of e.count l₃ ≡ with_key e.index key (entries_of e.count l)
+  set_key_entries = rekeyed_entries l l₁ l₂ l₃ key e.count e.index e.used e.at r.value (u16_at (drop e.at l) 0) (u16_at (drop e.at l) 2) q.used
+      q.start h room kf refl refl (at_value l e.at r er) e₁ e₂ e₃
 
 -- ---- a record with another value
 
@@ -452,15 +493,6 @@ module _ (l l₁ l₂ l₃ value : List ℕ) (n i used at v next klen mark : ℕ
       (length_bytes_of 2 mark) key_kept (ap mark_length mark_set ∙ mv) ij jn value-within pu pa (at_next l i at next pa pn) value_changed
       ∙ omega arith
 
-  pub revalued_used : v + length value + (used - next) + value_length (entry_of (drop at l)).value ≡ used + length value
-  revalued_used =
-      let vn = value_next in
-      let nu = value_used in
-      let lies : record_length (drop at l) ≤ length (drop at l) = rw length-drop (omega arith) in
-      let lv = entry_value_length (drop at l) lies in
-      let lr = part_length at klen (u16_at (drop at l) 2) l pk refl in
-      omega arith
-
   pub revalued_entries : entries_of n l₃ ≡ with_value i (value_of mark value) (entries_of n l)
   unfolding with_value revalued
   revalued_entries =
@@ -476,22 +508,42 @@ module _ (l l₁ l₂ l₃ value : List ℕ) (n i used at v next klen mark : ℕ
       (sym (part_key at klen l pk)) mark_set
       ∙ ap (λ (x : List Entry). take i (entries_of n l) ++ revalued (value_of mark value) x) (sym (entries_head i n at l h pa))
 
-module _ (l l₁ l₂ l₃ : List ℕ) (w : Val) (n i used at v next klen mark : ℕ) (pu : used ≡ records_length n l) (pa : at ≡ records_length i l)
-    (h : i < n) (room : used + value_length w ≤ length l) (held_lem : Held w) (pk : klen ≡ u16_at (drop at l) 0)
-    (pv : v ≡ at + 4 + klen) (pn : next ≡ at + record_length (drop at l)) (pm : mark ≡ mark_of w)
-    (e₁ : l₁ ≡ moved l next (v + value_length w) (used - next)) (e₂ : l₂ ≡ splice l₁ v (value_bytes w))
-    (e₃ : l₃ ≡ splice l₂ (at + 2) (bytes_of 2 mark)) where
-  set_within : records_length n l ≤ length l
-  set_within = omega arith
+pub set_value_used : (l : List ℕ) (w : Val) (e : EntryAt) (r : RecordParts) (x : ℕ) → EntryUpto l e → e.index < e.count → r ≡ parts_at l e.at
+    → x ≡ value_length w → e.used + value_length w ≤ length l
+    → r.value + x + (e.used - r.next) + value_length (entry_of (drop e.at l)).value ≡ e.used + value_length w
+set_value_used l w e r x q h er ex room =
+    let n = entry_end l e q h in
+    let lies : record_length (drop e.at l) ≤ length (drop e.at l) = rw length-drop (omega arith) in
+    omega (
+      arith,
+      entry_value_length (drop e.at l) lies,
+      at_value l e.at r er,
+      at_after l e.at r er,
+      part_length e.at (u16_at (drop e.at l) 0) (u16_at (drop e.at l) 2) l refl refl,
+    )
 
-  set_room : v + length (value_bytes w) + (used - next) ≤ length l
-  set_room =
-      let a = part_length at klen (u16_at (drop at l) 2) l pk refl in
-      let b = next_used l n i used at pu pa h in
-      omega (arith, length_value_bytes w)
+module _ (l l₁ l₂ l₃ : List ℕ) (w : Val) (e : EntryAt) (r : RecordParts) (x mark : ℕ) (q : EntryUpto l e) (h : e.index < e.count)
+    (er : r ≡ parts_at l e.at) (ex : x ≡ value_length w) (room : e.used + value_length w ≤ length l) (held_lem : Held w) (pm : mark ≡ mark_of w)
+    (e₁ : l₁ ≡ moved l r.next (r.value + x) (e.used - r.next)) (e₂ : l₂ ≡ splice l₁ r.value (value_bytes w))
+    (e₃ : l₃ ≡ splice l₂ (e.at + 2) (bytes_of 2 mark)) where
+  abbrev klen : ℕ
+  klen = u16_at (drop e.at l) 0
 
-  set_moved : l₁ ≡ moved l next (v + length (value_bytes w)) (used - next)
-  set_moved = e₁ ∙ ap (λ (x : ℕ). moved l next (v + x) (used - next)) (sym (length_value_bytes w))
+  set_within : records_length e.count l ≤ length l
+  set_within = omega (arith, q.used)
+
+  set_room : r.value + length (value_bytes w) + (e.used - r.next) ≤ length l
+  set_room = omega (
+    arith,
+    part_length e.at klen (u16_at (drop e.at l) 2) l refl refl,
+    entry_end l e q h,
+    length_value_bytes w,
+    at_value l e.at r er,
+    at_after l e.at r er,
+  )
+
+  set_moved : l₁ ≡ moved l r.next (r.value + length (value_bytes w)) (e.used - r.next)
+  set_moved = e₁ ∙ ap (λ (y : ℕ). moved l r.next (r.value + y) (e.used - r.next)) (ex ∙ sym (length_value_bytes w))
 
   set_mark : mark < 2 ^ 16
   set_mark = omega (arith, mark_small w held_lem)
@@ -499,21 +551,17 @@ module _ (l l₁ l₂ l₃ : List ℕ) (w : Val) (n i used at v next klen mark :
   set_long : mark_length mark ≡ length (value_bytes w)
   set_long = ap mark_length pm ∙ mark_fits w held_lem
 
-  pub set_value_length : records_length n l₃ ≡ v + value_length w + (used - next)
+  pub set_value_length : records_length e.count l₃ ≡ r.value + x + (e.used - r.next)
   set_value_length =
-      revalued_length l l₁ l₂ l₃ (value_bytes w) n i used at v next klen mark pu pa h set_within set_room set_mark set_long pk pv pn set_moved e₂ e₃
-      ∙ ap (λ (x : ℕ). v + x + (used - next)) (length_value_bytes w)
+      revalued_length l l₁ l₂ l₃ (value_bytes w) e.count e.index e.used e.at r.value r.next klen mark q.used q.start h set_within set_room set_mark
+      set_long refl (at_value l e.at r er) (at_after l e.at r er) set_moved e₂ e₃
+      ∙ ap (λ (y : ℕ). r.value + y + (e.used - r.next)) (length_value_bytes w ∙ sym ex)
 
-  pub set_value_used : v + value_length w + (used - next) + value_length (entry_of (drop at l)).value ≡ used + value_length w
-  set_value_used =
-      let u = revalued_used l l₁ l₂ l₃ (value_bytes w) n i used at v next klen mark pu pa h set_within set_room set_mark set_long pk pv pn
-      set_moved e₂ e₃ in
-      omega (arith, length_value_bytes w)
-
-  pub set_value_entries : entries_of n l₃ ≡ with_value i w (entries_of n l)
+  pub set_value_entries : entries_of e.count l₃ ≡ with_value e.index w (entries_of e.count l)
   set_value_entries =
-      revalued_entries l l₁ l₂ l₃ (value_bytes w) n i used at v next klen mark pu pa h set_within set_room set_mark set_long pk pv pn set_moved e₂ e₃
-      ∙ ap (λ (x : Val). with_value i x (entries_of n l)) (ap (λ (m : ℕ). value_of m (value_bytes w)) pm ∙ value_back w held_lem)
+      revalued_entries l l₁ l₂ l₃ (value_bytes w) e.count e.index e.used e.at r.value r.next klen mark q.used q.start h set_within set_room set_mark
+      set_long refl (at_value l e.at r er) (at_after l e.at r er) set_moved e₂ e₃
+      ∙ ap (λ (y : Val). with_value e.index y (entries_of e.count l)) (ap (λ (m : ℕ). value_of m (value_bytes w)) pm ∙ value_back w held_lem)
 
 -- ---- the last records, at the start of another slot
 
@@ -618,3 +666,12 @@ module _ (l : List ℕ) (at : ℕ) (r : RecordParts) (e : r ≡ parts_at l at) w
 pub ruleset key = (key_start, key_end, key_part)
 
 pub ruleset value = (value_start, value_end, value_leaf, value_ghost, value_room, value_disk, value_mem)
+
+-- what the writers of one slot take of these
+pub ruleset writes_insert = (entry_used, insert_entries, insert_length)
+
+pub ruleset writes_remove = (entry_end, entry_lies, remove_entries, remove_length)
+
+pub ruleset writes_set_key = (entry_end, entry_lies_room, value_before, value_past, set_key_length, set_key_used, set_key_entries)
+
+pub ruleset writes_set_value = (entry_end, entry_lies_room, value_before, value_past, at_after, set_value_length, set_value_entries)

@@ -8,5 +8,5 @@ use mathlib.Core.Bool.{false}
 use Rattle.node.proofs.cut.Whole.left.Given as goal
 
 abbrev pub invariant-loop-place : goal.invariant-loop-place
-invariant-loop-place l = (l.lengths ≡ lengths_of l.self.info l.place l.self.records.slot.now)
-    × (l.place ≤ cut_place (fits l.self.info false l.self.level) (entries_of l.n l.self.records.slot.now))
+invariant-loop-place l = (l.lengths ≡ lengths_of l.self.node.shape.info l.place l.self.node.records.slot.now)
+    × (l.place ≤ cut_place (fits l.self.node.shape.info false l.self.node.shape.level) (entries_of l.n l.self.node.records.slot.now))

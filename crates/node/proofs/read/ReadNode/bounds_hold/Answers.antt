@@ -1,10 +1,15 @@
-use Rattle.std.proofs.Common.{ap}
-use mathlib.Core.Bool.{not}
-use Rattle.node.specs.laws.read.Keys.{within_ends}
+use Rattle.std.proofs.Common.{rules, tests, refl, ◌∙◌, arith}
+use Rattle.std.proofs.lemmas.Iterator.{YieldsList-from_range}
+use Rattle.std.proofs.lemmas.Iterator.Search.{all_from_yields_List}
+use Rattle.node.specs.Place.{place_of, lent_key}
+use Rattle.node.specs.Read.{entry_at, in_bounds}
+use Rattle.node.specs.laws.read.Keys.{within_each}
 use Rattle.node.proofs.read.ReadNode.bounds_hold.Goals as goal
 
-pub returns-then-within : goal.returns-then-within
-returns-then-within c =
+pub returns-else-bounds_are_keys : goal.returns-else-bounds_are_keys
+returns-else-bounds_are_keys c =
     let s = c.args.self in
-    let k = c.bounds_are_keys.ensures in
-    within_ends _ _ _ _ _ _ s.bytes k.bytes.0 k.bytes.1 _ _ _ c.if-n-eq0.false c.requires k.keys c.if-bounds_are_keys.true c.within.ensures (ap not c.if-within.true) c.within-then-within.ensures
+    let p = c.args.place in
+    all_from_yields_List (λ j. in_bounds c.args.order.code (place_of p) (lent_key p.lower) (lent_key p.upper) (entry_at s.node s.block.now j).key)
+    _ _ c.all.result c.all.ensures.ran (YieldsList-from_range 0 s.node.nkeys s.node.nkeys refl (omega arith)) (λ x b q k. search (rules, tests))
+    ∙ within_each _ _ _ _ _ _ 0 s.node.nkeys

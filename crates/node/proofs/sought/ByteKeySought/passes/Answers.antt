@@ -13,8 +13,8 @@ returns-then-x-self c =
 pub lead_at-requires : goal.lead_at-requires
 lead_at-requires c = second_lies _ _ _ c.requires c.args.r.lies (omega arith)
 
-pub returns : goal.returns
-returns c =
+pub returns-then-klen-ge16 : goal.returns-then-klen-ge16
+returns-then-klen-ge16 c =
     let s = c.args.self.now in
     λ t. pass_by_second _ _ _ _ _ _ c.requires s.first_is s.second_is _ _ (omega arith) c.lead_at-x.ensures c.if-x-self.false
     c.lead_at.ensures (ltb-true _ _ t)
