@@ -41,7 +41,7 @@ state_of size t heads bytes =
       info = t.info;
       virtual = t.by_id;
       subtype = t.subtype;
-      order = t.order;
+      order = t.order.code;
       xid = t.xid;
     }
 

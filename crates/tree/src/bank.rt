@@ -10,7 +10,7 @@ ghost use Rattle.tree.specs.State.{with_entries, marked_dirty};
 ghost use Rattle.tree.specs.Load.{adopted};
 ghost use Rattle.tree.specs.Workspace.{slot_bytes};
 ghost use Rattle.tree.specs.Trusts.{live, Ready};
-ghost use Rattle.tree.specs.internal.Bank.{node_in, Wrote, Put};
+ghost use Rattle.tree.specs.internal.Bank.{node_in, HasEntry, Wrote, Put};
 ghost use Rattle.tree.specs.internal.Undo.{Follows};
 
 use crate::lent::Lent;
@@ -25,6 +25,7 @@ use node::{head, slot};
 pub const SLOT_BLOCKS: usize = 4;
 
 // The words of a slot, without records where it is dead.
+#[tactic(auto, using(crate::specs::laws::slots::Bank::live_dead, crate::specs::laws::slots::Bank::live_same))]
 pub fn live_of(h: Head) -> Head
     ensures { result ≡ live h }
 {
@@ -39,6 +40,7 @@ pub fn live_of(h: Head) -> Head
 }
 
 // The same of slot n.
+#[tactic(auto, using(crate::specs::laws::slots::Bank::live_loaded))]
 pub fn live_at(heads: &[u64], n: usize) -> Head
     requires { (n + 1) * 9 ≤ length heads.now }
     ensures { result ≡ live (head_at heads.now n) }
@@ -47,6 +49,7 @@ pub fn live_at(heads: &[u64], n: usize) -> Head
 }
 
 // The bytes of slot n.
+#[tactic(auto, using(crate::specs::laws::slots::OneSlot::part_is))]
 pub fn slot_of(bytes: &[u8], size: usize, n: usize) -> &[u8]
     requires { (n * (4 * size) + 4 * size ≤ length bytes.now) × (size ≤ 65536) × (n ≤ 4096) }
     ensures slot { result.now ≡ slot_bytes size bytes.now n }
@@ -58,6 +61,7 @@ pub fn slot_of(bytes: &[u8], size: usize, n: usize) -> &[u8]
 }
 
 // Entry i of a slot, a child, becomes the child in slot c. The bytes in use stay the same.
+#[tactic(auto, using(crate::specs::laws::slots::OneSlot::links))]
 fn link_part(slot: &mut [u8], count: u64, i: u64, c: u64)
     requires room { (records_length count slot.old ≤ length slot.old) × (i < count) }
     requires old { is_child (val_at (entries_of count slot.old) i) ≡ true }
@@ -71,7 +75,7 @@ fn link_part(slot: &mut [u8], count: u64, i: u64, c: u64)
 // The child of entry i of slot n is in slot c now. The slot is saved.
 fn link_in(heads: &[u64], bytes: &mut [u8], lent: Lent, used: usize, n: usize, i: u64, c: u64)
     requires ready { Ready lent.size lent.slots used heads.now bytes.old }
-    requires n_lt_used { (n < used) × (i < (live (head_at heads.now n)).count)
+    requires entry { HasEntry used heads.now n i
         × (is_child (val_at (node_in lent.size heads.now bytes.old n).entries i) ≡ true) }
     ensures { Wrote lent.size heads.now bytes.old heads.now bytes.new n
         (with_entries (node_in lent.size heads.now bytes.old n) (with_value i (mem c) (node_in lent.size
@@ -84,9 +88,10 @@ fn link_in(heads: &[u64], bytes: &mut [u8], lent: Lent, used: usize, n: usize, i
 }
 
 // The child of entry i of slot n is in slot c now.
+#[tactic(auto, using(crate::specs::laws::slots::Undo::saves))]
 pub fn link(heads: &mut [u64], bytes: &mut [u8], lent: Lent, used: usize, n: usize, i: u64, c: u64)
     requires ready { Ready lent.size lent.slots used heads.old bytes.old }
-    requires n_lt_used { (n < used) × (i < (live (head_at heads.old n)).count)
+    requires entry { HasEntry used heads.old n i
         × (is_child (val_at (node_in lent.size heads.old bytes.old n).entries i) ≡ true) }
     ensures put { Put lent.size lent.slots heads.old bytes.old heads.new bytes.new n
         (with_entries (node_in lent.size heads.old bytes.old n) (with_value i (mem c) (node_in lent.size
@@ -98,6 +103,7 @@ pub fn link(heads: &mut [u64], bytes: &mut [u8], lent: Lent, used: usize, n: usi
 }
 
 // Slot n is dirty now.
+#[tactic(auto, using(crate::specs::laws::slots::Undo::saves))]
 pub fn mark_dirty(heads: &mut [u64], bytes: &mut [u8], lent: Lent, used: usize, n: usize)
     requires ready { Ready lent.size lent.slots used heads.old bytes.old }
     requires n_lt_used { n < used }

@@ -12,12 +12,14 @@ use crate::bank;
 use crate::editor::Tree;
 use crate::view::View;
 use node::build::NodeBuild;
+use node::fit::SlotNode;
 use node::head::Head;
 use node::room::Shape;
 use node::slot::Records;
 use node::{pack, room};
 
 // The node of slot n was written: its new block, its id, clean.
+#[tactic(auto, using(crate::specs::laws::slots::Block::words_written))]
 pub fn rewrite(heads: &mut [u64], n: usize, a: u64, id: Option<u64>)
     requires { (n + 1) * 9 ≤ length heads.old }
     ensures { heads.new
@@ -37,6 +39,7 @@ pub fn rewrite(heads: &mut [u64], n: usize, a: u64, id: Option<u64>)
 
 impl<'h, 'b> View<'h, 'b> {
     // The node of slot n packed and sealed into the first bytes of a part of the image, children in slots by their numbers.
+    #[tactic(auto, using(crate::specs::laws::slots::Block::pack_slot_laws, crate::specs::laws::slots::OneSlot::ready_slot))]
     pub fn pack_slot(self, dst: &mut [u8], n: usize, oid: u64, xid: u64, otype: u64)
         requires sized { Sized self.tree.info × (n < self.tree.used) × (self.tree.info.node_size ≤ length dst.old) }
         requires n_value { fits self.tree.info (eqb n self.tree.root) (node_in self.lent.size self.heads.now self.bytes.now n).level
@@ -65,6 +68,7 @@ impl<'h, 'b> View<'h, 'b> {
     }
 
     // What the root takes as packed: contents, keys and values.
+    #[tactic(auto, using(crate::specs::laws::slots::Block::root_length_laws, crate::specs::laws::slots::OneSlot::ready_slot))]
     pub fn root_length(self) -> u64
         requires sized { Sized self.tree.info × (self.tree.root < self.tree.used) }
         ensures { (result ≡ packed_length self.entry.tree.info true
@@ -83,7 +87,7 @@ impl<'h, 'b> View<'h, 'b> {
             root: true,
             level: h.level,
         };
-        records.packed_length(shape)
+        SlotNode { records, shape }.packed_length()
     }
 }
 

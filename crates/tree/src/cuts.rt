@@ -10,35 +10,29 @@ ghost use Rattle.tree.specs.Trusts.{Ready};
 ghost use Rattle.tree.specs.internal.Undo.{Follows};
 ghost use Rattle.tree.specs.internal.Index.{Rewritten};
 ghost use Rattle.tree.specs.internal.Way.{steps_in};
-ghost use Rattle.tree.specs.internal.Edits.{above_of, CutFits, CutsFit, ReadyEdited};
+ghost use Rattle.tree.specs.internal.Edits.{CutFits, CutsFit, ReadyEdited};
 ghost use Rattle.tree.specs.internal.Cutting.{up_of, room_of, counted, stays_whole, child_put, ChildFits, root_added, RootFits, CutIs};
 ghost use Rattle.tree.specs.internal.View.{seen};
 
 use crate::editor::Tree;
+use crate::floor::Spot;
 use crate::lent::Lent;
 use crate::view::{View, view};
-use crate::way::{MOST_LEVEL, Step};
+use crate::way::Step;
+use crate::writers::DirtyMark;
 use crate::{bank, undo, writers};
 use node::cut::CutAt;
+use node::fit::SlotNode;
 use node::head::Head;
+use node::read::MAX_DEPTH;
 use node::refusal::{Refusal, check};
 use node::room::Shape;
 use node::slot::Records;
 use node::val::{Child, Val};
 
-// The step above step j of a way; none above the root.
-fn step_above(way: &[Step], j: usize) -> Option<Step>
-    requires { j ≤ length way.now }
-    ensures { up_of result ≡ above_of way.now j }
-{
-    if j == 0 {
-        return None;
-    }
-    Some(way[j - 1])
-}
-
 impl<'h, 'b> View<'h, 'b> {
     // Whether the node of a slot needs no cut: it is dead, or it fits.
+    #[tactic(auto, using(crate::specs::laws::slots::OneSlot::ready_slot, crate::specs::laws::cut::Asked::fits_at_laws))]
     pub fn fits_at(self, n: usize) -> bool
         requires sized { Sized self.tree.info × (n < self.tree.used) }
         ensures { result ≡ stays_whole (seen self.entry) n }
@@ -56,16 +50,17 @@ impl<'h, 'b> View<'h, 'b> {
             root: n == self.tree.root,
             level: h.level,
         };
-        records.fits(h.used, shape)
+        SlotNode { records, shape }.fits(h.used)
     }
 
     // 15: whether a root above slot n, cut after so many entries, fits and is not at level 33.
+    #[tactic(auto, using(crate::specs::laws::cut::NewRoot::new_root_holds_laws))]
     fn new_root_holds(self, n: usize, place: u64) -> bool
         requires sized { Sized self.tree.info × (n < self.tree.used) × (1 ≤ place) }
         ensures { result ≡ new_root_holds (parted (seen self.entry) n place) n self.entry.tree.used }
     {
         let level = self.level_at(n);
-        if MOST_LEVEL <= level {
+        if MAX_DEPTH <= level {
             return false;
         }
         let left = self.key_at(n, 0);
@@ -85,13 +80,8 @@ impl Tree {
         requires { (self.used ≤ slots) × (slots ≤ 4096) × (n ≤ 2) }
         ensures { result ≡ room_of self.info.node_count self.used slots n }
     {
-        if u64::MAX - (n as u64) < self.info.node_count {
-            return Err(Refusal::Count);
-        }
-        if slots < self.used + n {
-            return Err(Refusal::NoSlot);
-        }
-        Ok(())
+        check(Refusal::Count, self.info.node_count <= u64::MAX - n as u64)?;
+        check(Refusal::NoSlot, self.used + n <= slots)
     }
 
     // So many nodes more in the node count.
@@ -121,17 +111,20 @@ impl Tree {
     {
         let len = view!(self, heads, bytes, lent).first_key(c, scratch);
         let at = view!(self, heads, bytes, lent).offset_at(n, i);
+        let spot = Spot {
+            slot: n,
+            index: i,
+            at,
+        };
         writers::insert_at(
             heads,
             bytes,
             lent,
             self.used,
-            n,
-            i,
-            at,
+            spot,
             &scratch[..len],
             Val::Child(Child::Mem(c as u64)),
-            true,
+            DirtyMark::Set,
         );
     }
 
@@ -193,6 +186,7 @@ impl Tree {
     }
 
     // Slot n, the root, cut after so many entries: 15, 17, 11.
+    #[tactic(auto, using(crate::specs::laws::base::Refused::handed_on, crate::specs::laws::cut::CutAt::cut_root_laws))]
     fn cut_root(
         self,
         heads: &mut [u64],
@@ -214,12 +208,18 @@ impl Tree {
         check(Refusal::NewRoot, holds)?;
         self.room_for(lent.slots, 2)?;
         let r = self.used;
-        let t = self.part(heads, bytes, lent, n, found.place as u64, found.at);
+        let spot = Spot {
+            slot: n,
+            index: found.place as u64,
+            at: found.at,
+        };
+        let t = self.part(heads, bytes, lent, spot);
         let top = t.grow_root(heads, bytes, lent, n, r, scratch);
         Ok(top.more_nodes(2))
     }
 
     // Slot n, a child, cut after so many entries: 17, 11. Its right part stands after it.
+    #[tactic(auto, using(crate::specs::laws::base::Refused::handed_on, crate::specs::laws::cut::CutAt::child_full))]
     fn cut_child(
         self,
         heads: &mut [u64],
@@ -240,12 +240,18 @@ impl Tree {
     {
         self.room_for(lent.slots, 1)?;
         let r = self.used;
-        let t = self.part(heads, bytes, lent, n, found.place as u64, found.at);
+        let spot = Spot {
+            slot: n,
+            index: found.place as u64,
+            at: found.at,
+        };
+        let t = self.part(heads, bytes, lent, spot);
         t.link_child(heads, bytes, lent, up.slot, up.child + 1, r, scratch);
         Ok(t.more_nodes(1))
     }
 
     // A node that does not fit is cut: 13, 14, at the root 15, 17, 11.
+    #[tactic(auto, using(crate::specs::laws::base::Refused::handed_on, crate::specs::laws::cut::CutNode::node_uncut))]
     fn cut_node(
         self,
         heads: &mut [u64],
@@ -275,7 +281,7 @@ impl Tree {
             root: n == self.root,
             level: h.level,
         };
-        let found = records.cut(shape)?;
+        let found = SlotNode { records, shape }.cut()?;
         match up {
             None => self.cut_root(heads, bytes, lent, n, found, scratch),
             Some(up) => self.cut_child(heads, bytes, lent, up, n, found, scratch),
@@ -283,6 +289,7 @@ impl Tree {
     }
 
     // On a way, bottom up, each node that does not fit is cut.
+    #[tactic(auto, using(crate::specs::laws::base::Refused::handed_on, crate::specs::laws::cut::Cuts::from_refused))]
     pub fn cuts(
         self,
         heads: &mut [u64],
@@ -301,10 +308,12 @@ impl Tree {
         ensures follows { Follows lent.size lent.slots self.used heads.old bytes.old heads.new bytes.new }
     {
         let mut t = self;
-        for j in (0..way.len()).rev() {
-            let up = step_above(way, j);
-            t = t.cut_node(heads, bytes, lent, up, way[j].slot, scratch)?;
+        for [up, step] in way.array_windows::<2>().rev() {
+            t = t.cut_node(heads, bytes, lent, Some(*up), step.slot, scratch)?;
         }
-        Ok(t)
+        match way.first() {
+            Some(root) => t.cut_node(heads, bytes, lent, None, root.slot, scratch),
+            None => Ok(t),
+        }
     }
 }

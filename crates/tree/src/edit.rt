@@ -1,27 +1,31 @@
 // What edits share: dirty marks, a node cut in two.
 ghost use Rattle.std.specs.Prelude.{◌≡◌, ◌+◌, ◌*◌, ◌^◌, ◌≤◌, ◌<◌, length, take};
 ghost use Rattle.node.specs.Find.{key_at};
-ghost use Rattle.node.specs.Records.{records_length};
 ghost use Rattle.node.specs.Slot.{head_at};
-ghost use Rattle.tree.specs.Workspace.{slot_bytes, state_of};
+ghost use Rattle.tree.specs.Workspace.{state_of};
 ghost use Rattle.tree.specs.State.{node_at};
 ghost use Rattle.tree.specs.Edit.{parted, set_index_key, index_keys};
 ghost use Rattle.tree.specs.Trusts.{live, Ready};
+ghost use Rattle.tree.specs.internal.Bank.{HasEntry};
 ghost use Rattle.tree.specs.internal.Undo.{saved_at, Follows};
+ghost use Rattle.tree.specs.internal.Writers.{SpotUpto};
 ghost use Rattle.tree.specs.internal.Way.{steps_in, WayIn, Dirtied, Touched};
 ghost use Rattle.tree.specs.internal.Index.{key_differs, key_put, Rewritten, KeyRoom, IndexRoom};
 ghost use Rattle.tree.specs.internal.View.{seen};
 
 use crate::editor::Tree;
+use crate::floor::Spot;
 use crate::lent::Lent;
 use crate::view::{View, view};
 use crate::way::Step;
+use crate::writers::DirtyMark;
 use crate::{bank, undo, writers};
 use node::bytes;
 use node::head::Head;
 
 impl<'h, 'b> View<'h, 'b> {
     // Whether the index key of child i of slot n is another than the first key of slot c.
+    #[tactic(auto, using(crate::specs::laws::cut::IndexKey::key_differs_laws, node::specs::laws::order::OrderSteps::unlike))]
     fn key_differs(self, n: usize, i: u64, c: usize) -> bool
         ensures { result ≡ key_differs (seen self.entry) n i c }
     {
@@ -29,6 +33,7 @@ impl<'h, 'b> View<'h, 'b> {
     }
 
     // The first key of a slot, copied out. The answer is its length.
+    #[tactic(auto, using(crate::specs::laws::cut::IndexKey::first_key_laws))]
     pub fn first_key(self, c: usize, scratch: &mut [u8]) -> usize
         requires c_in_bounds { length (key_at (node_at (seen self) c).entries 0)
             ≤ length scratch.old }
@@ -44,6 +49,7 @@ impl<'h, 'b> View<'h, 'b> {
 
 impl Tree {
     // Every slot of a way dirty.
+    #[tactic(auto, using(crate::specs::laws::slots::Touch::mark_way_laws))]
     pub fn mark_way(self, heads: &mut [u64], bytes: &mut [u8], lent: Lent, way: &[Step])
         requires { (Ready lent.size lent.slots self.used heads.old bytes.old) × (WayIn self.used way.now) }
         ensures { Dirtied lent.size lent.slots self way.now (length way.now) heads.old bytes.old
@@ -55,6 +61,7 @@ impl Tree {
     }
 
     // The leaf and the root; in a physical tree the whole way.
+    #[tactic(auto, using(crate::specs::laws::slots::Touch::touch_laws))]
     pub fn touch(self, heads: &mut [u64], bytes: &mut [u8], lent: Lent, way: &[Step])
         requires ready { (Ready lent.size lent.slots self.used heads.old bytes.old) × (WayIn self.used way.now) }
         requires root_lt_used { (self.root < self.used) × (1 ≤ length way.now) }
@@ -71,32 +78,23 @@ impl Tree {
     }
 
     // As `part`, of a slot that is saved.
-    fn part_in(
-        mut self,
-        heads: &mut [u64],
-        bytes: &mut [u8],
-        lent: Lent,
-        n: usize,
-        i: u64,
-        at: usize,
-    ) -> Tree
+    fn part_in(mut self, heads: &mut [u64], bytes: &mut [u8], lent: Lent, spot: Spot) -> Tree
         requires ready_2 { Ready lent.size lent.slots self.used heads.old bytes.old }
-        requires fact { saved_at lent.slots heads.old n ≡ 0 → ⊥ }
-        requires used_lt_slots { (self.used < lent.slots) × (n < self.used) × (i ≤ (live (head_at heads.old n)).count) × (at
-            ≡ records_length i (slot_bytes lent.size bytes.old n)) }
+        requires fact { saved_at lent.slots heads.old spot.slot ≡ 0 → ⊥ }
+        requires used_lt_slots { (self.used < lent.slots) × SpotUpto lent.size self.used heads.old bytes.old spot }
         ensures after { state_of lent.size result heads.new bytes.new
-            ≡ parted (state_of lent.size self heads.old bytes.old) n i }
+            ≡ parted (state_of lent.size self heads.old bytes.old) spot.slot spot.index }
         ensures ready { Ready lent.size lent.slots result.used heads.new bytes.new }
         ensures follows { Follows lent.size lent.slots self.used heads.old bytes.old heads.new bytes.new }
     {
         let c = self.used;
-        let h = bank::live_at(heads, n);
+        let h = bank::live_at(heads, spot.slot);
         let w = bank::SLOT_BLOCKS * lent.size;
-        let rest = h.used as usize - at;
-        bytes::shift(bytes, n * w + at, c * w, rest);
+        let rest = h.used as usize - spot.at;
+        bytes::shift(bytes, spot.slot * w + spot.at, c * w, rest);
         let right = Head {
             level: h.level,
-            count: h.count - i,
+            count: h.count - spot.index,
             used: rest as u64,
             placed: 0,
             block: 0,
@@ -107,37 +105,29 @@ impl Tree {
         };
         right.store(heads, c);
         let left = Head {
-            count: i,
-            used: at as u64,
+            count: spot.index,
+            used: spot.at as u64,
             dirty: 1,
             ..h
         };
-        left.store(heads, n);
+        left.store(heads, spot.slot);
         self.used = c + 1;
         self
     }
-    // Slot n keeps its first i entries, the next slot takes the rest; both are dirty. The rest starts at byte `at` of slot n.
-    pub fn part(
-        self,
-        heads: &mut [u64],
-        bytes: &mut [u8],
-        lent: Lent,
-        n: usize,
-        i: u64,
-        at: usize,
-    ) -> Tree
+    // A slot keeps the entries before one of them, the next slot takes the rest; both are dirty.
+    pub fn part(self, heads: &mut [u64], bytes: &mut [u8], lent: Lent, spot: Spot) -> Tree
         requires ready_2 { Ready lent.size lent.slots self.used heads.old bytes.old }
-        requires used_lt_slots { (self.used < lent.slots) × (n < self.used) × (i ≤ (live (head_at heads.old n)).count) × (at
-            ≡ records_length i (slot_bytes lent.size bytes.old n)) }
+        requires used_lt_slots { (self.used < lent.slots) × SpotUpto lent.size self.used heads.old bytes.old spot }
         ensures after { state_of lent.size result heads.new bytes.new
-            ≡ parted (state_of lent.size self heads.old bytes.old) n i }
+            ≡ parted (state_of lent.size self heads.old bytes.old) spot.slot spot.index }
         ensures ready { Ready lent.size lent.slots result.used heads.new bytes.new }
         ensures follows { Follows lent.size lent.slots self.used heads.old bytes.old heads.new bytes.new }
     {
-        undo::save(heads, bytes, lent, self.used, n);
-        self.part_in(heads, bytes, lent, n, i, at)
+        undo::save(heads, bytes, lent, self.used, spot.slot);
+        self.part_in(heads, bytes, lent, spot)
     }
     // Entry i of slot n with another key; the slot is dirty.
+    #[tactic(auto, using(crate::specs::laws::cut::IndexKey::rekey_done))]
     pub fn rekey(
         self,
         heads: &mut [u64],
@@ -148,16 +138,22 @@ impl Tree {
         key: &[u8],
     )
         requires ready { Ready lent.size lent.slots self.used heads.old bytes.old }
-        requires place { (n < self.used) × (i < (live (head_at heads.old n)).count) }
+        requires place { HasEntry self.used heads.old n i }
         requires room { ((live (head_at heads.old n)).used + length key.now ≤ 4 * lent.size) × (length key.now < 2 ^ 16) }
         ensures { Rewritten lent.size lent.slots self heads.old bytes.old heads.new bytes.new
             (key_put (state_of lent.size self heads.old bytes.old) n i key.now) }
     {
         let at = view!(self, heads, bytes, lent).offset_at(n, i);
-        writers::rekey_at(heads, bytes, lent, self.used, n, i, at, key, true);
+        let spot = Spot {
+            slot: n,
+            index: i,
+            at,
+        };
+        writers::rekey_at(heads, bytes, lent, self.used, spot, key, DirtyMark::Set);
     }
 
     // The index key of child i of slot n set to the first key of slot c; n is dirty if that changes it.
+    #[tactic(auto, using(crate::specs::laws::cut::IndexKey::set_index_key_laws, crate::specs::laws::base::Tests::negated))]
     pub fn set_index_key(
         self,
         heads: &mut [u64],
@@ -179,6 +175,7 @@ impl Tree {
         }
     }
     // On a way, bottom up: each index key is its child's first key.
+    #[tactic(auto, using(crate::specs::laws::cut::IndexKeys::indexed_none))]
     pub fn index_keys(
         self,
         heads: &mut [u64],
@@ -188,15 +185,20 @@ impl Tree {
         scratch: &mut [u8],
     )
         requires ready { (Ready lent.size lent.slots self.used heads.old bytes.old) × (WayIn self.used way.now) }
-        requires steps { 1 ≤ length way.now }
         requires room { IndexRoom lent.size self heads.old bytes.old way.now (length scratch.old) }
         ensures { Rewritten lent.size lent.slots self heads.old bytes.old heads.new bytes.new
             (index_keys (steps_in way.now) (state_of lent.size self heads.old bytes.old)) }
     {
-        for j in (1..way.len()).rev() {
-            let above = way[j - 1];
-            let c = way[j].slot;
-            self.set_index_key(heads, bytes, lent, above.slot, above.child, c, scratch);
+        for [above, below] in way.array_windows::<2>().rev() {
+            self.set_index_key(
+                heads,
+                bytes,
+                lent,
+                above.slot,
+                above.child,
+                below.slot,
+                scratch,
+            );
         }
     }
 }

@@ -3,12 +3,13 @@ ghost use Rattle.std.specs.Prelude.{◌≡◌, true, ◌+◌, ◌≤◌, ◌<◌
 ghost use Rattle.node.specs.Bytes.{window};
 ghost use Rattle.node.specs.declared.val.Child.TheVariants.{Disk};
 ghost use Rattle.node.specs.Find.{key_at, val_at};
-ghost use Rattle.node.specs.Slot.{head_at, is_child};
+ghost use Rattle.node.specs.Slot.{is_child};
 ghost use Rattle.node.specs.Read.{spans_length, on_disk, read_of, map_ok};
 ghost use Rattle.tree.specs.Lent.{block_at, lent_of};
 ghost use Rattle.tree.specs.State.{node_at};
 ghost use Rattle.tree.specs.Load.{tighter_lower, tighter_upper, child_bounds, load_child};
-ghost use Rattle.tree.specs.Trusts.{live, Ready};
+ghost use Rattle.tree.specs.Trusts.{Ready};
+ghost use Rattle.tree.specs.internal.Bank.{HasEntry};
 ghost use Rattle.tree.specs.internal.Brought.{brought};
 ghost use Rattle.tree.specs.internal.Undo.{Follows};
 ghost use Rattle.tree.specs.Workspace.{state_of};
@@ -33,14 +34,14 @@ pub struct Tree {
     pub info: BTreeInfo,
     pub by_id: bool,
     pub subtype: u64,
-    pub order: u64,
+    pub order: Order,
     // The opened transaction.
     pub xid: u64,
 }
 
-// A bound: the index key of an entry of a slot.
+// An entry of a slot; as a bound, the key that it has there.
 #[derive(Clone, Copy)]
-pub struct Bound {
+pub struct Position {
     pub slot: usize,
     pub index: u64,
 }
@@ -53,13 +54,14 @@ pub struct Bounds<K> {
 }
 
 // No bounds: a root's.
-pub const UNBOUNDED: Bounds<Bound> = Bounds {
+pub const UNBOUNDED: Bounds<Position> = Bounds {
     lower: None,
     upper: None,
 };
 
 impl<'h, 'b> View<'h, 'b> {
     // The key of an entry of a slot; none where there is no such slot or entry.
+    #[tactic(auto, using(crate::specs::laws::slots::Records::key_past))]
     pub fn key_at(self, n: usize, i: u64) -> &'b [u8]
         ensures { result.now
             ≡ key_at (node_at (seen self.entry) n).entries i }
@@ -72,6 +74,7 @@ impl<'h, 'b> View<'h, 'b> {
     }
 
     // The child of an entry of a slot.
+    #[tactic(auto, using(crate::specs::laws::slots::Records::child_past, crate::specs::laws::slots::Records::value_found))]
     pub fn child_at(self, n: usize, i: u64) -> Option<Child>
         ensures { result
             ≡ child_of (val_at (node_at (seen self.entry) n).entries i) }
@@ -84,6 +87,7 @@ impl<'h, 'b> View<'h, 'b> {
     }
 
     // How many entries a slot holds; none where there is no such slot.
+    #[tactic(auto, using(crate::specs::laws::slots::Records::count_is))]
     pub fn count_at(self, n: usize) -> u64
         ensures { (result
             ≡ length (node_at (seen self.entry) n).entries)
@@ -93,6 +97,7 @@ impl<'h, 'b> View<'h, 'b> {
     }
 
     // The level of a slot's node.
+    #[tactic(auto, using(crate::specs::laws::load::Fetch::level_out, crate::specs::laws::load::Fetch::level_is))]
     pub fn level_at(self, n: usize) -> u64
         ensures { result ≡ (node_at (seen self.entry) n).level }
     {
@@ -105,7 +110,7 @@ impl<'h, 'b> View<'h, 'b> {
 
     // The key of a bound, if there is one.
     #[tactic(auto, using(crate::specs::laws::load::Fetch::bound_keys))]
-    fn bound_key(self, b: Option<Bound>) -> Option<&'b [u8]>
+    fn bound_key(self, b: Option<Position>) -> Option<&'b [u8]>
         ensures { edge_of result ≡ bound_of (seen self.entry) b }
     {
         let bound = b?;
@@ -114,43 +119,39 @@ impl<'h, 'b> View<'h, 'b> {
 
     // The higher of a lower bound and the key of entry i of slot n.
     #[tactic(auto, using(crate::specs::laws::load::Fetch::tighter))]
-    fn tighter_lower(self, b: Option<Bound>, n: usize, i: u64) -> Option<Bound>
+    fn tighter_lower(self, b: Option<Position>, n: usize, i: u64) -> Option<Position>
         ensures bound { bound_of (seen self.entry) result
-            ≡ tighter_lower self.entry.tree.order (bound_of (seen self.entry) b)
+            ≡ tighter_lower self.entry.tree.order.code (bound_of (seen self.entry) b)
             (key_at (node_at (seen self.entry) n).entries i) }
         ensures within { BoundIn self.entry.tree.used b → n < self.entry.tree.used → BoundIn self.entry.tree.used result }
     {
-        let order = Order {
-            code: self.tree.order,
-        };
+        let order = self.tree.order;
         match self.bound_key(b) {
             Some(old) if !order.less(old, self.key_at(n, i)) => b,
-            _ => Some(Bound { slot: n, index: i }),
+            _ => Some(Position { slot: n, index: i }),
         }
     }
 
     // The lower of an upper bound and the key of entry i of slot n.
     #[tactic(auto, using(crate::specs::laws::load::Fetch::tighter))]
-    fn tighter_upper(self, b: Option<Bound>, n: usize, i: u64) -> Option<Bound>
+    fn tighter_upper(self, b: Option<Position>, n: usize, i: u64) -> Option<Position>
         ensures bound { bound_of (seen self.entry) result
-            ≡ tighter_upper self.entry.tree.order (bound_of (seen self.entry) b)
+            ≡ tighter_upper self.entry.tree.order.code (bound_of (seen self.entry) b)
             (key_at (node_at (seen self.entry) n).entries i) }
         ensures within { BoundIn self.entry.tree.used b → n < self.entry.tree.used → BoundIn self.entry.tree.used result }
     {
-        let order = Order {
-            code: self.tree.order,
-        };
+        let order = self.tree.order;
         match self.bound_key(b) {
             Some(old) if !order.less(self.key_at(n, i), old) => b,
-            _ => Some(Bound { slot: n, index: i }),
+            _ => Some(Position { slot: n, index: i }),
         }
     }
 
     // The bounds of child i of slot n.
     #[tactic(auto, using(crate::specs::laws::load::Fetch::inner_bounds))]
-    pub fn child_bounds(self, b: Bounds<Bound>, n: usize, i: u64) -> Bounds<Bound>
+    pub fn child_bounds(self, b: Bounds<Position>, n: usize, i: u64) -> Bounds<Position>
         ensures bounds { bounds_of (seen self.entry) result
-            ≡ child_bounds self.entry.tree.order (bounds_of (seen self.entry) b)
+            ≡ child_bounds self.entry.tree.order.code (bounds_of (seen self.entry) b)
             (node_at (seen self.entry) n).entries i }
         ensures within { BoundsIn self.entry.tree.used b → n < self.entry.tree.used → BoundsIn self.entry.tree.used result }
     {
@@ -170,7 +171,7 @@ impl<'h, 'b> View<'h, 'b> {
     fn read_child<'i>(
         self,
         image: &'i [u8],
-        b: Bounds<Bound>,
+        b: Bounds<Position>,
         n: usize,
         r: u64,
         a: u64,
@@ -192,15 +193,14 @@ impl<'h, 'b> View<'h, 'b> {
             lower,
             upper,
         };
-        let order = Order {
-            code: self.tree.order,
-        };
+        let order = self.tree.order;
         map::load_block(image, self.lent, order, place, a)
     }
 }
 
 impl Tree {
     // A node that was read, brought into the next slot as child i of slot n.
+    #[tactic(auto, using(crate::specs::laws::slots::Tree::bring_state, crate::specs::laws::slots::Tree::bring_ready))]
     pub fn bring(
         mut self,
         read: ReadNode<'_>,
@@ -213,7 +213,7 @@ impl Tree {
     ) -> Tree
         requires ready_2 { Ready lent.size lent.slots self.used heads.old bytes.old }
         requires nkeys_bound { (spans_length read.node read.block.now 0 read.node.nkeys ≤ 65532) × (length read.block.now ≡ lent.size)
-            × (self.used < lent.slots) × (n < self.used) × (i < (live (head_at heads.old n)).count)
+            × (self.used < lent.slots) × HasEntry self.used heads.old n i
             × (is_child (val_at (node_at (state_of lent.size self heads.old bytes.old) n).entries i) ≡ true) }
         ensures after { state_of lent.size result heads.new bytes.new
             ≡ (brought (state_of lent.size self heads.old bytes.old) n i (on_disk read.entry.node read.entry.block.now) a).state }
@@ -235,7 +235,7 @@ impl Tree {
         heads: &mut [u64],
         bytes: &mut [u8],
         lent: Lent,
-        b: Bounds<Bound>,
+        b: Bounds<Position>,
         n: usize,
         i: u64,
         r: u64,
@@ -265,7 +265,7 @@ impl Tree {
         heads: &mut [u64],
         bytes: &mut [u8],
         lent: Lent,
-        b: Bounds<Bound>,
+        b: Bounds<Position>,
         n: usize,
         i: u64,
     ) -> Result<(Tree, usize), Refusal>

@@ -12,7 +12,7 @@ ghost use Rattle.tree.specs.internal.Floor.{entry_in, got_last, last_means, Entr
 ghost use Rattle.tree.specs.internal.Floor.{floored_of, floor_way, FloorReady, SpotIs};
 ghost use Rattle.tree.specs.internal.View.{seen};
 
-use crate::editor::{Bound, Bounds, Tree, UNBOUNDED};
+use crate::editor::{Bounds, Position, Tree, UNBOUNDED};
 use crate::lent::Lent;
 use crate::view::{View, view};
 use crate::{bank, lent};
@@ -21,14 +21,7 @@ use node::order::Order;
 use node::record::Record;
 use node::refusal::{Refusal, check};
 
-// The entry of a slot that a lookup ended at.
-#[derive(Clone, Copy)]
-pub struct Last {
-    pub slot: usize,
-    pub index: u64,
-}
-
-// The same, and where its record starts.
+// An entry of a slot, and where its record starts.
 #[derive(Clone, Copy)]
 pub struct Spot {
     pub slot: usize,
@@ -38,7 +31,8 @@ pub struct Spot {
 
 impl<'h, 'b> View<'h, 'b> {
     // The last entry of slot n.
-    fn last_at(self, n: usize) -> Option<Last>
+    #[tactic(auto, using(crate::specs::laws::lookup::FloorLeaf::last_at_laws))]
+    fn last_at(self, n: usize) -> Option<Position>
         ensures answer { got_last (seen self.entry) result ≡ last_at (seen self.entry) n }
         ensures entry { IfSome result (AtEntry self.entry.lent.size self.entry.lent.slots self.entry.tree self.entry.heads.now self.entry.bytes.now) }
     {
@@ -46,31 +40,31 @@ impl<'h, 'b> View<'h, 'b> {
         if count == 0 {
             return None;
         }
-        Some(Last {
+        Some(Position {
             slot: n,
             index: count - 1,
         })
     }
 
     // The last entry of slot n that is not above a key.
-    fn floor_at(self, n: usize, key: &[u8]) -> Option<Last>
+    #[tactic(auto, using(crate::specs::laws::lookup::FloorLeaf::floor_at_laws))]
+    fn floor_at(self, n: usize, key: &[u8]) -> Option<Position>
         ensures answer { got_last (seen self.entry) result ≡ floor_at (seen self.entry) n key.now }
         ensures entry { IfSome result (AtEntry self.entry.lent.size self.entry.lent.slots self.entry.tree self.entry.heads.now self.entry.bytes.now) }
     {
-        let order = Order {
-            code: self.tree.order,
-        };
+        let order = self.tree.order;
         let last = self.records(n).not_above(order, key);
         if last.count == 0 {
             return None;
         }
-        Some(Last {
+        Some(Position {
             slot: n,
             index: last.count - 1,
         })
     }
 
     // An entry copied out as its record: 20.
+    #[tactic(auto, using(crate::specs::laws::lookup::LoadedCalls::copy_at_laws, crate::specs::laws::slots::OneSlot::ready_slot))]
     fn copy_at(self, spot: Spot, out: &mut [u8]) -> Result<(Tree, Option<usize>), Refusal>
         requires entry_ready { EntryReady self.lent.size self.lent.slots self.tree self.heads.now self.bytes.now spot.slot spot.index }
         requires at_value { spot.at ≡ records_length spot.index (slot_bytes self.lent.size self.bytes.now spot.slot) }
@@ -91,6 +85,7 @@ impl<'h, 'b> View<'h, 'b> {
     }
 
     // Entry i of slot n copied out as its record: 20.
+    #[tactic(auto, using(crate::specs::laws::lookup::LoadedCalls::spot_at))]
     fn copy_record(self, n: usize, i: u64, out: &mut [u8]) -> Result<(Tree, Option<usize>), Refusal>
         requires { EntryReady self.lent.size self.lent.slots self.tree self.heads.now self.bytes.now n i }
         ensures answer { floor_means self.entry.lent.size self.entry.heads.now self.entry.bytes.now out.new result
@@ -110,14 +105,13 @@ impl<'h, 'b> View<'h, 'b> {
     }
 
     // The last entry not above a key in the leaf of its way, where every child on the way is loaded.
+    #[tactic(auto, using(crate::specs::laws::lookup::LoadedCalls::spot_is))]
     fn floor_loaded(self, key: &[u8]) -> Option<Spot>
         ensures { IfSome result (SpotIs self.entry.lent.size self.entry.lent.slots self.entry.tree self.entry.heads.now
             self.entry.bytes.now key.now) }
     {
         let leaf = self.leaf_of(key)?;
-        let order = Order {
-            code: self.tree.order,
-        };
+        let order = self.tree.order;
         let last = self.records(leaf).not_above(order, key);
         if last.count == 0 {
             return None;
@@ -132,16 +126,17 @@ impl<'h, 'b> View<'h, 'b> {
 
 impl Tree {
     // The last entry d levels below slot n.
+    #[tactic(auto, using(crate::specs::laws::base::Refused::handed_on, crate::specs::laws::lookup::FloorDown::last_refused))]
     fn last_from(
         self,
         image: &[u8],
         heads: &mut [u64],
         bytes: &mut [u8],
         lent: Lent,
-        b: Bounds<Bound>,
+        b: Bounds<Position>,
         n: usize,
         d: u64,
-    ) -> Result<(Tree, Option<Last>), Refusal>
+    ) -> Result<(Tree, Option<Position>), Refusal>
         requires ready_2 { Ready lent.size lent.slots self.used heads.old bytes.old }
         requires bounds_in { BoundsIn self.used b }
         ensures answer { last_means lent.size heads.new bytes.new result
@@ -165,18 +160,19 @@ impl Tree {
 
     // Left of child i of slot n, where no entry below it answered: the last entry d levels below child i - 1,
     // unless the key is below child i's.
+    #[tactic(auto, using(crate::specs::laws::base::Refused::handed_on, crate::specs::laws::lookup::FloorDown::left_refused))]
     fn floor_left(
         self,
         image: &[u8],
         heads: &mut [u64],
         bytes: &mut [u8],
         lent: Lent,
-        b: Bounds<Bound>,
+        b: Bounds<Position>,
         n: usize,
         i: u64,
         d: u64,
         key: &[u8],
-    ) -> Result<(Tree, Option<Last>), Refusal>
+    ) -> Result<(Tree, Option<Position>), Refusal>
         requires ready_2 { Ready lent.size lent.slots self.used heads.old bytes.old }
         requires bounds_in { BoundsIn self.used b }
         ensures answer { last_means lent.size heads.new bytes.new result
@@ -191,7 +187,7 @@ impl Tree {
         if i == 0 {
             return Ok((self, None));
         }
-        let order = Order { code: self.order };
+        let order = self.order;
         let above = order.less(key, view!(self, heads, bytes, lent).key_at(n, i));
         if above {
             return Ok((self, None));
@@ -202,17 +198,18 @@ impl Tree {
     }
 
     // The last entry not above a key, d levels below slot n.
+    #[tactic(auto, using(crate::specs::laws::base::Refused::handed_on, crate::specs::laws::lookup::FloorDown::floor_refused))]
     fn floor_from(
         self,
         image: &[u8],
         heads: &mut [u64],
         bytes: &mut [u8],
         lent: Lent,
-        b: Bounds<Bound>,
+        b: Bounds<Position>,
         n: usize,
         d: u64,
         key: &[u8],
-    ) -> Result<(Tree, Option<Last>), Refusal>
+    ) -> Result<(Tree, Option<Position>), Refusal>
         requires ready_2 { Ready lent.size lent.slots self.used heads.old bytes.old }
         requires bounds_in { BoundsIn self.used b }
         ensures answer { last_means lent.size heads.new bytes.new result
@@ -238,6 +235,7 @@ impl Tree {
     }
 
     // Of floor, what follows 12: the lookup, 20. Refused, it may leave slots changed.
+    #[tactic(auto, using(crate::specs::laws::base::Refused::handed_on, crate::specs::laws::lookup::FloorCall::way_refused))]
     fn floor_way(
         self,
         image: &[u8],
@@ -267,6 +265,7 @@ impl Tree {
     }
 
     // floor on slots that are trusted, whatever of the way is loaded.
+    #[tactic(auto, using(crate::specs::laws::lookup::FloorCall::in_argument, crate::specs::laws::lookup::FloorCall::in_argument_same))]
     fn floor_down(
         self,
         image: &[u8],
@@ -285,7 +284,7 @@ impl Tree {
         ensures left { FloorCalled image.now lent self heads.old bytes.old
             heads.new bytes.new result }
     {
-        let order = Order { code: self.order };
+        let order = self.order;
         check(Refusal::Argument, order.keyed(key.len()))?;
         self.undone(
             heads,
@@ -321,6 +320,7 @@ impl Tree {
     }
 
     // The last entry not above a key; its record is copied to the output's start.
+    #[tactic(auto, using(crate::specs::laws::lookup::FloorCall::floor_laws, crate::specs::laws::refusal1::Calls::called_trusts))]
     pub fn floor(
         self,
         image: &[u8],

@@ -43,9 +43,7 @@ impl<'h, 'b> View<'h, 'b> {
         ensures { FoundAt self.entry.lent.size (seen self.entry) self.entry.heads.now
             self.entry.bytes.now n key.now result }
     {
-        let order = Order {
-            code: self.tree.order,
-        };
+        let order = self.tree.order;
         self.records(n).below(order, key)
     }
 }

@@ -1,5 +1,5 @@
 // What a key holds: found in its leaf, copied out.
-ghost use Rattle.std.specs.Prelude.{◌≡◌, true, ◌+◌, ◌<◌, length};
+ghost use Rattle.std.specs.Prelude.{◌≡◌, true, length};
 ghost use Rattle.node.specs.Records.{entries_of};
 ghost use Rattle.node.specs.Slot.{suits};
 ghost use Rattle.tree.specs.Lent.{lent_of};
@@ -10,25 +10,19 @@ ghost use Rattle.tree.specs.Workspace.{state_of};
 ghost use Rattle.tree.specs.Answers.{got_means, got_in, got_output, got_leaves};
 ghost use Rattle.tree.specs.Trusts.{Ready, Trusts, GotCalled};
 ghost use Rattle.tree.specs.internal.Undo.{Follows};
-ghost use Rattle.tree.specs.internal.Get.{held_means, HeldIn, got_at, got_way, got_of, ReadyGot};
+ghost use Rattle.tree.specs.internal.Get.{held_means, got_at, got_way, got_of, ReadyGot};
 ghost use Rattle.tree.specs.internal.View.{seen};
 
 use crate::editor::Tree;
 use crate::lent;
 use crate::lent::Lent;
 use crate::view::{View, view};
+use node::bytes;
 use node::order::Order;
 use node::record::Record;
 use node::refusal::{Refusal, check};
 use node::slot::Records;
-use node::{bytes, record};
-
-// What a key holds in a slot: a ghost, or a value, which starts there and has so many bytes.
-#[derive(Clone, Copy)]
-pub enum Held {
-    Ghost,
-    Value(usize, usize),
-}
+use node::val::Val;
 
 // What get copied out: a ghost, which has nothing to copy, or a value of so many bytes, which stand at the output's start.
 #[derive(Clone, Copy)]
@@ -38,11 +32,10 @@ pub enum Copied {
 }
 
 // What a key holds among the records of a leaf.
-fn held_in(records: Records<'_>, order: Order, key: &[u8]) -> Option<Held>
-    requires { suits true (entries_of records.count records.slot.now) ≡ true }
-    ensures answer { held_means records.entry.slot.now result
+#[tactic(auto, using(crate::specs::laws::lookup::GetLeaf::holding))]
+fn held_in<'s>(records: Records<'s>, order: Order, key: &[u8]) -> Option<Val<'s>>
+    ensures { held_means result
         ≡ held order.code key.now (entries_of records.entry.count records.entry.slot.now) }
-    ensures within { HeldIn records.entry.slot.now result }
 {
     let f = records.below(order, key);
     if !f.found {
@@ -51,12 +44,8 @@ fn held_in(records: Records<'_>, order: Order, key: &[u8]) -> Option<Held>
     let r = Record {
         slot: records.slot,
         at: f.at,
-    }
-    .parts();
-    if r.mark == record::GHOST {
-        return Some(Held::Ghost);
-    }
-    Some(Held::Value(r.value, r.vlen))
+    };
+    Some(r.value())
 }
 
 impl<'h, 'b> View<'h, 'b> {
@@ -72,24 +61,18 @@ impl<'h, 'b> View<'h, 'b> {
         ensures ready { ReadyGot self.entry.lent.size self.entry.lent.slots self.entry.heads.now self.entry.bytes.now
             (got_of self.entry.tree result) }
     {
-        let order = Order {
-            code: self.tree.order,
-        };
+        let order = self.tree.order;
         let records = self.records(n);
         let Some(held) = held_in(records, order, key) else {
             return Ok(None);
         };
-        match held {
-            Held::Ghost => Ok(Some(Copied::Ghost)),
-            Held::Value(at, len) => {
-                if out.len() < len {
-                    return Err(Refusal::Output);
-                }
-                let end = at + len;
-                bytes::copy_to(&records.slot[at..end], out, 0);
-                Ok(Some(Copied::Value(len)))
-            }
-        }
+        // A leaf holds no children.
+        let Val::Leaf(value) = held else {
+            return Ok(Some(Copied::Ghost));
+        };
+        check(Refusal::Output, value.len() <= out.len())?;
+        bytes::copy_to(value, out, 0);
+        Ok(Some(Copied::Value(value.len())))
     }
 
     // The same with the tree.
@@ -115,6 +98,7 @@ impl<'h, 'b> View<'h, 'b> {
 
 impl Tree {
     // Of get, what follows 12: the way, 20. Refused, it may leave slots changed.
+    #[tactic(auto, using(crate::specs::laws::base::Refused::handed_on, crate::specs::laws::lookup::GetCall::get_refused))]
     fn get_way(
         self,
         image: &[u8],
@@ -141,6 +125,7 @@ impl Tree {
     }
 
     // get on slots that are trusted, whatever of the way is loaded.
+    #[tactic(auto, using(crate::specs::laws::lookup::GetCall::in_argument, crate::specs::laws::lookup::GetCall::in_argument_same))]
     fn get_down(
         self,
         image: &[u8],
@@ -159,7 +144,7 @@ impl Tree {
         ensures left { GotCalled image.now lent self heads.old bytes.old
             heads.new bytes.new result }
     {
-        let order = Order { code: self.order };
+        let order = self.order;
         check(Refusal::Argument, order.keyed(key.len()))?;
         self.undone(
             heads,
@@ -195,6 +180,7 @@ impl Tree {
     }
 
     // What a key holds; its value is copied to the output's start.
+    #[tactic(auto, using(crate::specs::laws::lookup::GetCall::get_laws, crate::specs::laws::refusal1::Calls::called_trusts))]
     pub fn get(
         self,
         image: &[u8],

@@ -11,9 +11,9 @@ ghost use Rattle.tree.specs.internal.Holding.{Laid, count_holds, place_holds, bo
 use crate::bank;
 use crate::editor::Tree;
 use crate::lent::Lent;
-use crate::way::MOST_LEVEL;
 use node::head::Head;
 use node::order::Order;
+use node::read::MAX_DEPTH;
 use node::record::Record;
 use node::room::Shape;
 use node::slot::Records;
@@ -21,6 +21,7 @@ use node::stands;
 use node::val::{Child, Val};
 
 // Slot k marked; false where it is marked already.
+#[tactic(auto, using(crate::specs::laws::refusal1::Marks::mark_slot_laws))]
 fn mark_slot(k: usize, used: usize, marks: &mut [u8]) -> bool
     requires { used ≤ length marks.old }
     ensures { mark_of result marks.new ≡ mark_slot used k marks.old }
@@ -64,160 +65,166 @@ fn count_holds(level: u64, count: u64) -> bool
     level == 0 || count != 0
 }
 
-// A dirty node fits, its keys and values taking so much room; a clean one has a block and, if virtual, an id.
-#[tactic(auto, unfolding(crate::specs::internal::Holding::place_holds))]
-fn place_holds(t: Tree, root: bool, h: Head, room: u64) -> bool
-    requires { Sized t.info × (h.count < 2 ^ 32) × (room < 2 ^ 32) }
-    ensures { result ≡ place_holds t root h room }
-{
-    if h.dirty == 1 {
-        let shape = Shape {
-            info: t.info,
-            root,
-            level: h.level,
-        };
-        return shape.fits_sums(h.count, room);
-    }
-    h.placed == 1 && (!t.by_id || h.named == 1)
+// An open tree and its slots before refusal 1 has looked at them: words and bytes are laid out for so many slots, the tree's numbers in range.
+#[derive(Clone, Copy)]
+pub struct Slots<'h, 'b> {
+    pub tree: Tree,
+    pub heads: &'h [u64],
+    pub bytes: &'b [u8],
+    pub lent: Lent,
+    ghost laid: { Laid lent.size lent.slots tree.used heads.now bytes.now },
+    ghost sized: { Sized tree.info },
 }
 
-// The node of a live slot but for its children: its level, its records in one pass, its place on disk.
-fn body_holds(t: Tree, part: &[u8], h: Head, n: usize) -> bool
-    requires { Sized t.info × (length part.now ≤ 2 ^ 20) }
-    ensures { result ≡ body_holds t n h part.now }
-{
-    if MOST_LEVEL < h.level {
-        return false;
+impl<'h, 'b> Slots<'h, 'b> {
+    // A dirty node fits, its keys and values taking so much room; a clean one has a block and, if virtual, an id.
+    #[tactic(auto, unfolding(crate::specs::internal::Holding::place_holds))]
+    fn place_holds(self, root: bool, h: Head, room: u64) -> bool
+        requires { (h.count < 2 ^ 32) × (room < 2 ^ 32) }
+        ensures { result ≡ place_holds self.entry.tree root h room }
+    {
+        if h.dirty == 1 {
+            let shape = Shape {
+                info: self.tree.info,
+                root,
+                level: h.level,
+            };
+            return shape.fits_sums(h.count, room);
+        }
+        h.placed == 1 && (!self.tree.by_id || h.named == 1)
     }
-    if !count_holds(h.level, h.count) {
-        return false;
-    }
-    let info = t.info;
-    let order = Order { code: t.order };
-    let checked = stands::check(part, h.count, h.used, order, info, h.level == 0);
-    match checked {
-        None => false,
-        Some(s) => place_holds(t, n == t.root, h, s.keys + s.values),
-    }
-}
 
-// A child in a slot: in use, not dead, one level lower.
-#[tactic(auto, unfolding(crate::specs::internal::Holding::child_stands))]
-fn child_holds(heads: &[u64], used: usize, level: u64, c: u64) -> bool
-    requires { used * 9 ≤ length heads.now }
-    ensures { result ≡ child_stands heads.now used level c }
-{
-    if used as u64 <= c {
-        return false;
+    // The node of a live slot but for its children: its level, its records in one pass, its place on disk.
+    fn body_holds(self, part: &[u8], h: Head, n: usize) -> bool
+        requires { length part.now ≤ 2 ^ 20 }
+        ensures { result ≡ body_holds self.entry.tree n h part.now }
+    {
+        if MAX_DEPTH < h.level {
+            return false;
+        }
+        if !count_holds(h.level, h.count) {
+            return false;
+        }
+        let info = self.tree.info;
+        let order = self.tree.order;
+        let checked = stands::check(part, h.count, h.used, order, info, h.level == 0);
+        match checked {
+            None => false,
+            Some(s) => self.place_holds(n == self.tree.root, h, s.keys + s.values),
+        }
     }
-    let h = Head::load(heads, c as usize);
-    h.dead != 1 && level != 0 && h.level == level - 1
-}
 
-// The child in a slot that a record names, if it names one, holds and is marked; false where it does not, or is marked already.
-fn link_value(heads: &[u64], r: Record<'_>, level: u64, used: usize, marks: &mut [u8]) -> bool
-    requires { (used ≤ length marks.old) × (used * 9 ≤ length heads.now) }
-    ensures { mark_of result marks.new
-        ≡ link_value heads.now used level (entry_of (drop r.entry.at r.entry.slot.now)).value marks.old }
-{
-    match r.value() {
-        Val::Child(c) => match c {
-            Child::Disk(_) => true,
-            Child::Mem(s) => {
-                if !child_holds(heads, used, level, s) {
-                    return false;
+    // A child in a slot: in use, not dead, one level lower.
+    #[tactic(auto, using(crate::specs::laws::refusal1::Pass::laid_words), unfolding(crate::specs::internal::Holding::child_stands))]
+    fn child_holds(self, level: u64, c: u64) -> bool
+        ensures { result ≡ child_stands self.entry.heads.now self.entry.tree.used level c }
+    {
+        if self.tree.used as u64 <= c {
+            return false;
+        }
+        let h = Head::load(self.heads, c as usize);
+        h.dead != 1 && level != 0 && h.level == level - 1
+    }
+
+    // The child in a slot that a record names, if it names one, holds and is marked; false where it does not, or is marked already.
+    #[tactic(auto, using(crate::specs::laws::refusal1::Links::link_value_laws))]
+    fn link_value(self, r: Record<'_>, level: u64, marks: &mut [u8]) -> bool
+        requires { self.tree.used ≤ length marks.old }
+        ensures { mark_of result marks.new
+            ≡ link_value self.entry.heads.now self.entry.tree.used level (entry_of (drop r.entry.at r.entry.slot.now)).value marks.old }
+    {
+        match r.value() {
+            Val::Child(c) => match c {
+                Child::Disk(_) => true,
+                Child::Mem(s) => {
+                    if !self.child_holds(level, s) {
+                        return false;
+                    }
+                    mark_slot(s as usize, self.tree.used, marks)
                 }
-                mark_slot(s as usize, used, marks)
+            },
+            _ => true,
+        }
+    }
+
+    // The same of the entries of a slot.
+    fn link_entries(self, records: Records<'_>, level: u64, marks: &mut [u8]) -> bool
+        requires { self.tree.used ≤ length marks.old }
+        ensures { mark_of result marks.new
+            ≡ link_entries self.entry.heads.now self.entry.tree.used level (entries_of records.entry.count records.entry.slot.now) marks.old }
+    {
+        for (_, r) in records.walk() {
+            if !self.link_value(r, level, marks) {
+                return false;
             }
-        },
-        _ => true,
+        }
+        true
     }
-}
 
-// The same of the entries of a slot.
-fn link_entries(
-    heads: &[u64],
-    records: Records<'_>,
-    level: u64,
-    used: usize,
-    marks: &mut [u8],
-) -> bool
-    requires { (used ≤ length marks.old) × (used * 9 ≤ length heads.now) }
-    ensures { mark_of result marks.new
-        ≡ link_entries heads.now used level (entries_of records.entry.count records.entry.slot.now) marks.old }
-{
-    for (_, r) in records.walk() {
-        if !link_value(heads, r, level, used, marks) {
+    // Slot n holds; unless it is dead, its node holds, and its children are marked. A leaf has none.
+    #[tactic(auto, using(crate::specs::laws::refusal1::Pass::hold_slot_laws))]
+    fn hold_slot(self, n: usize, marks: &mut [u8]) -> bool
+        requires { (n < self.tree.used) × (self.tree.used ≤ length marks.old) }
+        ensures { mark_of result marks.new
+            ≡ hold_slot self.entry.lent.size self.entry.heads.now self.entry.bytes.now
+            (state_of self.entry.lent.size self.entry.tree self.entry.heads.now self.entry.bytes.now) self.entry.tree.used n marks.old }
+    {
+        let h = Head::load(self.heads, n);
+        if !words_hold(h) {
             return false;
         }
-    }
-    true
-}
-
-// Slot n holds; unless it is dead, its node holds, and its children are marked. A leaf has none.
-fn hold_slot(t: Tree, heads: &[u64], bytes: &[u8], lent: Lent, n: usize, marks: &mut [u8]) -> bool
-    requires laid { Laid lent.size lent.slots t.used heads.now bytes.now }
-    requires sized { Sized t.info × (n < t.used) × (t.used ≤ length marks.old) }
-    ensures { mark_of result marks.new
-        ≡ hold_slot lent.size heads.now bytes.now
-        (state_of lent.size t heads.now bytes.now) t.used n marks.old }
-{
-    let h = Head::load(heads, n);
-    if !words_hold(h) {
-        return false;
-    }
-    if h.dead == 1 {
-        return true;
-    }
-    let most = (2 * lent.size) as u64;
-    if most < h.used {
-        return false;
-    }
-    let part = bank::slot_of(bytes, lent.size, n);
-    if !body_holds(t, part, h, n) {
-        return false;
-    }
-    if h.level == 0 {
-        return true;
-    }
-    let records = Records {
-        slot: part,
-        count: h.count,
-    };
-    link_entries(heads, records, h.level, t.used, marks)
-}
-
-// The same of every slot in use.
-fn hold_slots(t: Tree, heads: &[u64], bytes: &[u8], lent: Lent, marks: &mut [u8]) -> bool
-    requires laid { Laid lent.size lent.slots t.used heads.now bytes.now }
-    requires sized { Sized t.info × (t.used ≤ length marks.old) }
-    ensures { mark_of result marks.new
-        ≡ hold_slots lent.size heads.now bytes.now
-        (state_of lent.size t heads.now bytes.now) t.used t.used 0 marks.old }
-{
-    for n in 0..t.used {
-        if !hold_slot(t, heads, bytes, lent, n, marks) {
+        if h.dead == 1 {
+            return true;
+        }
+        let most = (2 * self.lent.size) as u64;
+        if most < h.used {
             return false;
         }
+        let part = bank::slot_of(self.bytes, self.lent.size, n);
+        if !self.body_holds(part, h, n) {
+            return false;
+        }
+        if h.level == 0 {
+            return true;
+        }
+        let records = Records {
+            slot: part,
+            count: h.count,
+        };
+        self.link_entries(records, h.level, marks)
     }
-    true
-}
 
-// 1: the slots in use are nodes, and hold together.
-pub fn hold_together(t: Tree, heads: &[u64], bytes: &[u8], lent: Lent) -> bool
-    requires { Laid lent.size lent.slots t.used heads.now bytes.now × Sized t.info }
-    ensures { result ≡ slots_hold lent.size heads.now bytes.now t.used 0
-        && hold_together (state_of lent.size t heads.now bytes.now) }
-{
-    let root = t.root;
-    if t.used <= root {
-        return false;
+    // The same of every slot in use.
+    fn hold_slots(self, marks: &mut [u8]) -> bool
+        requires { self.tree.used ≤ length marks.old }
+        ensures { mark_of result marks.new
+            ≡ hold_slots self.entry.lent.size self.entry.heads.now self.entry.bytes.now
+            (state_of self.entry.lent.size self.entry.tree self.entry.heads.now self.entry.bytes.now)
+            self.entry.tree.used self.entry.tree.used 0 marks.old }
+    {
+        for n in 0..self.tree.used {
+            if !self.hold_slot(n, marks) {
+                return false;
+            }
+        }
+        true
     }
-    let h = Head::load(heads, root);
-    if h.dead == 1 {
-        return false;
+
+    // 1: the slots in use are nodes, and hold together.
+    pub fn hold_together(self) -> bool
+        ensures { result ≡ slots_hold self.entry.lent.size self.entry.heads.now self.entry.bytes.now self.entry.tree.used 0
+            && hold_together (state_of self.entry.lent.size self.entry.tree self.entry.heads.now self.entry.bytes.now) }
+    {
+        let root = self.tree.root;
+        if self.tree.used <= root {
+            return false;
+        }
+        let h = Head::load(self.heads, root);
+        if h.dead == 1 {
+            return false;
+        }
+        let mut marks = [0u8; 4096];
+        marks[root] = 1;
+        self.hold_slots(&mut marks)
     }
-    let mut marks = [0u8; 4096];
-    marks[root] = 1;
-    hold_slots(t, heads, bytes, lent, &mut marks)
 }

@@ -21,6 +21,7 @@ pub fn child_of(v: Val<'_>) -> Option<Child>
 }
 
 // Its slot, if it is loaded.
+#[tactic(auto, using(crate::specs::laws::slots::Kids::kid_none, crate::specs::laws::slots::Kids::kid_disk))]
 pub fn slot_of(v: Val<'_>) -> Option<usize>
     ensures { kid_means result ≡ slots_of (value_means v.entry) }
 {

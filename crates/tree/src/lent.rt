@@ -1,12 +1,13 @@
 // What is lent to a call beside the image and the slots; of refusal 1, its sizes and the tree's numbers.
-ghost use Rattle.std.specs.Prelude.{◌≡◌, List, cond, ◌&&◌, ℕ, ◌≤◌, eqb, is_some};
+ghost use Rattle.std.specs.Prelude.{◌≡◌, List, cond, ◌&&◌, ℕ, ◌≤◌, eqb, length, option_to_list};
 ghost use Rattle.tree.specs.Lent.{is_size, sizes_hold, lent_of};
 ghost use Rattle.tree.specs.Hold.{info_holds, numbers_hold, lent_holds};
 ghost use Rattle.tree.specs.Workspace.{state_of, workspace_holds, scratch_holds};
 ghost use Rattle.tree.specs.internal.Holding.{room_holds};
 
+use crate::bank;
 use crate::editor::Tree;
-use crate::hold;
+use crate::hold::Slots;
 use node::info::BTreeInfo;
 use node::order::Order;
 
@@ -17,6 +18,12 @@ pub const MOST_SLOTS: usize = 4096;
 
 // Words of a slot, of its shadow, and its mark.
 pub const WORDS_EACH: usize = 19;
+
+// Blocks of a slot's bytes and of its shadow's.
+pub const BLOCKS_EACH: usize = 2 * bank::SLOT_BLOCKS;
+
+// Blocks of the scratch for each slot, and for one slot more.
+pub const SCRATCH_EACH: usize = 2;
 
 // What a root stores as u32 is below this.
 const U32_END: u64 = 0x100000000;
@@ -45,10 +52,8 @@ pub fn sizes_hold(image: &[u8], lent: Lent) -> bool
     ensures { result ≡ sizes_hold (lent_of image.now lent) }
 {
     let size = lent.size;
-    if !is_size(size) {
-        return false;
-    }
-    image.len() % size == 0
+    is_size(size)
+        && image.len() % size == 0
         && (1..=MOST_BLOCKS).contains(&(image.len() / size))
         && (1..=MOST_SLOTS).contains(&lent.slots)
 }
@@ -66,35 +71,26 @@ pub fn info_holds(info: BTreeInfo) -> bool
 }
 
 // A map is lent to a virtual tree and to no other.
+#[tactic(auto, using(crate::specs::laws::refusal1::Lent::map_long))]
 fn map_holds(map: Option<u64>, by_id: bool) -> bool
-    ensures { result ≡ eqb (cond (is_some map) 1 0) (cond by_id 1 0) }
+    ensures { result ≡ eqb (length (option_to_list map)) (cond by_id 1 0) }
 {
     map.is_some() == by_id
 }
 
 // 1: sizes, order, the tree's numbers; whatever the slots hold.
+#[tactic(auto, using(crate::specs::laws::refusal1::Lent::numbers_is))]
 pub fn numbers_hold(t: Tree, image: &[u8], lent: Lent) -> bool
     ensures { (heads bytes : List ℕ)
         → result ≡ numbers_hold (lent_of image.now lent) (state_of lent.size t heads bytes) }
 {
-    if !sizes_hold(image, lent) {
-        return false;
-    }
-    let info = t.info;
-    if info.node_size != lent.size as u64 {
-        return false;
-    }
-    let order = Order { code: t.order };
-    if !order.known() {
-        return false;
-    }
-    if !info_holds(info) {
-        return false;
-    }
-    if !map_holds(lent.map, t.by_id) {
-        return false;
-    }
-    t.used <= lent.slots
+    let order = t.order;
+    sizes_hold(image, lent)
+        && t.info.node_size == lent.size as u64
+        && order.known()
+        && info_holds(t.info)
+        && map_holds(lent.map, t.by_id)
+        && t.used <= lent.slots
 }
 
 // Words and bytes for the slots and their shadows, a mark a slot; no more slots in use than there are.
@@ -110,20 +106,24 @@ pub fn room_holds(heads: &[u64], bytes: &[u8], used: usize, lent: Lent) -> bool
 }
 
 // 1, of the workspace and of a call that is lent no bitmap.
+#[tactic(auto, using(crate::specs::laws::refusal1::Ready::checked), unfolding(crate::specs::Hold::lent_holds))]
 pub fn lent_holds(t: Tree, image: &[u8], heads: &[u64], bytes: &[u8], lent: Lent) -> bool
     ensures { result ≡ workspace_holds lent.size lent.slots t.used heads.now bytes.now
         && lent_holds (lent_of image.now lent) (state_of lent.size t heads.now bytes.now) }
 {
-    if !numbers_hold(t, image, lent) {
-        return false;
-    }
-    if !room_holds(heads, bytes, t.used, lent) {
-        return false;
-    }
-    hold::hold_together(t, heads, bytes, lent)
+    numbers_hold(t, image, lent)
+        && room_holds(heads, bytes, t.used, lent)
+        && Slots {
+            tree: t,
+            heads,
+            bytes,
+            lent,
+        }
+        .hold_together()
 }
 
 // 1, of an edit: also the scratch, for a key on its way from slot to slot and for what a drop removes.
+#[tactic(auto, using(crate::specs::laws::refusal1::EditCalls::scratched), unfolding(crate::specs::Workspace::scratch_holds))]
 pub fn edit_holds(
     t: Tree,
     image: &[u8],
@@ -136,8 +136,5 @@ pub fn edit_holds(
         && lent_holds (lent_of image.now lent) (state_of lent.size t heads.now bytes.now))
         && scratch_holds lent.size lent.slots scratch.now }
 {
-    if !lent_holds(t, image, heads, bytes, lent) {
-        return false;
-    }
-    scratch.len() == (2 * lent.slots + 2) * lent.size
+    lent_holds(t, image, heads, bytes, lent) && scratch.len() == (2 * lent.slots + 2) * lent.size
 }

@@ -1,7 +1,7 @@
 // Editing one tree: what is lent, loading, lookups, edits, the object map. Of one node it hands on what flush calls.
 #![tactic(auto)]
 
-pub use node::{head, pack, record, refusal};
+pub use node::{head, obj, pack, record, refusal};
 
 pub mod bank;
 pub mod block;

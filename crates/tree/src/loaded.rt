@@ -21,6 +21,7 @@ pub struct Taken {
 }
 
 // The entry of a node that a key goes on by, if its child is loaded.
+#[tactic(auto, using(crate::specs::laws::load::LoadedWay::taken_in_laws))]
 fn taken_in(records: Records<'_>, order: Order, key: &[u8]) -> Option<Taken>
     ensures { TakenOf order.code key.now (entries_of records.entry.count records.entry.slot.now) result }
 {
@@ -42,12 +43,10 @@ fn taken_in(records: Records<'_>, order: Order, key: &[u8]) -> Option<Taken>
 impl<'h, 'b> View<'h, 'b> {
     // The entry of slot n that a key goes on by, if its child is loaded.
     fn taken(self, n: usize, key: &[u8]) -> Option<Taken>
-        ensures { TakenOf self.entry.tree.order key.now
+        ensures { TakenOf self.entry.tree.order.code key.now
             (node_at (seen self.entry) n).entries result }
     {
-        let order = Order {
-            code: self.tree.order,
-        };
+        let order = self.tree.order;
         taken_in(self.records(n), order, key)
     }
 
@@ -57,9 +56,7 @@ impl<'h, 'b> View<'h, 'b> {
         requires { F.IsAlwaysCallable step }
         ensures { LedLeaf (λ n t. F.post step n (Some t)) self.entry.tree.used (seen self.entry) key.now result }
     {
-        let order = Order {
-            code: self.tree.order,
-        };
+        let order = self.tree.order;
         if !order.keyed(key.len()) {
             return None;
         }
@@ -69,13 +66,11 @@ impl<'h, 'b> View<'h, 'b> {
             let t = step(n)?;
             n = t.slot;
         }
-        if self.tree.used <= n {
-            return None;
-        }
-        Some(n)
+        (n < self.tree.used).then_some(n)
     }
 
     // The leaf, if every child on the way is loaded.
+    #[tactic(auto, using(crate::specs::laws::load::LoadedWay::leaf_is), unfolding(crate::specs::Workspace::state_of))]
     pub fn leaf_of(self, key: &[u8]) -> Option<usize>
         ensures { LeafIs self.entry.tree.used (seen self.entry)
             key.now result }
@@ -83,12 +78,13 @@ impl<'h, 'b> View<'h, 'b> {
         self.leaf_by(
             key,
             |n|
-                ensures { TakenOf self.entry.tree.order key.entry.now (node_at (seen self.entry) n).entries result }
+                ensures { TakenOf self.entry.tree.order.code key.entry.now (node_at (seen self.entry) n).entries result }
             { self.taken(n, key) },
         )
     }
 
     // The whole way; none where a child on it is not loaded.
+    #[tactic(auto, using(crate::specs::laws::load::LoadedWay::way_loaded_laws))]
     pub fn way_loaded(self, level: u64, key: &[u8]) -> Option<Way>
         requires level_bound { level ≤ 32 }
         ensures { Walked self.entry.lent.size self.entry.tree self.entry.heads.now self.entry.bytes.now level key.now result }
@@ -97,9 +93,7 @@ impl<'h, 'b> View<'h, 'b> {
         let mut steps = [NO_STEP; STEPS];
         let last = level as usize;
         for k in 0..last {
-            let Some(t) = self.taken(n, key) else {
-                return None;
-            };
+            let t = self.taken(n, key)?;
             steps[k] = Step {
                 slot: n,
                 child: t.index,

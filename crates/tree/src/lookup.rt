@@ -22,7 +22,7 @@ fn open_at(
     bytes: &mut [u8],
     lent: Lent,
     r: u64,
-    order: u64,
+    order: Order,
     xid: u64,
     a: u64,
 ) -> Result<Tree, Refusal>
@@ -30,7 +30,7 @@ fn open_at(
     requires heads_len { (length heads.old ≡ lent.slots * 19) × (length bytes.old
         ≡ (lent.slots + lent.slots) * (4 * lent.size)) }
     ensures answer { opened_of lent.size heads.new bytes.new result
-        ≡ opened_root (lent_of image.now lent) r order xid a }
+        ≡ opened_root (lent_of image.now lent) r order.code xid a }
     ensures ready { ReadyOpened lent.size lent.slots heads.new bytes.new result }
 {
     let place = Place {
@@ -42,7 +42,7 @@ fn open_at(
         lower: None,
         upper: None,
     };
-    let read = map::load_block(image, lent, Order { code: order }, place, a)?;
+    let read = map::load_block(image, lent, order, place, a)?;
     let by_id = lent.map.is_some();
     check(
         Refusal::Root,
@@ -62,40 +62,41 @@ fn open_at(
 }
 
 // The tree whose root is r, in a workspace for so many slots.
+#[tactic(auto, using(crate::specs::laws::base::Refused::handed_on, crate::specs::laws::load::Open::open_in_laws))]
 pub fn open_in(
     image: &[u8],
     heads: &mut [u64],
     bytes: &mut [u8],
     lent: Lent,
     r: u64,
-    order: u64,
+    order: Order,
     xid: u64,
 ) -> Result<Tree, Refusal>
     requires { (length heads.old ≡ lent.slots * 19) × (length bytes.old
         ≡ (lent.slots + lent.slots) * (4 * lent.size)) }
     ensures answer { opened_of lent.size heads.new bytes.new result
-        ≡ opened (lent_of image.now lent) r order xid }
+        ≡ opened (lent_of image.now lent) r order.code xid }
     ensures trusts { OpenedTrusts image.now lent heads.new bytes.new result }
 {
     check(Refusal::Lent, lent::sizes_hold(image, lent))?;
-    let by = Order { code: order };
-    check(Refusal::Lent, by.known())?;
+    check(Refusal::Lent, order.known())?;
     let a = map::address_of(image, lent, xid, r)?;
     open_at(image, heads, bytes, lent, r, order, xid, a)
 }
 
 // The same of any workspace: 1 where it is none for so many slots.
+#[tactic(auto, using(crate::specs::laws::load::Open::open_laws))]
 pub fn open(
     image: &[u8],
     heads: &mut [u64],
     bytes: &mut [u8],
     lent: Lent,
     r: u64,
-    order: u64,
+    order: Order,
     xid: u64,
 ) -> Result<Tree, Refusal>
     ensures answer { opened_of lent.size heads.new bytes.new result
-        ≡ opened_in (lent_of image.now lent) heads.old bytes.old r order xid }
+        ≡ opened_in (lent_of image.now lent) heads.old bytes.old r order.code xid }
     ensures left { opened_leaves lent.size lent.slots heads.new bytes.new result }
     ensures trusts { OpenedTrusts image.now lent heads.new bytes.new result }
 {

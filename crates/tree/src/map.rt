@@ -102,7 +102,7 @@ impl<'i> MapNode<'i> {
         if self.read.node.nkeys <= i {
             return &[];
         }
-        self.read.key_at(i as usize)
+        self.read.entry(i as usize).key()
     }
 
     // The number of a child; 0 where there is no child.
@@ -113,7 +113,7 @@ impl<'i> MapNode<'i> {
         if self.read.node.nkeys <= i || self.read.node.level == 0 {
             return 0;
         }
-        self.read.child_at(i as usize)
+        self.read.entry(i as usize).child()
     }
 
     // The last of the first n entries, if there is one.
@@ -125,9 +125,10 @@ impl<'i> MapNode<'i> {
         if n == 0 {
             return None;
         }
+        let last = self.read.entry(n as usize - 1);
         Some(Mapped {
-            key: self.read.key_at(n as usize - 1),
-            value: self.read.value_at(n as usize - 1),
+            key: last.key(),
+            value: last.value(),
         })
     }
 

@@ -1,5 +1,5 @@
 // Object-map put and drop (`omap_put`, `omap_drop` of write/tree.rs), one call each.
-ghost use Rattle.std.specs.Prelude.{◌≡◌, List, true, ℕ, ◌+◌, ◌*◌, length, drop};
+ghost use Rattle.std.specs.Prelude.{◌≡◌, List, true, ℕ, ◌+◌, ◌*◌, ◌≤◌, length};
 ghost use Rattle.node.specs.Records.{entries_of};
 ghost use Rattle.tree.specs.Lent.{lent_of};
 ghost use Rattle.tree.specs.Omap.{is_omap, versions_end, remove_all, dropped, omap_drop_in, omap_drop, omap_put_in, omap_put};
@@ -9,16 +9,17 @@ ghost use Rattle.tree.specs.Trusts.{Trusts, EditedCalled};
 ghost use Rattle.tree.specs.internal.Undo.{Follows};
 ghost use Rattle.tree.specs.internal.Range.{end_of};
 ghost use Rattle.tree.specs.internal.Edits.{ReadyEdited};
-ghost use Rattle.tree.specs.internal.Dropping.{Listed, put_anew};
+ghost use Rattle.tree.specs.internal.Dropping.{put_anew};
 
 use crate::editor::{Tree, UNBOUNDED};
 use crate::lent;
 use crate::lent::Lent;
+use crate::range::Asked;
 use crate::view::{View, view};
 use node::bytes;
 use node::order::Order;
-use node::record::Record;
 use node::refusal::{Refusal, check};
+use node::slot::Records;
 
 // Keys and values of an object map have so many bytes.
 const OMAP_ENTRY: u64 = 16;
@@ -26,6 +27,7 @@ const OMAP_ENTRY: u64 = 16;
 const LAST_ID: u64 = 0xFFFFFFFFFFFFFFFF;
 
 // The end of an id's versions: the next id's first; the last id has none.
+#[tactic(auto, using(crate::specs::laws::omap::Keys::versions_last, crate::specs::laws::omap::Keys::versions_next))]
 fn versions_end(out: &mut [u8], id: u64) -> Option<&[u8]>
     requires { length out.now ≡ 16 }
     ensures { end_of result ≡ versions_end id }
@@ -39,54 +41,43 @@ fn versions_end(out: &mut [u8], id: u64) -> Option<&[u8]>
 
 impl Tree {
     // 12: pair order with 16-byte keys and values.
+    #[tactic(auto, unfolding(crate::specs::Omap::is_omap, crate::specs::Workspace::state_of))]
     fn is_omap(self) -> bool
         ensures { (size : ℕ) (heads bytes : List ℕ) → result ≡ is_omap (state_of size self heads bytes) }
     {
-        let info = self.info;
-        if self.order != Order::PAIR {
-            return false;
-        }
-        if info.key_size != OMAP_ENTRY {
-            return false;
-        }
-        info.val_size == OMAP_ENTRY
+        self.order.code == Order::PAIR
+            && self.info.key_size == OMAP_ENTRY
+            && self.info.val_size == OMAP_ENTRY
     }
 
-    // Each remove in key order: so many records of the scratch, behind two blocks' worth that a remove takes for keys.
+    // Each remove in key order: of the entries whose keys the records have. `keys` is two blocks' worth that a remove takes for keys.
     fn remove_all(
         self,
         image: &[u8],
         heads: &mut [u64],
         bytes: &mut [u8],
         lent: Lent,
-        scratch: &mut [u8],
-        count: u64,
+        records: Records<'_>,
+        keys: &mut [u8],
     ) -> Result<Tree, Refusal>
         requires trusts { Trusts image.now lent self heads.old bytes.old }
-        requires listed { Listed (2 * lent.size) count scratch.old }
+        requires room { 2 * lent.size ≤ length keys.old }
         ensures answer { edited_of lent.size heads.new bytes.new result
-            ≡ remove_all (lent_of image.now lent) (entries_of count (drop (2 * lent.size) scratch.old))
+            ≡ remove_all (lent_of image.now lent) (entries_of records.entry.count records.entry.slot.now)
             (state_of lent.size self heads.old bytes.old) }
         ensures ready { ReadyEdited lent.size lent.slots heads.new bytes.new result }
         ensures follows { Follows lent.size lent.slots self.used heads.old bytes.old
             heads.new bytes.new }
     {
-        let keys = 2 * lent.size;
         let mut t = self;
-        let mut at = keys;
-        for _i in 0..count {
-            let r = Record { slot: scratch, at };
-            let mut key = [0u8; 16];
-            bytes::copy_to(r.key(), &mut key, 0);
-            let next = r.next();
-            let (u, _) = t.removed(image, heads, bytes, lent, &key, &mut scratch[..keys])?;
+        for (_, r) in records.walk() {
+            let (u, _) = t.removed(image, heads, bytes, lent, r.key(), keys)?;
             t = u;
-            at = next;
         }
         Ok(t)
     }
 
-    // The loads of an id's versions, each remove in key order.
+    // The loads of an id's versions, each remove in key order: they are listed in the scratch, behind what a remove takes for keys.
     fn dropped(
         self,
         image: &[u8],
@@ -97,7 +88,6 @@ impl Tree {
         id: u64,
     ) -> Result<Tree, Refusal>
         requires trusts { Trusts image.now lent self heads.old bytes.old }
-        requires omap { is_omap (state_of lent.size self heads.old bytes.old) ≡ true }
         requires room { length scratch.old ≡ (2 * lent.slots + 2) * lent.size }
         ensures answer { edited_of lent.size heads.new bytes.new result
             ≡ dropped (lent_of image.now lent) (state_of lent.size self heads.old bytes.old) id }
@@ -107,14 +97,20 @@ impl Tree {
     {
         let mut lo = [0u8; 16];
         Order::pair_key(&mut lo, id, 0);
-        let mut hi = [0u8; 16];
-        let end = versions_end(&mut hi, id);
+        let mut end = [0u8; 16];
+        let hi = versions_end(&mut end, id);
+        let asked = Asked { lo: &lo, hi };
         let n = self.root;
         let level = view!(self, heads, bytes, lent).level_at(n);
-        let r = self.range_from(image, heads, bytes, lent, UNBOUNDED, n, level, &lo, end)?;
-        let t = r.tree;
-        view!(t, heads, bytes, lent).range_out(t.root, level, &lo, end, scratch, 2 * lent.size);
-        t.remove_all(image, heads, bytes, lent, scratch, r.count)
+        let found = self.range_from(image, heads, bytes, lent, UNBOUNDED, n, level, asked)?;
+        let t = found.tree;
+        let (keys, list) = scratch.split_at_mut(2 * lent.size);
+        view!(t, heads, bytes, lent).range_out(t.root, level, asked, list, 0);
+        let records = Records {
+            slot: list,
+            count: found.count,
+        };
+        t.remove_all(image, heads, bytes, lent, records, keys)
     }
 
     // omap_drop on slots that are trusted.
@@ -144,6 +140,7 @@ impl Tree {
     }
 
     // The drop, then the upsert. Refused, it may leave slots changed.
+    #[tactic(auto, using(crate::specs::laws::base::Refused::handed_on, crate::specs::laws::omap::Put::put_refused))]
     fn put(
         self,
         image: &[u8],

@@ -19,10 +19,13 @@ ghost use Rattle.tree.specs.internal.Removing.{dead_put, child_dropped, DropFits
 ghost use Rattle.tree.specs.internal.View.{seen};
 
 use crate::editor::{Tree, UNBOUNDED};
+use crate::floor::Spot;
 use crate::lent::Lent;
 use crate::view::{View, view};
 use crate::way::Step;
+use crate::writers::DirtyMark;
 use crate::{bank, lent, undo, writers};
+use node::fit::SlotNode;
 use node::head::Head;
 use node::info::BTreeInfo;
 use node::order::Order;
@@ -31,6 +34,7 @@ use node::room::Shape;
 use node::slot::{Found, Records};
 
 // A tree's numbers with other counts.
+#[tactic(auto, unfolding(crate::specs::State::with_counts))]
 pub fn recounted(info: BTreeInfo, keys: u64, nodes: u64) -> BTreeInfo
     ensures { result ≡ with_counts info keys nodes }
 {
@@ -43,6 +47,7 @@ pub fn recounted(info: BTreeInfo, keys: u64, nodes: u64) -> BTreeInfo
 
 impl<'h, 'b> View<'h, 'b> {
     // Whether the node of a slot fits as root.
+    #[tactic(auto, using(crate::specs::laws::slots::OneSlot::ready_records, crate::specs::laws::remove::Reads::fits_as_root_laws))]
     fn fits_as_root(self, n: usize) -> bool
         requires { (n < self.tree.used) × (Sized self.tree.info) }
         ensures { result
@@ -59,7 +64,7 @@ impl<'h, 'b> View<'h, 'b> {
             root: true,
             level: h.level,
         };
-        records.fits(h.used, shape)
+        SlotNode { records, shape }.fits(h.used)
     }
 
     // An index root with one child.
@@ -85,6 +90,7 @@ impl Tree {
     }
 
     // Slot n is dead, and has no entries.
+    #[tactic(auto, using(crate::specs::laws::remove::Words::dying_lies, crate::specs::laws::remove::Words::died))]
     fn mark_dead(self, heads: &mut [u64], bytes: &mut [u8], lent: Lent, n: usize)
         requires { (Ready lent.size lent.slots self.used heads.old bytes.old) × (n < self.used) }
         ensures { Rewritten lent.size lent.slots self heads.old bytes.old heads.new bytes.new
@@ -101,18 +107,16 @@ impl Tree {
     }
 
     // On a way, bottom up: emptied nodes are dropped, never the root. The answer is how many.
+    #[tactic(auto, using(crate::specs::laws::remove::Drops::emptied_none))]
     fn drop_emptied(self, heads: &mut [u64], bytes: &mut [u8], lent: Lent, way: &[Step]) -> u64
         requires ready { (Ready lent.size lent.slots self.used heads.old bytes.old) × (WayIn self.used way.now) }
-        requires steps { 1 ≤ length way.now }
         requires room { DropRoom (state_of lent.size self heads.old bytes.old) way.now }
         ensures { Emptied lent.size lent.slots self heads.old bytes.old heads.new bytes.new
             (drop_emptied (steps_in way.now) (state_of lent.size self heads.old bytes.old)) result }
     {
         let mut dropped: u64 = 0;
-        for j in (1..way.len()).rev() {
-            let above = way[j - 1];
-            let c = way[j].slot;
-            dropped += self.drop_if_empty(heads, bytes, lent, above.slot, above.child, c);
+        for [above, below] in way.array_windows::<2>().rev() {
+            dropped += self.drop_if_empty(heads, bytes, lent, above.slot, above.child, below.slot);
         }
         dropped
     }
@@ -144,6 +148,7 @@ impl Tree {
     }
 
     // Slot c is dead, and slot n loses child i.
+    #[tactic(auto, using(crate::specs::laws::remove::Drops::drop_upto, crate::specs::laws::remove::Drops::drop_done))]
     fn drop_node(self, heads: &mut [u64], bytes: &mut [u8], lent: Lent, n: usize, i: u64, c: usize)
         requires ready { Ready lent.size lent.slots self.used heads.old bytes.old }
         requires place { (n < self.used) × (c < self.used) × (DropFits (state_of lent.size self heads.old bytes.old) n i c) }
@@ -152,10 +157,16 @@ impl Tree {
     {
         self.mark_dead(heads, bytes, lent, c);
         let at = view!(self, heads, bytes, lent).offset_at(n, i);
-        writers::remove_at(heads, bytes, lent, self.used, n, i, at, true);
+        let spot = Spot {
+            slot: n,
+            index: i,
+            at,
+        };
+        writers::remove_at(heads, bytes, lent, self.used, spot, DirtyMark::Set);
     }
 
     // An emptied root is a leaf.
+    #[tactic(auto, using(crate::specs::laws::remove::Words::level_kept, crate::specs::laws::remove::Words::level_done))]
     fn level_root(self, heads: &mut [u64], bytes: &mut [u8], lent: Lent)
         requires { (Ready lent.size lent.slots self.used heads.old bytes.old) × (self.root < self.used) }
         ensures { Rewritten lent.size lent.slots self heads.old bytes.old heads.new bytes.new
@@ -225,15 +236,14 @@ impl Tree {
             if !view!(u, heads, bytes, lent).fits_as_root(c) {
                 return Ok(u);
             }
-            if u.info.node_count == 0 {
-                return Err(Refusal::Count);
-            }
+            check(Refusal::Count, 0 < u.info.node_count)?;
             t = u.handed_down(heads, bytes, lent, c);
         }
         Ok(t)
     }
 
     // The leaf edited, emptied nodes dropped: 17.
+    #[tactic(auto, using(crate::specs::laws::remove::Shrink::shrink_laws, crate::specs::laws::base::Refused::handed_on))]
     fn shrink(
         mut self,
         heads: &mut [u64],
@@ -258,7 +268,12 @@ impl Tree {
     {
         self.touch(heads, bytes, lent, way);
         let n = way[way.len() - 1].slot;
-        writers::remove_at(heads, bytes, lent, self.used, n, f.index, f.at, false);
+        let spot = Spot {
+            slot: n,
+            index: f.index,
+            at: f.at,
+        };
+        writers::remove_at(heads, bytes, lent, self.used, spot, DirtyMark::Kept);
         let dropped = self.drop_emptied(heads, bytes, lent, way);
         let info = self.info;
         check(Refusal::Count, 0 < info.key_count)?;
@@ -269,6 +284,7 @@ impl Tree {
     }
 
     // The edit on a way that is loaded and has the key: index keys and cuts follow, then the root's place goes down.
+    #[tactic(auto, using(crate::specs::laws::base::Refused::handed_on, crate::specs::laws::remove::Steps::remove_on_laws))]
     fn remove_on(
         self,
         image: &[u8],
@@ -279,7 +295,7 @@ impl Tree {
         f: Found,
         scratch: &mut [u8],
     ) -> Result<Tree, Refusal>
-        requires ready { (Ready lent.size lent.slots self.used heads.old bytes.old) × (1 ≤ length way.now) }
+        requires ready { Ready lent.size lent.slots self.used heads.old bytes.old }
         requires way { OnWay (lent_of image.now lent) (state_of lent.size self heads.old bytes.old)
             (steps_in way.now) f.index }
         requires leaf { (f.index < (live (head_at heads.old (nth_step way.now (length way.now - 1)).slot)).count)
@@ -301,6 +317,7 @@ impl Tree {
     }
 
     // Load; absent answers no; the edit. Refused, it may leave slots changed.
+    #[tactic(auto, using(crate::specs::laws::base::Refused::handed_on, crate::specs::laws::remove::Call::removed_laws))]
     pub fn removed(
         self,
         image: &[u8],
@@ -331,6 +348,7 @@ impl Tree {
     }
 
     // remove on slots that are trusted, whatever it changes.
+    #[tactic(auto, using(crate::specs::laws::remove::Call::call_argument, crate::specs::laws::refusal1::EditCalls::stays_trusts))]
     fn remove_down(
         self,
         image: &[u8],
@@ -348,7 +366,7 @@ impl Tree {
         ensures left { RemovedCalled image.now lent self heads.old bytes.old
             heads.new bytes.new result }
     {
-        let order = Order { code: self.order };
+        let order = self.order;
         check(Refusal::Argument, order.keyed(key.len()))?;
         self.undone(
             heads,
@@ -359,6 +377,7 @@ impl Tree {
     }
 
     // remove on slots that are trusted: 12; the edit. Refused, every slot is as it was.
+    #[tactic(auto, using(crate::specs::laws::remove::LeafAloneSteps::remove_in_laws))]
     pub fn remove_in(
         self,
         image: &[u8],

@@ -9,9 +9,11 @@ ghost use Rattle.tree.specs.internal.Still.{Settled, StillOf, StillLeaf, StaysAb
 ghost use Rattle.tree.specs.internal.View.{seen};
 
 use crate::editor::Tree;
+use crate::floor::Spot;
 use crate::lent::Lent;
 use crate::loaded::Taken;
 use crate::view::{View, view};
+use crate::writers::DirtyMark;
 use crate::{kids, remove, writers};
 use node::head::Head;
 use node::order::Order;
@@ -19,6 +21,7 @@ use node::record::Record;
 
 impl<'h, 'b> View<'h, 'b> {
     // Whether slot n is dirty.
+    #[tactic(auto, using(crate::specs::laws::remove::LeafAloneSteps::dirty_word))]
     fn dirty_at(self, n: usize) -> bool
         requires { (n + 1) * 9 ≤ length self.heads.now }
         ensures { result ≡ (node_in self.entry.lent.size self.entry.heads.now self.entry.bytes.now n).dirty }
@@ -28,18 +31,13 @@ impl<'h, 'b> View<'h, 'b> {
     }
 
     // Whether slot n of a way needs no cut and, in a physical tree, no dirty mark. A dirty node fits, and is not looked at.
+    #[tactic(auto, using(crate::specs::laws::remove::LeafAloneSteps::settling))]
     fn settled(self, n: usize) -> bool
         requires ready { (n < self.tree.used) }
         requires bytes_value { (stand_together (seen self) ≡ true) × (Sized self.tree.info) }
         ensures { result ≡ true → Settled (seen self.entry) n }
     {
-        if self.dirty_at(n) {
-            return true;
-        }
-        if !self.tree.by_id {
-            return false;
-        }
-        self.fits_at(n)
+        self.dirty_at(n) || (self.tree.by_id && self.fits_at(n))
     }
 
     // The child of slot n that a key goes on by, if it is loaded, its index key is its first key, and slot n is settled.
@@ -54,9 +52,7 @@ impl<'h, 'b> View<'h, 'b> {
         if records.count == 0 {
             return None;
         }
-        let order = Order {
-            code: self.tree.order,
-        };
+        let order = self.tree.order;
         let last = records.not_above(order, key);
         let r = Record {
             slot: records.slot,
@@ -93,25 +89,17 @@ impl<'h, 'b> View<'h, 'b> {
         requires { (n < self.tree.used) × (self.tree.root < self.tree.used) }
         ensures { result ≡ true → StaysAbove (seen self.entry) n i }
     {
-        if i == 0 {
-            return false;
-        }
-        if !self.dirty_at(n) {
-            return false;
-        }
-        if !self.dirty_at(self.tree.root) {
-            return false;
-        }
-        if self.tree.info.key_count == 0 {
-            return false;
-        }
-        let only = self.has_only_child();
-        !only
+        i != 0
+            && self.dirty_at(n)
+            && self.dirty_at(self.tree.root)
+            && self.tree.info.key_count != 0
+            && !self.has_only_child()
     }
 }
 
 impl Tree {
     // The remove, if it changes nothing but an entry of its leaf; else nothing is written.
+    #[tactic(auto, using(crate::specs::laws::remove::LeafAloneSteps::root_used))]
     pub fn remove_still(
         mut self,
         heads: &mut [u64],
@@ -124,9 +112,7 @@ impl Tree {
         ensures { StillRemoved lent.size lent.slots self heads.old bytes.old
             heads.new bytes.new key.now result }
     {
-        let Some(n) = view!(self, heads, bytes, lent).still_leaf_of(key) else {
-            return None;
-        };
+        let n = view!(self, heads, bytes, lent).still_leaf_of(key)?;
         let f = view!(self, heads, bytes, lent).found_at(n, key);
         if !f.found {
             return None;
@@ -134,7 +120,12 @@ impl Tree {
         if !view!(self, heads, bytes, lent).still_above(n, f.index) {
             return None;
         }
-        writers::take_at(heads, bytes, lent, self.used, n, f.index, f.at, false);
+        let spot = Spot {
+            slot: n,
+            index: f.index,
+            at: f.at,
+        };
+        writers::take_at(heads, bytes, lent, self.used, spot, DirtyMark::Kept);
         let info = self.info;
         self.info = remove::recounted(info, info.key_count - 1, info.node_count);
         Some(self)

@@ -35,6 +35,7 @@ fn clear_marks(heads: &mut [u64], slots: usize, used: usize)
 }
 
 // Slot `to` is what slot `from` is. Either may be a shadow.
+#[tactic(auto, using(crate::specs::laws::slots::Copy::copies))]
 fn copy_slot(heads: &mut [u64], bytes: &mut [u8], size: usize, from: usize, to: usize)
     requires lies { Lies size (live (head_at heads.old from)) (slot_bytes size bytes.old from) }
     requires size_bound { (size ≤ 65536) × (from ≤ 8192) × (to ≤ 8192) × (from * 9 + 9 ≤ length heads.old)
@@ -52,6 +53,7 @@ fn copy_slot(heads: &mut [u64], bytes: &mut [u8], size: usize, from: usize, to: 
 }
 
 // Slot n may be changed after this.
+#[tactic(auto, using(crate::specs::laws::slots::Copy::saves))]
 pub fn save(heads: &mut [u64], bytes: &mut [u8], lent: Lent, used: usize, n: usize)
     requires ready { Ready lent.size lent.slots used heads.old bytes.old }
     requires n_lt_used { n < used }
@@ -66,6 +68,7 @@ pub fn save(heads: &mut [u64], bytes: &mut [u8], lent: Lent, used: usize, n: usi
 }
 
 // Slot n is what it was when the call started.
+#[tactic(auto, using(crate::specs::laws::slots::Copy::brings))]
 fn bring_back(heads: &mut [u64], bytes: &mut [u8], lent: Lent, used: usize, n: usize)
     requires shadowed { Shadowed lent.size lent.slots used heads.old bytes.old }
     requires n_lt_used { n < used }
@@ -79,6 +82,7 @@ fn bring_back(heads: &mut [u64], bytes: &mut [u8], lent: Lent, used: usize, n: u
 }
 
 // Every slot in use when the call started is what it was then.
+#[tactic(auto, using(crate::specs::laws::slots::Copy::restores))]
 fn restore(heads: &mut [u64], bytes: &mut [u8], lent: Lent, used: usize)
     requires { Shadowed lent.size lent.slots used heads.old bytes.old }
     ensures { Back lent.size lent.slots used used heads.old bytes.old heads.new bytes.new }

@@ -16,12 +16,14 @@ ghost use Rattle.tree.specs.internal.Undo.{Follows};
 ghost use Rattle.tree.specs.internal.Way.{steps_in, nth_step};
 ghost use Rattle.tree.specs.internal.Found.{FoundAt};
 ghost use Rattle.tree.specs.internal.Edits.{ReadyEdited};
-ghost use Rattle.tree.specs.internal.Upserting.{Gone, way_gone};
+ghost use Rattle.tree.specs.internal.Upserting.{held_once, Gone, way_gone};
 
 use crate::editor::Tree;
+use crate::floor::Spot;
 use crate::lent::Lent;
 use crate::view::{View, view};
 use crate::way::Step;
+use crate::writers::DirtyMark;
 use crate::{bank, lent, writers};
 use node::info::BTreeInfo;
 use node::order::Order;
@@ -29,6 +31,15 @@ use node::refusal::{Refusal, check};
 use node::slot::Found;
 use node::stands;
 use node::val::Val;
+
+// A key and what it is to hold, which a record can hold.
+#[derive(Clone, Copy)]
+struct Storable<'k, 'v> {
+    key: &'k [u8],
+    value: Val<'v>,
+    ghost short: { length key.now < 2 ^ 16 },
+    ghost held: { Held (value_means value) } by { held_once (value_means value) },
+}
 
 // What is put: a ghost where there are no bytes.
 #[tactic(auto, using(crate::specs::laws::upsert::PutInLeaf::lent))]
@@ -100,17 +111,13 @@ fn large_refusal(count: u64, found: bool) -> Refusal
 
 impl Tree {
     // 12: a key or a value that the tree cannot hold.
+    #[tactic(auto, using(crate::specs::laws::upsert::PutInLeaf::fits_key, crate::specs::laws::upsert::PutInLeaf::fits_rest))]
     fn entry_fits(self, key: &[u8], value: Option<&[u8]>) -> bool
         ensures { (size : ℕ) (heads bytes : List ℕ) → result ≡ entry_fits (state_of size self heads bytes) key.now (lent_value value.entry) }
     {
-        let order = Order { code: self.order };
-        if !stands::key_holds(order, self.info, key.len()) {
-            return false;
-        }
-        match value {
-            Some(bytes) => stands::value_holds(self.info, bytes.len() as u64),
-            None => true,
-        }
+        let info = self.info;
+        stands::key_holds(self.order, info, key.len())
+            && value.is_none_or(|bytes| stands::value_holds(info, bytes.len() as u64))
     }
 
     // The leaf edited, and the tree's numbers.
@@ -121,29 +128,38 @@ impl Tree {
         lent: Lent,
         n: usize,
         f: Found,
-        key: &[u8],
-        value: Val<'_>,
+        put: Storable<'_, '_>,
     ) -> Tree
         requires ready { Ready lent.size lent.slots self.used heads.old bytes.old }
         requires place { (n < self.used) × ((node_at (state_of lent.size self heads.old bytes.old) n).dead ≡ false)
-            × (FoundAt lent.size (state_of lent.size self heads.old bytes.old) heads.old bytes.old n key.now f)
+            × (FoundAt lent.size (state_of lent.size self heads.old bytes.old) heads.old bytes.old n put.key.now f)
             × (f.found ≡ false → self.info.key_count < 2 ^ 64 - 1) }
-        requires room { (live (head_at heads.old n)).used + (4 + length key.now + value_length (value_means value)) ≤ 4 * lent.size }
-        requires stored { (length key.now < 2 ^ 16) × Held (value_means value) }
+        requires room { (live (head_at heads.old n)).used + (4 + length put.key.now + value_length (value_means put.value)) ≤ 4 * lent.size }
         ensures after { state_of lent.size result heads.new bytes.new
-            ≡ put_in_leaf (state_of lent.size self heads.old bytes.old) n key.now (value_means value.entry) }
+            ≡ put_in_leaf (state_of lent.size self heads.old bytes.old) n put.entry.key.now (value_means put.entry.value) }
         ensures ready { (Ready lent.size lent.slots result.used heads.new bytes.new) × (result.used ≡ self.used) }
         ensures follows { Follows lent.size lent.slots self.used heads.old bytes.old heads.new bytes.new }
     {
+        let Storable { key, value } = put;
+        let spot = Spot {
+            slot: n,
+            index: f.index,
+            at: f.at,
+        };
         if f.found {
-            writers::revalue_at(
-                heads, bytes, lent, self.used, n, f.index, f.at, value, false,
-            );
+            writers::revalue_at(heads, bytes, lent, self.used, spot, value, DirtyMark::Kept);
             self.info = grown_old(self.info, value.len());
             return self;
         }
         writers::insert_at(
-            heads, bytes, lent, self.used, n, f.index, f.at, key, value, false,
+            heads,
+            bytes,
+            lent,
+            self.used,
+            spot,
+            key,
+            value,
+            DirtyMark::Kept,
         );
         self.info = grown_new(self.info, key.len(), value.len());
         self
@@ -158,33 +174,32 @@ impl Tree {
         way: &[Step],
         n: usize,
         f: Found,
-        key: &[u8],
-        value: Val<'_>,
+        put: Storable<'_, '_>,
         scratch: &mut [u8],
     ) -> Result<Tree, Refusal>
-        requires gone { (Gone lent self heads.old bytes.old way.now key.now (value_means value))
+        requires gone { (Gone lent self heads.old bytes.old way.now put.key.now (value_means put.value))
             × (n ≡ (nth_step way.now (length way.now - 1)).slot) }
-        requires found { (FoundAt lent.size (state_of lent.size self heads.old bytes.old) heads.old bytes.old n key.now f)
+        requires found { (FoundAt lent.size (state_of lent.size self heads.old bytes.old) heads.old bytes.old n put.key.now f)
             × (f.found ≡ false → self.info.key_count < 2 ^ 64 - 1) }
-        requires room { (4 + length key.now + value_length (value_means value) + 56 ≤ lent.size) × (2 * lent.size ≤ length scratch.old) }
-        requires stored { Held (value_means value) }
+        requires room { (4 + length put.key.now + value_length (value_means put.value) + 56 ≤ lent.size) × (2 * lent.size ≤ length scratch.old) }
         ensures answer { edited_of lent.size heads.new bytes.new result
             ≡ cuts (lent_of [] lent) [] (steps_in way.now)
             (index_keys (steps_in way.now)
             (put_in_leaf (touch (steps_in way.now)
-            (state_of lent.size self heads.old bytes.old)) n key.now
-            (value_means value.entry))) }
+            (state_of lent.size self heads.old bytes.old)) n put.entry.key.now
+            (value_means put.entry.value))) }
         ensures ready { ReadyEdited lent.size lent.slots heads.new bytes.new result }
         ensures follows { Follows lent.size lent.slots self.used heads.old bytes.old heads.new bytes.new }
     {
         self.touch(heads, bytes, lent, way);
-        let t = self.put_in_leaf(heads, bytes, lent, n, f, key, value);
+        let t = self.put_in_leaf(heads, bytes, lent, n, f, put);
         t.index_keys(heads, bytes, lent, way, scratch);
         t.cuts(heads, bytes, lent, way, scratch)
     }
 
     // The edit on a way that is loaded: 17; then cuts. What is too large for any node is refused before it is stored: the cut of its
     // leaf would refuse it.
+    #[tactic(auto, using(crate::specs::laws::slots::Undo::handed_back, crate::specs::laws::upsert::Steps::on_count))]
     fn upsert_on(
         self,
         heads: &mut [u64],
@@ -206,15 +221,17 @@ impl Tree {
         let n = way[way.len() - 1].slot;
         let f = view!(self, heads, bytes, lent).found_at(n, key);
         check(Refusal::Count, count_holds(f.found, self.info.key_count))?;
-        let put = val_of(value);
-        if too_large(lent.size, key.len(), put.len()) {
+        let value = val_of(value);
+        if too_large(lent.size, key.len(), value.len()) {
             let h = bank::live_at(heads, n);
             return Err(large_refusal(h.count, f.found));
         }
-        self.put_on(heads, bytes, lent, way, n, f, key, put, scratch)
+        let put = Storable { key, value };
+        self.put_on(heads, bytes, lent, way, n, f, put, scratch)
     }
 
     // Load; 17; cuts. Refused, it may leave slots changed.
+    #[tactic(auto, using(crate::specs::laws::base::Refused::handed_on, crate::specs::laws::upsert::Call::upserted_laws))]
     pub fn upserted(
         self,
         image: &[u8],
@@ -240,6 +257,7 @@ impl Tree {
     }
 
     // upsert on slots that are trusted: 12; the edit. Refused, every slot is as it was.
+    #[tactic(auto, using(crate::specs::laws::upsert::Call::upsert_in_laws, crate::specs::laws::refusal1::EditCalls::stays_trusts))]
     pub fn upsert_in(
         self,
         image: &[u8],
@@ -268,6 +286,7 @@ impl Tree {
     }
 
     // The entry of a key put: bytes, or a ghost where there are none.
+    #[tactic(auto, using(crate::specs::laws::refusal1::EditCalls::upsert_laws))]
     pub fn upsert(
         self,
         image: &[u8],

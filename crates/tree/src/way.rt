@@ -19,9 +19,6 @@ use node::order::Order;
 use node::refusal::Refusal;
 use node::slot::Records;
 
-// The highest level of a node.
-pub const MOST_LEVEL: u64 = 32;
-
 // The most nodes on a way: levels 32 to 0, and one more.
 pub const STEPS: usize = 34;
 
@@ -44,17 +41,16 @@ pub struct Way {
 }
 
 impl<'h, 'b> View<'h, 'b> {
+    #[tactic(auto, using(crate::specs::laws::load::Way::way_index_laws, crate::specs::laws::slots::OneSlot::ready_room))]
     pub fn way_index(self, n: usize, key: &[u8]) -> u64
         ensures { result
-            ≡ way_index self.entry.tree.order key.now (node_at (seen self.entry) n).entries }
+            ≡ way_index self.entry.tree.order.code key.now (node_at (seen self.entry) n).entries }
     {
         if self.tree.used <= n {
             return 0;
         }
         let h = bank::live_at(self.heads, n);
-        let order = Order {
-            code: self.tree.order,
-        };
+        let order = self.tree.order;
         let records = Records {
             slot: bank::slot_of(self.bytes, self.lent.size, n),
             count: h.count,
@@ -66,6 +62,7 @@ impl<'h, 'b> View<'h, 'b> {
 
 impl Tree {
     // The way, whatever of it is loaded: children are loaded as they are met.
+    #[tactic(auto, using(crate::specs::laws::slots::Undo::handed_back, crate::specs::laws::load::Way::way_down_laws))]
     fn way_down(
         self,
         image: &[u8],

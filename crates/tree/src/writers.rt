@@ -9,182 +9,199 @@ ghost use Rattle.tree.specs.Workspace.{slot_bytes};
 ghost use Rattle.tree.specs.Trusts.{live, Ready};
 ghost use Rattle.tree.specs.internal.Bank.{node_in, Wrote, Put};
 ghost use Rattle.tree.specs.internal.Undo.{Follows};
-ghost use Rattle.tree.specs.internal.Writers.{recounted, edited};
+ghost use Rattle.tree.specs.internal.Writers.{dirty_word, recounted, edited, entry_at, SpotIn, SpotUpto};
 
+use crate::floor::Spot;
 use crate::lent::Lent;
 use crate::view::View;
 use crate::{bank, undo};
 use node::head::Head;
 use node::slot;
-use node::slot::Records;
+use node::slot::{EntryAt, Records};
 use node::val::Val;
 
-// The words of slot n for other records; the dirty mark is set, or as it was.
+// What an edit of a slot's records does to the slot's dirty mark.
+#[derive(Clone, Copy)]
+pub enum DirtyMark {
+    Set,
+    Kept,
+}
+
+impl DirtyMark {
+    // The mark that it leaves, of the one that was there.
+    #[tactic(auto, unfolding(crate::specs::internal::Writers::dirty_word))]
+    fn word(self, dirty: u64) -> u64
+        ensures { result ≡ dirty_word self dirty }
+    {
+        match self {
+            DirtyMark::Set => 1,
+            DirtyMark::Kept => dirty,
+        }
+    }
+}
+
+impl Spot {
+    // The same among the records that a slot's words speak of.
+    fn among(self, h: Head) -> EntryAt
+        ensures { result ≡ entry_at self h }
+    {
+        EntryAt {
+            count: h.count,
+            index: self.index,
+            used: h.used as usize,
+            at: self.at,
+        }
+    }
+}
+
+// The words of slot n for other records.
 #[tactic(auto, using(crate::specs::laws::slots::Writers::recount_words))]
-fn recount(heads: &mut [u64], n: usize, count: u64, used: u64, dirty: bool)
+fn recount(heads: &mut [u64], n: usize, count: u64, used: u64, mark: DirtyMark)
     requires { (n + 1) * 9 ≤ length heads.old }
     ensures { heads.new
-        ≡ splice heads.old (n * 9) (head_words (recounted dirty count used (head_at heads.old n))) }
+        ≡ splice heads.old (n * 9) (head_words (recounted mark count used (head_at heads.old n))) }
 {
     let h = Head::load(heads, n);
     let r = Head {
         count,
         used,
-        dirty: if dirty { 1 } else { h.dirty },
+        dirty: mark.word(h.dirty),
         ..h
     };
     r.store(heads, n);
 }
 
-// An entry put before entry i of slot n, which starts at byte `at`.
+// An entry put before another of a slot, or after the last.
+#[tactic(auto, using(crate::specs::laws::slots::Writers::writes))]
 pub fn insert_at(
     heads: &mut [u64],
     bytes: &mut [u8],
     lent: Lent,
     used: usize,
-    n: usize,
-    i: u64,
-    at: usize,
+    spot: Spot,
     key: &[u8],
     value: Val<'_>,
-    dirty: bool,
+    mark: DirtyMark,
 )
     requires ready { Ready lent.size lent.slots used heads.old bytes.old }
-    requires place { (n < used) × (i ≤ (live (head_at heads.old n)).count)
-        × (at ≡ records_length i (slot_bytes lent.size bytes.old n)) × ((node_in lent.size heads.old bytes.old n).dead ≡ false) }
-    requires room { (live (head_at heads.old n)).used + (4 + length key.now + value_length (value_means value)) ≤ 4 * lent.size }
+    requires place { SpotUpto lent.size used heads.old bytes.old spot × ((node_in lent.size heads.old bytes.old spot.slot).dead ≡ false) }
+    requires room { (live (head_at heads.old spot.slot)).used + (4 + length key.now + value_length (value_means value)) ≤ 4 * lent.size }
     requires stored { (length key.now < 2 ^ 16) × Held (value_means value) }
-    ensures put { Put lent.size lent.slots heads.old bytes.old heads.new bytes.new n
-        (edited dirty (node_in lent.size heads.old bytes.old n)
-        (insert_at i (record { key = key.now; value = value_means value.entry })
-        (node_in lent.size heads.old bytes.old n).entries)) }
+    ensures put { Put lent.size lent.slots heads.old bytes.old heads.new bytes.new spot.slot
+        (edited mark (node_in lent.size heads.old bytes.old spot.slot)
+        (insert_at spot.index (record { key = key.now; value = value_means value.entry })
+        (node_in lent.size heads.old bytes.old spot.slot).entries)) }
     ensures follows { Follows lent.size lent.slots used heads.old bytes.old heads.new bytes.new }
 {
-    undo::save(heads, bytes, lent, used, n);
-    let h = bank::live_at(heads, n);
-    let a = n * (bank::SLOT_BLOCKS * lent.size);
+    undo::save(heads, bytes, lent, used, spot.slot);
+    let h = bank::live_at(heads, spot.slot);
+    let a = spot.slot * (bank::SLOT_BLOCKS * lent.size);
     let e = a + bank::SLOT_BLOCKS * lent.size;
-    let more = slot::insert(
-        &mut bytes[a..e],
-        h.count,
-        i,
-        h.used as usize,
-        at,
-        key,
-        value,
-    );
-    recount(heads, n, h.count + 1, more as u64, dirty);
+    let more = slot::insert(&mut bytes[a..e], spot.among(h), key, value);
+    recount(heads, spot.slot, h.count + 1, more as u64, mark);
 }
 
-// Entry i of slot n, which starts at byte `at`, taken out. The slot is saved, or need not be.
+// An entry of a slot taken out. The slot is saved, or need not be.
 pub fn take_at(
     heads: &mut [u64],
     bytes: &mut [u8],
     lent: Lent,
     used: usize,
-    n: usize,
-    i: u64,
-    at: usize,
-    dirty: bool,
+    spot: Spot,
+    mark: DirtyMark,
 )
     requires ready { Ready lent.size lent.slots used heads.old bytes.old }
-    requires place { (n < used) × (i < (live (head_at heads.old n)).count)
-        × (at ≡ records_length i (slot_bytes lent.size bytes.old n)) }
-    ensures { Wrote lent.size heads.old bytes.old heads.new bytes.new n
-        (edited dirty (node_in lent.size heads.old bytes.old n)
-        (remove_at i (node_in lent.size heads.old bytes.old n).entries)) }
+    requires place { SpotIn lent.size used heads.old bytes.old spot }
+    ensures { Wrote lent.size heads.old bytes.old heads.new bytes.new spot.slot
+        (edited mark (node_in lent.size heads.old bytes.old spot.slot)
+        (remove_at spot.index (node_in lent.size heads.old bytes.old spot.slot).entries)) }
 {
-    let h = bank::live_at(heads, n);
-    let a = n * (bank::SLOT_BLOCKS * lent.size);
+    let h = bank::live_at(heads, spot.slot);
+    let a = spot.slot * (bank::SLOT_BLOCKS * lent.size);
     let e = a + bank::SLOT_BLOCKS * lent.size;
-    let more = slot::remove(&mut bytes[a..e], h.count, i, h.used as usize, at);
-    recount(heads, n, h.count - 1, more as u64, dirty);
+    let more = slot::remove(&mut bytes[a..e], spot.among(h));
+    recount(heads, spot.slot, h.count - 1, more as u64, mark);
 }
 
-// Entry i of slot n, which starts at byte `at`, taken out of a slot that is saved first.
+// An entry of a slot taken out; the slot is saved first.
+#[tactic(auto, using(crate::specs::laws::slots::Writers::removes))]
 pub fn remove_at(
     heads: &mut [u64],
     bytes: &mut [u8],
     lent: Lent,
     used: usize,
-    n: usize,
-    i: u64,
-    at: usize,
-    dirty: bool,
+    spot: Spot,
+    mark: DirtyMark,
 )
     requires ready { Ready lent.size lent.slots used heads.old bytes.old }
-    requires place { (n < used) × (i < (live (head_at heads.old n)).count)
-        × (at ≡ records_length i (slot_bytes lent.size bytes.old n)) }
-    ensures put { Put lent.size lent.slots heads.old bytes.old heads.new bytes.new n
-        (edited dirty (node_in lent.size heads.old bytes.old n)
-        (remove_at i (node_in lent.size heads.old bytes.old n).entries)) }
+    requires place { SpotIn lent.size used heads.old bytes.old spot }
+    ensures put { Put lent.size lent.slots heads.old bytes.old heads.new bytes.new spot.slot
+        (edited mark (node_in lent.size heads.old bytes.old spot.slot)
+        (remove_at spot.index (node_in lent.size heads.old bytes.old spot.slot).entries)) }
     ensures follows { Follows lent.size lent.slots used heads.old bytes.old heads.new bytes.new }
 {
-    undo::save(heads, bytes, lent, used, n);
-    take_at(heads, bytes, lent, used, n, i, at, dirty);
+    undo::save(heads, bytes, lent, used, spot.slot);
+    take_at(heads, bytes, lent, used, spot, mark);
 }
 
-// Entry i of slot n, which starts at byte `at`, with another key.
+// An entry of a slot with another key.
+#[tactic(auto, using(crate::specs::laws::slots::Writers::writes))]
 pub fn rekey_at(
     heads: &mut [u64],
     bytes: &mut [u8],
     lent: Lent,
     used: usize,
-    n: usize,
-    i: u64,
-    at: usize,
+    spot: Spot,
     key: &[u8],
-    dirty: bool,
+    mark: DirtyMark,
 )
     requires ready { Ready lent.size lent.slots used heads.old bytes.old }
-    requires place { (n < used) × (i < (live (head_at heads.old n)).count)
-        × (at ≡ records_length i (slot_bytes lent.size bytes.old n)) }
-    requires room { ((live (head_at heads.old n)).used + length key.now ≤ 4 * lent.size) × (length key.now < 2 ^ 16) }
-    ensures put { Put lent.size lent.slots heads.old bytes.old heads.new bytes.new n
-        (edited dirty (node_in lent.size heads.old bytes.old n)
-        (with_key i key.now (node_in lent.size heads.old bytes.old n).entries)) }
+    requires place { SpotIn lent.size used heads.old bytes.old spot }
+    requires room { ((live (head_at heads.old spot.slot)).used + length key.now ≤ 4 * lent.size) × (length key.now < 2 ^ 16) }
+    ensures put { Put lent.size lent.slots heads.old bytes.old heads.new bytes.new spot.slot
+        (edited mark (node_in lent.size heads.old bytes.old spot.slot)
+        (with_key spot.index key.now (node_in lent.size heads.old bytes.old spot.slot).entries)) }
     ensures follows { Follows lent.size lent.slots used heads.old bytes.old heads.new bytes.new }
 {
-    undo::save(heads, bytes, lent, used, n);
-    let h = bank::live_at(heads, n);
-    let a = n * (bank::SLOT_BLOCKS * lent.size);
+    undo::save(heads, bytes, lent, used, spot.slot);
+    let h = bank::live_at(heads, spot.slot);
+    let a = spot.slot * (bank::SLOT_BLOCKS * lent.size);
     let e = a + bank::SLOT_BLOCKS * lent.size;
-    let more = slot::set_key(&mut bytes[a..e], h.count, i, h.used as usize, at, key);
-    recount(heads, n, h.count, more as u64, dirty);
+    let more = slot::set_key(&mut bytes[a..e], spot.among(h), key);
+    recount(heads, spot.slot, h.count, more as u64, mark);
 }
 
-// Entry i of slot n, which starts at byte `at`, with another value.
+// An entry of a slot with another value.
+#[tactic(auto, using(crate::specs::laws::slots::Writers::writes))]
 pub fn revalue_at(
     heads: &mut [u64],
     bytes: &mut [u8],
     lent: Lent,
     used: usize,
-    n: usize,
-    i: u64,
-    at: usize,
+    spot: Spot,
     value: Val<'_>,
-    dirty: bool,
+    mark: DirtyMark,
 )
     requires ready { Ready lent.size lent.slots used heads.old bytes.old }
-    requires place { (n < used) × (i < (live (head_at heads.old n)).count)
-        × (at ≡ records_length i (slot_bytes lent.size bytes.old n)) }
-    requires room { (live (head_at heads.old n)).used + value_length (value_means value) ≤ 4 * lent.size }
+    requires place { SpotIn lent.size used heads.old bytes.old spot }
+    requires room { (live (head_at heads.old spot.slot)).used + value_length (value_means value) ≤ 4 * lent.size }
     requires stored { Held (value_means value) }
-    ensures put { Put lent.size lent.slots heads.old bytes.old heads.new bytes.new n
-        (edited dirty (node_in lent.size heads.old bytes.old n)
-        (with_value i (value_means value.entry) (node_in lent.size heads.old bytes.old n).entries)) }
+    ensures put { Put lent.size lent.slots heads.old bytes.old heads.new bytes.new spot.slot
+        (edited mark (node_in lent.size heads.old bytes.old spot.slot)
+        (with_value spot.index (value_means value.entry) (node_in lent.size heads.old bytes.old spot.slot).entries)) }
     ensures follows { Follows lent.size lent.slots used heads.old bytes.old heads.new bytes.new }
 {
-    undo::save(heads, bytes, lent, used, n);
-    let h = bank::live_at(heads, n);
-    let a = n * (bank::SLOT_BLOCKS * lent.size);
+    undo::save(heads, bytes, lent, used, spot.slot);
+    let h = bank::live_at(heads, spot.slot);
+    let a = spot.slot * (bank::SLOT_BLOCKS * lent.size);
     let e = a + bank::SLOT_BLOCKS * lent.size;
-    let more = slot::set_value(&mut bytes[a..e], h.count, i, h.used as usize, at, value);
-    recount(heads, n, h.count, more as u64, dirty);
+    let more = slot::set_value(&mut bytes[a..e], spot.among(h), value);
+    recount(heads, spot.slot, h.count, more as u64, mark);
 }
 
 impl<'h, 'b> View<'h, 'b> {
     // Where entry i of slot n starts, or the bytes after its last entry.
+    #[tactic(auto, using(crate::specs::laws::slots::Writers::offsets))]
     pub fn offset_at(self, n: usize, i: u64) -> usize
         requires n_lt_used { (n < self.tree.used) × (i ≤ (live (head_at self.heads.now n)).count) }
         ensures { result ≡ records_length i (slot_bytes self.entry.lent.size self.entry.bytes.now n) }

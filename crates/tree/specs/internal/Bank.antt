@@ -9,6 +9,10 @@ pub use Rattle.tree.specs.Trusts.{Lies, Ready}
 unfoldable pub node_in : ℕ → List ℕ → List ℕ → ℕ → MemNode
 node_in size heads bytes n = node_of (head_at heads n) (slot_bytes size bytes n)
 
+-- a slot in use that has an entry i
+abbrev pub HasEntry : ℕ → List ℕ → ℕ → ℕ → Type 0
+HasEntry used heads n i = (n < used) × (i < (live (head_at heads n)).count)
+
 -- slot n, of all slots and shadows, is the node m now; every other is as it was, and so are the marks
 pub record Wrote (size : ℕ) (heads bytes heads' bytes' : List ℕ) (n : ℕ) (m : MemNode) : Type 0 where
   pub node : node_in size heads' bytes' n ≡ m

@@ -17,7 +17,7 @@ use Rattle.tree.specs.Workspace.{slot_bytes, state_of}
 use Rattle.tree.specs.Trusts.{live, Ready}
 pub use Rattle.tree.specs.Trusts.{FloorCalled}
 use Rattle.tree.specs.declared.editor.Tree.{Tree}
-use Rattle.tree.specs.declared.floor.Last.{Last}
+use Rattle.tree.specs.declared.editor.Position.{Position}
 use Rattle.tree.specs.declared.floor.Spot.{Spot}
 
 -- ---- where a lookup ended
@@ -30,11 +30,11 @@ unfoldable pub entry_in : State → ℕ → ℕ → lookup.Got Entry
 entry_in s n i = record { state = s; answer = get_or (node_at s n).entries i (record { key = []; value = ghost }) ∷ [] }
 
 -- an entry, if there is one
-unfoldable pub got_last : State → Option Last → lookup.Got Entry
+unfoldable pub got_last : State → Option Position → lookup.Got Entry
 got_last s None = none_in s
 got_last s (Some e) = entry_in s e.slot e.index
 
-unfoldable pub last_means : ℕ → List ℕ → List ℕ → std.Result (Tree × Option Last) Refusal → Result (lookup.Got Entry)
+unfoldable pub last_means : ℕ → List ℕ → List ℕ → std.Result (Tree × Option Position) Refusal → Result (lookup.Got Entry)
 last_means size heads bytes (Err x) = refused (refusal.number_of x)
 last_means size heads bytes (Ok (t, e)) = ok (got_last (state_of size t heads bytes) e)
 
@@ -45,11 +45,11 @@ pub record EntryReady (size slots : ℕ) (t : Tree) (heads bytes : List ℕ) (n 
   pub entry : i < (live (head_at heads n)).count
 
 -- the same of the entry that a lookup ended at
-abbrev pub AtEntry : ℕ → ℕ → Tree → List ℕ → List ℕ → Last → Type 0
+abbrev pub AtEntry : ℕ → ℕ → Tree → List ℕ → List ℕ → Position → Type 0
 AtEntry size slots t heads bytes e = EntryReady size slots t heads bytes e.slot e.index
 
 -- an accepted lookup leaves the workspace ready, and what it found is an entry
-abbrev pub LastReady : ℕ → ℕ → List ℕ → List ℕ → std.Result (Tree × Option Last) Refusal → Type 0
+abbrev pub LastReady : ℕ → ℕ → List ℕ → List ℕ → std.Result (Tree × Option Position) Refusal → Type 0
 LastReady size slots heads bytes (Err x) = Unit {0}
 LastReady size slots heads bytes (Ok (t, None)) = Ready size slots t.used heads bytes
 LastReady size slots heads bytes (Ok (t, Some e)) = EntryReady size slots t heads bytes e.slot e.index

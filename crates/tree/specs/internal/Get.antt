@@ -1,32 +1,24 @@
 -- What the steps of get compute, of the slots.
-use Rattle.std.specs.Prelude.{List, [], ◌∷◌, ℕ, ◌+◌, ◌≤◌, length, leb, Option, Some, None, Ok, Err}
+use Rattle.std.specs.Prelude.{List, [], ◌∷◌, ℕ, leb, Option, Some, None, Ok, Err}
 use Rattle.std.specs.Prelude as std
-use Rattle.node.specs.Bytes.{window}
+use Rattle.node.specs.Slot.{value_means}
 use Rattle.node.specs.Result.{Result, ok, ◌>>=◌, ◌>>◌, check}
 use Rattle.node.specs.Refusals as refusal
 use Rattle.node.specs.declared.refusal.Refusal.{Refusal}
-use Rattle.node.specs.Entry.{Val, ghost, leaf}
+use Rattle.node.specs.Entry.{Val}
 use Rattle.tree.specs.Lent as lent
 use Rattle.tree.specs.State.{State, node_at}
 use Rattle.tree.specs.Lookup as lookup
 use Rattle.tree.specs.Trusts.{Ready}
 pub use Rattle.tree.specs.Trusts.{GotCalled}
 use Rattle.tree.specs.declared.editor.Tree.{Tree}
-use Rattle.tree.specs.declared.get.Held.{Held}
-use Rattle.tree.specs.declared.get.Held.TheVariants as held
+use Rattle.node.specs.declared.val.Val as Kept
 use Rattle.tree.specs.declared.get.Copied.{Copied}
 
--- what a key holds, of the slot's bytes
-unfoldable pub held_means : List ℕ → Option Held → List Val
-held_means l None = []
-held_means l (Some held.Ghost) = ghost ∷ []
-held_means l (Some (held.Value at n)) = leaf (window at n l) ∷ []
-
--- a value lies in the slot
-abbrev pub HeldIn : List ℕ → Option Held → Type 0
-HeldIn l None = Unit {0}
-HeldIn l (Some held.Ghost) = Unit {0}
-HeldIn l (Some (held.Value at n)) = at + n ≤ length l
+-- what a key holds, if anything
+unfoldable pub held_means : Option Kept.Val → List Val
+held_means None = []
+held_means (Some v) = value_means v ∷ []
 
 -- of `get_in`, what follows the leaf: 20
 unfoldable pub got_held : State → ℕ → List Val → Result (lookup.Got Val)

@@ -43,7 +43,7 @@ unfoldable pub body_holds : Tree → ℕ → Head → List ℕ → Bool
 body_holds t n h l =
     leb h.level 32
     && count_holds h.level h.count
-    && records_stand t.order t.info (eqb h.level 0) h.count h.used l
+    && records_stand t.order.code t.info (eqb h.level 0) h.count h.used l
     && place_holds t (eqb n t.root) h (room_of t.info (entries_of h.count l))
 
 -- a child in a slot, as the words of the slots say

@@ -1,5 +1,5 @@
 -- What the steps of range compute, of the slots: nodes loaded and entries counted, then written out.
-use Rattle.std.specs.Prelude.{List, [], ◌∷◌, ◌++◌, Bool, cond, ◌&&◌, not, ℕ, zero, suc, ◌+◌, ◌^◌, length, leb, Option, Some, None, Ok, Err}
+use Rattle.std.specs.Prelude.{List, [], ◌∷◌, ◌++◌, Bool, cond, ◌&&◌, not, ℕ, zero, suc, ◌+◌, ◌-◌, ◌^◌, length, leb, Option, Some, None, Ok, Err}
 use Rattle.std.specs.Borrow.{Bor}
 use Rattle.std.specs.Prelude as std
 use Rattle.node.specs.Result.{Result, ok, refused, ◌>>=◌, ◌>>◌, check}
@@ -16,7 +16,7 @@ use Rattle.tree.specs.Load.{Bounds, unbounded, child_bounds, load_child}
 use Rattle.tree.specs.Lookup.{Got, ends_above, between, range_enters, range_from}
 use Rattle.tree.specs.Trusts.{Ready}
 pub use Rattle.tree.specs.Trusts.{RangeCalled}
-use Rattle.tree.specs.declared.range.Sum.{Sum}
+use Rattle.tree.specs.declared.editor.Tree.{Tree}
 use Rattle.tree.specs.declared.range.Ranged.{Ranged}
 
 -- ---- between two ends
@@ -30,18 +30,23 @@ end_of (Some hi) = hi.now ∷ []
 unfoldable pub lies_between : ℕ → List ℕ → List (List ℕ) → List ℕ → Bool
 lies_between o lo hi k = not (less o k lo) && ends_above o hi k
 
--- of m children from child i on, the first that range enters; the one after them if there is none
-unfoldable pub next_entered : ℕ → List ℕ → List (List ℕ) → List Entry → ℕ → ℕ → ℕ
-next_entered o lo hi es zero i = i
-next_entered o lo hi es (suc m) i = cond (range_enters o lo hi es i) i (next_entered o lo hi es m (suc i))
+-- of m children from child i on, the first that range enters, if there is one
+unfoldable pub next_entered : ℕ → List ℕ → List (List ℕ) → List Entry → ℕ → ℕ → Option ℕ
+next_entered o lo hi es zero i = None
+next_entered o lo hi es (suc m) i = cond (range_enters o lo hi es i) (Some i) (next_entered o lo hi es m (suc i))
 
 -- ---- sums that are cut off
 
 abbrev pub most : ℕ
-most = 2 ^ 62
+most = 2 ^ 64 - 1
 
 unfoldable pub at_most : ℕ → ℕ
 at_most n = cond (leb n most) n most
+
+-- how many, and how many bytes
+pub record Sum : Type 0 where
+  pub count : ℕ
+  pub length : ℕ
 
 -- how many entries, and the bytes of their records
 unfoldable pub sum_of : List Entry → Sum
@@ -50,6 +55,14 @@ sum_of es = record { count = at_most (length es); length = at_most (length (reco
 -- two sums as one
 unfoldable pub plus : Sum → Sum → Sum
 plus a b = record { count = at_most (a.count + b.count); length = at_most (a.length + b.length) }
+
+-- the same as the code says it: with the tree that they are of
+unfoldable pub found_in : Tree → List Entry → Ranged
+found_in t es = record { tree = t; count = at_most (length es); length = at_most (length (records_of es)) }
+
+-- what was found, and what was found after it
+unfoldable pub both : Ranged → Ranged → Ranged
+both a b = record { tree = b.tree; count = at_most (a.count + b.count); length = at_most (a.length + b.length) }
 
 -- ---- loaded and counted
 
@@ -75,13 +88,9 @@ abbrev pub ReadyRanged : ℕ → ℕ → List ℕ → List ℕ → std.Result Ra
 ReadyRanged size slots heads bytes (Err x) = Unit {0}
 ReadyRanged size slots heads bytes (Ok r) = Ready size slots r.tree.used heads bytes
 
--- of `range_kids`, child i alone: loaded and looked into if range enters it
-unfoldable pub range_child : (State → Bounds → ℕ → Result (Got Entry)) → lent.Lent → State → Bounds → ℕ → List ℕ → List (List ℕ) → ℕ
-    → Result (Got Entry)
-range_child f l s bs n lo hi i =
-    cond (range_enters s.order lo hi (node_at s n).entries i)
-    (load_child l s bs n i >>= λ c. f c.state (child_bounds s.order bs (node_at s n).entries i) c.slot)
-    (ok (record { state = s; answer = [] }))
+-- of `range_kids`, child i alone: loaded and looked into
+unfoldable pub range_child : (State → Bounds → ℕ → Result (Got Entry)) → lent.Lent → State → Bounds → ℕ → ℕ → Result (Got Entry)
+range_child f l s bs n i = load_child l s bs n i >>= λ c. f c.state (child_bounds s.order bs (node_at s n).entries i) c.slot
 
 -- ---- written out: the entries in range of a tree whose nodes are loaded
 

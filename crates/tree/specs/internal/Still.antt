@@ -58,4 +58,4 @@ abbrev pub StillRemoved : ℕ → ℕ → Tree → List ℕ → List ℕ → Lis
 StillRemoved size slots t heads bytes heads' bytes' k None = (heads' ≡ heads) × (bytes' ≡ bytes)
 StillRemoved size slots t heads bytes heads' bytes' k (Some u) =
     ((l : lent.Lent) → ok (record { state = state_of size u heads' bytes'; present = true }) ≡ removed l (state_of size t heads bytes) k)
-    × (keyed t.order k ≡ true) × Ready size slots u.used heads' bytes'
+    × (keyed t.order.code k ≡ true) × Ready size slots u.used heads' bytes'

@@ -12,7 +12,7 @@ use Rattle.tree.specs.Workspace.{state_of}
 use Rattle.tree.specs.Load as load
 use Rattle.tree.specs.internal.Brought.{brought}
 use Rattle.tree.specs.internal.Bank.{Ready}
-use Rattle.tree.specs.declared.editor.Bound.{Bound}
+use Rattle.tree.specs.declared.editor.Position.{Position}
 use Rattle.tree.specs.declared.editor.Tree.{Tree}
 use Rattle.node.specs.Refusals.{number_of}
 use Rattle.node.specs.declared.refusal.Refusal.{Refusal}
@@ -26,11 +26,11 @@ child_of (leaf v) = None
 child_of (disk r) = Some (child.Disk r)
 child_of (mem c) = Some (child.Mem c)
 
-unfoldable pub bound_of : State → Option Bound → List (List ℕ)
+unfoldable pub bound_of : State → Option Position → List (List ℕ)
 bound_of s None = []
 bound_of s (Some b) = key_at (node_at s b.slot).entries b.index ∷ []
 
-unfoldable pub bounds_of : State → Bounds Bound → load.Bounds
+unfoldable pub bounds_of : State → Bounds Position → load.Bounds
 bounds_of s b = record { lower = bound_of s b.lower; upper = bound_of s b.upper }
 
 -- the same of bounds whose keys are lent
@@ -42,10 +42,10 @@ unfoldable pub edges_of : Bounds (Bor (List ℕ)) → load.Bounds
 edges_of b = record { lower = edge_of b.lower; upper = edge_of b.upper }
 
 -- a bound, if it is one, is of a slot in use
-abbrev pub BoundIn : ℕ → Option Bound → Type 0
+abbrev pub BoundIn : ℕ → Option Position → Type 0
 BoundIn used b = IfSome b (λ x. x.slot < used)
 
-pub record BoundsIn (used : ℕ) (b : Bounds Bound) : Type 0 where
+pub record BoundsIn (used : ℕ) (b : Bounds Position) : Type 0 where
   pub lower : BoundIn used b.lower
   pub upper : BoundIn used b.upper
 

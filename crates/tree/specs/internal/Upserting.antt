@@ -1,7 +1,9 @@
 -- An upsert at work: the way that it has gone.
 use Rattle.std.specs.Prelude.{◌≡◌, List, true, ℕ, ◌*◌}
 use Rattle.node.specs.Result.{ok}
-use Rattle.node.specs.Entry.{Val}
+use Rattle.std.specs.Coded.{Unit-prop, le_prop}
+use Rattle.node.specs.Entry.{Val, ghost, leaf, disk, mem}
+use Rattle.node.specs.internal.Storable.{Held}
 use Rattle.tree.specs.Lent.{lent_of}
 use Rattle.tree.specs.State.{State}
 use Rattle.tree.specs.Lookup as lookup
@@ -14,6 +16,13 @@ use Rattle.tree.specs.internal.Way.{steps_in}
 use Rattle.tree.specs.declared.editor.Tree.{Tree}
 use Rattle.tree.specs.declared.lent.Lent.{Lent}
 use Rattle.tree.specs.declared.way.Step as code
+
+-- that a record can hold a value is a fact: it has one proof
+pub held_once : (v : Val) → IsProp (Held v)
+held_once ghost = Unit-prop
+held_once (leaf v) = le_prop
+held_once (disk r) = le_prop
+held_once (mem s) = le_prop
 
 -- the slots in use and the steps taken, as a way
 abbrev pub way_gone : ℕ → Tree → List ℕ → List ℕ → List code.Step → lookup.Way

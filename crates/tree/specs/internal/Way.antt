@@ -1,6 +1,12 @@
 -- The way as the code keeps it: an array of steps, and how many are taken.
-use Rattle.std.specs.Prelude.{◌≡◌, List, [], ◌∷◌, ◌++◌, ℕ, zero, suc, ◌<◌, length, get_or, Ok, Err}
+use Rattle.std.specs.Prelude.{◌≡◌, List, [], ◌∷◌, ◌++◌, ℕ, zero, suc, ◌-◌, ◌≤◌, ◌<◌, length, take, get_or, Ok, Err}
 use Rattle.std.specs.Prelude as std
+use Rattle.std.specs.Borrow.{Bor}
+use Rattle.std.specs.Iterator.Adapters.{rev_source}
+use Rattle.std.specs.Slice.ArrayWindows.{array_windows_parts}
+use Rattle.std.specs.Slice.Iter.{windows_rest}
+use Rattle.std.specs.declared.iter.Rev.{Rev}
+use Rattle.std.specs.declared.slice.ArrayWindows.{ArrayWindows}
 use Rattle.node.specs.Result.{Result, ok, refused, ◌>>=◌}
 use Rattle.node.specs.Refusals.{number_of}
 use Rattle.node.specs.declared.refusal.Refusal.{Refusal}
@@ -25,6 +31,24 @@ steps_of way (suc k) = steps_of way k ++ record { slot = (nth_step way k).slot; 
 -- all steps
 abbrev pub steps_in : List code.Step → List lookup.Step
 steps_in way = steps_of way (length way)
+
+-- the steps that a walk of a way's pairs, each step with the one below it and the lowest first, has left
+abbrev pub steps_left : Rev (ArrayWindows code.Step 2) → List code.Step
+steps_left s = windows_rest (array_windows_parts (rev_source s))
+
+-- they are the first ones of the way, and at least one where the way has any
+pub record PairsOf (way : List code.Step) (s : Rev (ArrayWindows code.Step 2)) : Type 0 where
+  pub rest : steps_left s ≡ take (length (steps_left s)) way
+  pub within : length (steps_left s) ≤ length way
+  pub some : 0 < length way → 0 < length (steps_left s)
+
+-- a turn of that walk: the last two of the steps that it had left, of which the upper one is still left
+pub record PairTaken (way : List code.Step) (s t : Rev (ArrayWindows code.Step 2)) (w : Bor (List code.Step)) : Type 0 where
+  pub some : 2 ≤ length (steps_left s)
+  pub left : length (steps_left t) ≡ length (steps_left s) - 1
+  pub next : PairsOf way t
+  pub above : nth_step w.now 0 ≡ nth_step way (length (steps_left s) - 1 - 1)
+  pub below : nth_step w.now 1 ≡ nth_step way (length (steps_left s) - 1)
 
 -- a way that the code walked
 unfoldable pub walked_of : ℕ → List ℕ → List ℕ → Way → lookup.Way

@@ -2,3 +2,4 @@
 pub mod Node
 pub mod NodeSlots
 pub mod Refused
+pub mod Tests

@@ -1,5 +1,6 @@
 -- Index keys and cuts on a way, as the code makes them.
 pub mod IndexKey
+pub mod Pairs
 pub mod IndexKeys
 pub mod Part
 pub mod LinkChild

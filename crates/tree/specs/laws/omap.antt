@@ -1,6 +1,5 @@
 -- The object map's drop and put.
 pub mod Keys
-pub mod Listed
 pub mod Drop
 pub mod RemoveAll
 pub mod Calls

@@ -4,30 +4,18 @@ use Rattle.node.specs.Slot.{MemNode, with_value}
 use Rattle.tree.specs.laws.slots.Undo.{saved_index, saved_child, saved_put_of}
 use mathlib.Core.Path.{refl}
 use native.Mathlib.Omega.{arith}
-use Rattle.tree.specs.laws.slots.Undo.{saved_ready, saved_same, saved_put, saved_follows}
-use borrow.Author.Rules.{rules}
+use Rattle.tree.specs.laws.slots.Undo.{saved_ready, saved_follows}
 use Rattle.tree.proofs.bank.link.Goals as goal
-
-ruleset laws = (rules, saved_ready, saved_same, saved_put, saved_follows)
-
-pub save-requires : goal.save-requires
-save-requires c = search laws
 
 pub link_in-requires : goal.link_in-requires
 link_in-requires c =
     let p = c.requires in
     let s = c.save.ensures in
-    record { ready = saved_ready _ _ _ _ _ _ _ _ s p.ready c.save.auto.heads c.save.auto.bytes; n_lt_used = (p.n_lt_used.0, saved_index _ _ _ _ _ _ _ _ s _ (omega (arith, p.ready.within, p.n_lt_used.0)) p.n_lt_used.1, saved_child _ _ _ _ _ _ _ _ s _ (omega (arith, p.ready.within, p.n_lt_used.0)) p.n_lt_used.2) }
-
-pub shape_of-heads : goal.shape_of-heads
-shape_of-heads c = search laws
-
-pub shape_of-bytes : goal.shape_of-bytes
-shape_of-bytes c = search laws
+    record { ready = saved_ready _ _ _ _ _ _ _ _ s p.ready c.save.auto.heads c.save.auto.bytes; entry = ((p.entry.0.0, saved_index _ _ _ _ _ _ _ _ s _ (omega (arith, p.ready.within, p.entry.0.0)) p.entry.0.1), saved_child _ _ _ _ _ _ _ _ s _ (omega (arith, p.ready.within, p.entry.0.0)) p.entry.1) }
 
 pub returns : goal.returns
 returns c =
     let p = c.requires in
     let a = c.args in
     let s = c.save.ensures in
-    record { put = saved_put_of _ _ _ _ _ _ _ _ s _ _ _ c.link_in.ensures (λ (m : MemNode). with_entries m (with_value a.i (mem a.c) m.entries)) (omega (arith, p.ready.within, p.n_lt_used.0)) refl; follows = saved_follows _ _ _ _ _ _ _ _ s _ _ _ c.link_in.ensures p.n_lt_used.0 p.ready.within }
+    record { put = saved_put_of _ _ _ _ _ _ _ _ s _ _ _ c.link_in.ensures (λ (m : MemNode). with_entries m (with_value a.i (mem a.c) m.entries)) (omega (arith, p.ready.within, p.entry.0.0)) refl; follows = saved_follows _ _ _ _ _ _ _ _ s _ _ _ c.link_in.ensures p.entry.0.0 p.ready.within }

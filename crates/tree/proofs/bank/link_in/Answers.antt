@@ -6,13 +6,13 @@ use borrow.Author.Rules.{rules}
 use Rattle.tree.proofs.bank.link_in.Goals as goal
 
 pub overflow_mul-a-2 : goal.overflow_mul-a-2
-overflow_mul-a-2 c = omega (arith, ready_part _ _ _ _ _ _ c.requires.ready c.requires.n_lt_used.0)
+overflow_mul-a-2 c = omega (arith, ready_part _ _ _ _ _ _ c.requires.ready c.requires.entry.0.0)
 
 pub overflow_add-e : goal.overflow_add-e
-overflow_add-e c = omega (arith, ready_part _ _ _ _ _ _ c.requires.ready c.requires.n_lt_used.0)
+overflow_add-e c = omega (arith, ready_part _ _ _ _ _ _ c.requires.ready c.requires.entry.0.0)
 
 pub slice_bounds-link_part-end : goal.slice_bounds-link_part-end
-slice_bounds-link_part-end c = omega (arith, ready_part _ _ _ _ _ _ c.requires.ready c.requires.n_lt_used.0)
+slice_bounds-link_part-end c = omega (arith, ready_part _ _ _ _ _ _ c.requires.ready c.requires.entry.0.0)
 
 pub link_part-requires : goal.link_part-requires
 link_part-requires c =
@@ -22,7 +22,7 @@ link_part-requires c =
     let ek : k ≡ 4 * a.lent.size = omega arith in
     let is = part_is _ _ _ k ek in
     let e = c.live_at-h.ensures in
-    record { room = (slot_room _ _ _ _ _ _ p.ready p.n_lt_used.0 _ is _ e, slot_index _ _ _ _ _ _ p.ready p.n_lt_used.0 _ is _ e _ p.n_lt_used.1); old = slot_child _ _ _ _ _ _ p.ready p.n_lt_used.0 _ is _ e _ p.n_lt_used.2 }
+    record { room = (slot_room _ _ _ _ _ _ p.ready p.entry.0.0 _ is _ e, slot_index _ _ _ _ _ _ p.ready p.entry.0.0 _ is _ e _ p.entry.0.1); old = slot_child _ _ _ _ _ _ p.ready p.entry.0.0 _ is _ e _ p.entry.1 }
 
 pub returns : goal.returns
 returns c =
@@ -30,4 +30,4 @@ returns c =
     let p = c.requires in
     let k = a.n * (4 * a.lent.size) + 4 * a.lent.size - a.n * (4 * a.lent.size) in
     let ek : k ≡ 4 * a.lent.size = omega arith in
-    link_put _ _ _ _ _ _ p.ready p.n_lt_used.0 k ek _ c.live_at-h.ensures _ _ _ (c.link_part.ensures.0 ∙ sym (slot_used _ _ _ _ _ _ p.ready p.n_lt_used.0 _ (part_is _ _ _ k ek) _ c.live_at-h.ensures)) c.link_part.ensures.1 (search rules) _ refl
+    link_put _ _ _ _ _ _ p.ready p.entry.0.0 k ek _ c.live_at-h.ensures _ _ _ (c.link_part.ensures.0 ∙ sym (slot_used _ _ _ _ _ _ p.ready p.entry.0.0 _ (part_is _ _ _ k ek) _ c.live_at-h.ensures)) c.link_part.ensures.1 (search rules) _ refl

@@ -1,31 +1,13 @@
-use Rattle.tree.specs.laws.refusal1.Ready.{lent_numbers_lem, lent_least, lent_most, lent_many, lent_sized, lent_room, lent_laid, lent_is}
-use borrow.Author.Rules.{rules}
-use Rattle.std.proofs.Common.{ap}
-use mathlib.Core.Bool.{not}
+use Rattle.std.proofs.Common.{rules, tests, ◌∙◌}
+use mathlib.Core.Path.{sym}
+use Rattle.tree.specs.laws.refusal1.Ready.{lent_laid, lent_sized}
+use Rattle.tree.proofs.lent.lent_holds.Goals.{then-numbers_hold, else-numbers_hold}
 use Rattle.tree.proofs.lent.lent_holds.Goals as goal
 
-ruleset laws = (rules, lent_numbers_lem, lent_least, lent_most, lent_many, lent_sized, lent_room, lent_laid, lent_is)
-
-pub numbers_hold-requires : goal.numbers_hold-requires
-numbers_hold-requires c = search laws
-
-pub returns-then-not-numbers_hold : goal.returns-then-not-numbers_hold
-returns-then-not-numbers_hold c = search laws
-
-pub room_holds-requires : goal.room_holds-requires
-room_holds-requires c =
-    let a = c.args in let n = c.numbers_hold in (
-      lent_most a.image.now a.lent a.t a.heads.now a.bytes.now _ n.ensures (ap not c.if-not-numbers_hold.false),
-      lent_many a.image.now a.lent
-          a.t a.heads.now a.bytes.now _ n.ensures (ap not c.if-not-numbers_hold.false),
-    )
-
-pub returns-then-not-room_holds : goal.returns-then-not-room_holds
-returns-then-not-room_holds c = search laws
-
-pub hold_together-requires : goal.hold_together-requires
-hold_together-requires c =
-    let a = c.args in let n = c.numbers_hold in (lent_laid a.image.now a.lent a.t _ _ _ n.ensures (ap not c.if-not-numbers_hold.false) _ c.room_holds.ensures (ap not c.if-not-room_holds.false), lent_sized a.image.now a.lent a.t a.heads.now a.bytes.now _ n.ensures (ap not c.if-not-numbers_hold.false))
-
-pub returns : goal.returns
-returns c = search laws
+pub invariant_of-hold_together : goal.invariant_of-hold_together
+invariant_of-hold_together c = elim c.if-numbers_hold.branch [
+  | then-numbers_hold w ↦
+      let laid = lent_laid _ _ _ _ c.numbers_hold.ensures w.if-numbers_hold.true _ _ _ w.room_holds.ensures (sym w.value-is ∙ c.if-room_holds.true) in
+      record { laid = laid; sized = lent_sized _ _ _ _ c.numbers_hold.ensures w.if-numbers_hold.true }
+  | else-numbers_hold w ↦ search (rules, tests)
+]

@@ -1,12 +1,14 @@
 -- Laws of what a cut asks first: the step above, room for nodes made, whether a slot fits. Assumes nothing.
-use Rattle.std.specs.Prelude.{◌≡◌, refl, List, [], Bool, true, length, eqb, ⊤, Some, None, Ok, Err}
+use Rattle.std.specs.Prelude.{◌≡◌, refl, List, [], Bool, true, length, eqb, ⊤, Some, None, Ok, Err, MatchResult}
+use Rattle.std.specs.Result.{IsErrAnd}
+use Rattle.tree.specs.laws.base.Refused.{handed_on}
 use Rattle.std.specs.Prelude as std
 use Rattle.std.proofs.Math.Path.{sym}
 use Rattle.std.proofs.Common.{ap, ◌∙◌, arith}
 use Rattle.std.proofs.Math.Bool.{false}
 use Prim.Native.Nat.{ℕ, suc, ◌+◌, ◌-◌, ◌^◌, ◌≤◌, ◌<◌}
 use Rattle.std.proofs.Math.Dec.{leb}
-use borrow.Author.Tests.{le-leb, lt-leb, leb-true, eq-eqb, ne_eqb}
+use borrow.Author.Tests.{le-leb, lt-leb, leb-true, leb-false, eq-eqb, ne_eqb}
 use Rattle.node.specs.laws.base.Tests.{by_test, never}
 use Rattle.node.specs.Result.{ok, refused}
 use Rattle.node.specs.Records.{records_length, entries_of}
@@ -38,28 +40,32 @@ module _ (way : List code.Step) (j : ℕ) where
   unfolding up_of above_of
   above_none e = rw e
 
-  pub above_some : (j ≡ 0 → ⊥) → up_of (Some (record { slot = (nth_step way (j - 1)).slot; child = (nth_step way (j - 1)).child })) ≡ above_of way j
+  pub above_some : (x : code.Step) → x ≡ nth_step way (j - 1) → 0 < j → up_of (Some x) ≡ above_of way j
   unfolding up_of above_of step_at
-  above_some d = let z : j ≡ suc (j - 1) = omega (arith, d) in sym (ap (above_of way) z)
+  above_some x e h = let z : j ≡ suc (j - 1) = omega arith in rw e (sym (ap (above_of way) z))
 
 -- ---- room for nodes made
 
 module _ (count used slots n : ℕ) (few : n ≤ 2) where
-  pub no_count : 18446744073709551615 - n < count → Err is.Count ≡ room_of count used slots n
+  -- what the first check says
+  pub count_refused : (r : std.Result ⊤ Refusal) (x : Refusal) → IsErrAnd r (λ y. y ≡ x) → x ≡ is.Count
+      → leb count (18446744073709551615 - n) ≡ false → r ≡ room_of count used slots n
   unfolding room_of
-  no_count h = let z : leb (count + n) (2 ^ 64 - 1) ≡ false = lt-leb (count + n) (2 ^ 64 - 1) (omega arith) in rw z
+  count_refused r x e q h =
+      let z : leb (count + n) (2 ^ 64 - 1) ≡ false = lt-leb (count + n) (2 ^ 64 - 1) (omega (arith, leb-false count _ h)) in
+      handed_on r x e ∙ rw (q, z) refl
 
-  module _ (h : count ≤ 18446744073709551615 - n) where
+  module _ (h : leb count (18446744073709551615 - n) ≡ true) where
     counts : leb (count + n) (2 ^ 64 - 1) ≡ true
-    counts = le-leb (count + n) (2 ^ 64 - 1) (omega arith)
+    counts = le-leb (count + n) (2 ^ 64 - 1) (omega (arith, leb-true count _ h))
 
-    pub no_slots : slots < used + n → Err is.NoSlot ≡ room_of count used slots n
+    -- and the second
+    pub slots_checked : (r : std.Result ⊤ Refusal)
+        → MatchResult r (λ _. leb (used + n) slots ≡ true) (λ x. (leb (used + n) slots ≡ false) × (x ≡ is.NoSlot))
+        → r ≡ room_of count used slots n
     unfolding room_of
-    no_slots k = rw (counts, lt-leb (used + n) slots k)
-
-    pub has_room : used + n ≤ slots → Ok tt ≡ room_of count used slots n
-    unfolding room_of
-    has_room k = rw (counts, le-leb (used + n) slots k)
+    slots_checked (Ok u) e = rw (counts, e)
+    slots_checked (Err x) e = rw (counts, e.0, e.1)
 
 -- there is room
 module _ (count used slots n : ℕ) (u : ⊤) (e : Ok u ≡ room_of count used slots n) where
@@ -156,3 +162,5 @@ module _ (size slots n : ℕ) (t : Tree) (heads bytes : List ℕ) (r : Ready siz
         → b ≡ stays_whole (state_of size t heads bytes) n
     unfolding state_of
     whole_fits b e = rw (alive_node, alive_entries, alive_level) e
+
+pub ruleset fits_at_laws = (whole_dead, whole_room, whole_used, whole_long, whole_fits)

@@ -232,3 +232,5 @@ module _ (l : Lent) (t : Tree) (heads bytes : List ℕ) (up : code.Step) (n plac
 pub counted_ready : (size slots n : ℕ) (t v : Tree) (h b : List ℕ) → v ≡ counted t n → Ready size slots t.used h b → Ready size slots v.used h b
 unfolding counted
 counted_ready size slots n t v h b c r = rw c r
+
+pub ruleset cut_root_laws = (top_not, top_full)

@@ -90,15 +90,18 @@ module _ (l : Lent) (t : Tree) (way : List code.Step) (h0 b0 : List ℕ) where
       let z : length way - length way ≡ 0 = omega arith in
       record { state = rw z; more = omega arith; ready = r; follows = follows_same l.size l.slots t.used h0 b0 }
 
+  at_root : (i : ℕ) → i ≡ 0 → cuts (lent_of [] l) (above_of way i) (steps_from way i (length way - i)) s ≡ cuts (lent_of [] l) [] (steps_in way) s
+  unfolding above_of
+  at_root i z =
+      let y : length way - 0 ≡ length way = omega arith in
+      ap (λ (k : ℕ). cuts (lent_of [] l) (above_of way k) (steps_from way k (length way - k)) s) z
+      ∙ ap (λ (m : ℕ). cuts (lent_of [] l) [] (steps_from way 0 m) s) y
+      ∙ ap (λ (ps : List Step). cuts (lent_of [] l) [] ps s) (sym (from_start way (length way)))
+
   module _ (j : ℕ) (u : Tree) (h b : List ℕ) (d : CutFrom l t way j h0 b0 u h b) where
     pub from_all : j ≤ 0 → edited_of l.size h b (Ok u) ≡ cuts (lent_of [] l) [] (steps_in way) (state_of l.size t h0 b0)
-    unfolding edited_of above_of
-    from_all q =
-        let z : j ≡ 0 = omega arith in
-        let y : length way - 0 ≡ length way = omega arith in
-        sym d.state ∙ ap (λ (i : ℕ). cuts (lent_of [] l) (above_of way i) (steps_from way i (length way - i)) s) z
-        ∙ ap (λ (m : ℕ). cuts (lent_of [] l) [] (steps_from way 0 m) s) y
-        ∙ ap (λ (ps : List Step). cuts (lent_of [] l) [] ps s) (sym (from_start way (length way)))
+    unfolding edited_of
+    from_all q = sym d.state ∙ at_root j (omega arith)
 
     module _ (lo : 0 < j) (hi : j ≤ length way) where
       again : suc (j - 1) ≡ j
@@ -110,20 +113,20 @@ module _ (l : Lent) (t : Tree) (way : List code.Step) (h0 b0 : List ℕ) where
       unfolding above_of
       below = ap (λ (i : ℕ). cuts (lent_of [] l) (above_of way i) (steps_from way i (length way - i)) s) again ∙ d.state
 
-      module _ (up : Option code.Step) (eu : up_of up ≡ above_of way (j - 1)) where
-        pub from_fits : CutsFit (lent_of [] l) (state_of l.size t h0 b0) way
-            → CutFits l.size (state_of l.size u h b) (up_of up) (nth_step way (j - 1)).slot
+      module _ (up : Option code.Step) (eu : up_of up ≡ above_of way (j - 1)) (x : code.Step) (ex : x ≡ nth_step way (j - 1)) where
+        pub from_fits : CutsFit (lent_of [] l) (state_of l.size t h0 b0) way → CutFits l.size (state_of l.size u h b) (up_of up) x.slot
         unfolding lent_of
-        from_fits f = rw eu (f.turn (j - 1) (omega arith) (state_of l.size u h b) below)
+        from_fits f = rw (eu, ex) (f.turn (j - 1) (omega arith) (state_of l.size u h b) below)
 
         module _ (h' b' : List ℕ) (y : std.Result Tree Refusal)
-            (ey : edited_of l.size h' b' y ≡ cut_node (lent_of [] l) (up_of up) (nth_step way (j - 1)).slot (state_of l.size u h b)) where
+            (ey : edited_of l.size h' b' y ≡ cut_node (lent_of [] l) (up_of up) x.slot (state_of l.size u h b)) where
           next : cuts (lent_of [] l) (above_of way (j - 1)) (steps_from way (j - 1) (length way - (j - 1))) (state_of l.size t h0 b0)
               ≡ edited_of l.size h' b' y
           next =
               cuts_cons (lent_of [] l) way s (above_of way (j - 1)) (j - 1) (omega arith)
               ∙ ap (λ (r : Result State). r >>= cut_node (lent_of [] l) (above_of way (j - 1)) (nth_step way (j - 1)).slot) below
-              ∙ ap (λ (x : List Step). cut_node (lent_of [] l) x (nth_step way (j - 1)).slot (state_of l.size u h b)) (sym eu) ∙ sym ey
+              ∙ ap (λ (ps : List Step). cut_node (lent_of [] l) ps (nth_step way (j - 1)).slot (state_of l.size u h b)) (sym eu)
+              ∙ ap (λ (m : code.Step). cut_node (lent_of [] l) (up_of up) m.slot (state_of l.size u h b)) (sym ex) ∙ sym ey
 
           pub from_refused : (x : Refusal) → y ≡ Err x
               → edited_of l.size h' b' (Err x) ≡ cuts (lent_of [] l) [] (steps_in way) (state_of l.size t h0 b0)
@@ -131,6 +134,10 @@ module _ (l : Lent) (t : Tree) (way : List code.Step) (h0 b0 : List ℕ) where
           from_refused x e = sym (cuts_refused (lent_of [] l) way s (j - 1) (number_of x) (omega arith)
               (next ∙ ap (edited_of l.size h' b') e))
               ∙ ap (λ (ps : List Step). cuts (lent_of [] l) [] ps s) (sym (from_start way (length way)))
+
+          -- the root is the last
+          pub from_root : j ≤ 1 → edited_of l.size h' b' y ≡ cuts (lent_of [] l) [] (steps_in way) (state_of l.size t h0 b0)
+          from_root q = sym next ∙ at_root (j - 1) (omega arith)
 
           pub from_behind : Follows l.size l.slots u.used h b h' b' → Follows l.size l.slots t.used h0 b0 h' b'
           from_behind g = follows_on l.size l.slots t.used u.used h0 b0 h b h' b' d.follows g d.more
@@ -140,9 +147,9 @@ module _ (l : Lent) (t : Tree) (way : List code.Step) (h0 b0 : List ℕ) where
               → CutFrom l t way (j - 1) h0 b0 v h' b'
           unfolding edited_of
           from_next v e f r g =
-              let c : cut_node (lent_of [] l) (up_of up) (nth_step way (j - 1)).slot (state_of l.size u h b) ≡ ok (state_of l.size v h' b') =
+              let c : cut_node (lent_of [] l) (up_of up) x.slot (state_of l.size u h b) ≡ ok (state_of l.size v h' b') =
               sym ey ∙ ap (edited_of l.size h' b') e in
-              let w = (longer (lent_of [] l) up (nth_step way (j - 1)).slot (state_of l.size u h b) (from_fits f).used).at
+              let w = (longer (lent_of [] l) up x.slot (state_of l.size u h b) (from_fits f).used).at
               (state_of l.size v h' b') c in
               record {
                 state = next ∙ ap (edited_of l.size h' b') e;

@@ -20,6 +20,7 @@ use Rattle.tree.specs.Edit.{set_index_key}
 use Rattle.tree.specs.internal.Bank.{node_in, live, Ready, Put}
 use Rattle.tree.specs.internal.Undo.{Follows}
 use Rattle.tree.specs.internal.Writers.{edited}
+use Rattle.tree.specs.declared.writers.DirtyMark.TheVariants.{Set}
 use Rattle.tree.specs.internal.Index.{key_differs, key_put, Rewritten, KeyRoom}
 use Rattle.tree.specs.laws.slots.Bank.{put_set, put_ready}
 use Rattle.tree.specs.laws.slots.Undo.{follows_same}
@@ -121,7 +122,7 @@ module _ (s : State) (n i c : ℕ) where
 
 module _ (size slots n i : ℕ) (t : Tree) (h0 b0 : List ℕ) (r : Ready size slots t.used h0 b0) where
   pub rekey_done : (key h1 b1 : List ℕ) → n < t.used → length h1 ≡ length h0 → length b1 ≡ length b0
-      → Put size slots h0 b0 h1 b1 n (edited true (node_in size h0 b0 n) (with_key i key (node_in size h0 b0 n).entries))
+      → Put size slots h0 b0 h1 b1 n (edited Set (node_in size h0 b0 n) (with_key i key (node_in size h0 b0 n).entries))
       → Follows size slots t.used h0 b0 h1 b1
       → Rewritten size slots t h0 b0 h1 b1 (key_put (state_of size t h0 b0) n i key)
   unfolding state_of put_node with_nodes
@@ -184,3 +185,9 @@ module _ (size n c room : ℕ) (t : Tree) (heads bytes key : List ℕ) (k : KeyR
 
   pub index_short : length key < 2 ^ 16
   index_short = rw e k.short
+
+pub ruleset set_index_key_laws = (index_kept, index_set, differs_slot, differs_index, index_room, index_short)
+
+pub ruleset first_key_laws = (copied_fits, copied_long, copied_key)
+
+pub ruleset key_differs_laws = (differs_none, differs_past, differs_keys)

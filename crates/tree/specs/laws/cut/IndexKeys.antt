@@ -46,14 +46,17 @@ module _ (way : List code.Step) where
   from_start zero = refl
   from_start (suc k) = let z : k ≡ 0 + k = omega arith in ap₂ (λ (l : List Step) (x : ℕ). l ++ step x ∷ []) (from_start k) z ∙ from_snoc k 0
 
+  -- one step has no index key above it
+  index_few : (j m : ℕ) (s : State) → m ≤ 1 → index_keys (steps_from way j m) s ≡ s
+  unfolding steps_from index_keys
+  index_few j zero s h = refl
+  index_few j (suc zero) s h = refl
+  index_few j (suc (suc m)) s h = absurd (omega arith)
+
 index_cons : (x y : Step) (l ys : List Step) (s : State) → l ≡ y ∷ ys
     → index_keys (x ∷ l) s ≡ set_index_key (index_keys l s) x.slot x.child y.slot
 unfolding index_keys
 index_cons x y l ys s e = rw e
-
-index_one : (x : Step) (s : State) → index_keys (x ∷ []) s ≡ s
-unfolding index_keys
-index_one x s = refl
 
 -- ---- room
 
@@ -79,13 +82,11 @@ module _ (size slots n c room : ℕ) (t : Tree) (h b : List ℕ) (r : Ready size
 -- ---- the loop
 
 module _ (size slots : ℕ) (t : Tree) (way : List code.Step) (h0 b0 : List ℕ) where
-  pub indexed_none : Ready size slots t.used h0 b0 → 1 ≤ length way → Indexed size slots t way (length way - 1) h0 b0 h0 b0
-  unfolding steps_from
-  indexed_none r u =
-      let z : length way - (length way - 1) ≡ 1 = omega arith in
+  pub indexed_none : Ready size slots t.used h0 b0 → Indexed size slots t way (length way - 1) h0 b0 h0 b0
+  indexed_none r =
       record {
         rest = record {
-          state = rw z (sym (index_one (step way (length way - 1)) (state_of size t h0 b0)));
+          state = sym (index_few way (length way - 1) (length way - (length way - 1)) (state_of size t h0 b0) (omega arith));
           ready = r;
           follows = follows_same size slots t.used h0 b0;
         };
@@ -107,15 +108,14 @@ module _ (size slots : ℕ) (t : Tree) (way : List code.Step) (h0 b0 : List ℕ)
           follows = d.rest.follows;
         }
 
-    module _ (u : 0 < j) (v : j < length way) where
+    module _ (u : 0 < j) (v : j < length way) (x y : code.Step) (ex : x ≡ nth_step way (j - 1)) (ey : y ≡ nth_step way j) where
       pub index_turn : (room more : ℕ) → WayIn t.used way → IndexRoom size t h0 b0 way room → more ≡ room
-          → KeyRoom size t h b (nth_step way (j - 1)).slot (nth_step way j).slot more
+          → KeyRoom size t h b x.slot y.slot more
       index_turn room more w i e =
-          rw e (key_room size slots (nth_step way (j - 1)).slot (nth_step way j).slot room t h b d.rest.ready (w.slot (j - 1) (omega arith))
+          rw (e, ex, ey) (key_room size slots (nth_step way (j - 1)).slot (nth_step way j).slot room t h b d.rest.ready (w.slot (j - 1) (omega arith))
           (rw d.rest.state (i.turn j u v)))
 
-      pub indexed_next : (h' b' : List ℕ) → Rewritten size slots t h b h' b'
-          (set_index_key (state_of size t h b) (nth_step way (j - 1)).slot (nth_step way (j - 1)).child (nth_step way j).slot)
+      pub indexed_next : (h' b' : List ℕ) → Rewritten size slots t h b h' b' (set_index_key (state_of size t h b) x.slot x.child y.slot)
           → Indexed size slots t way (j - 1) h0 b0 h' b'
       indexed_next h' b' w =
           let s : State = state_of size t h0 b0 in
@@ -124,7 +124,8 @@ module _ (size slots : ℕ) (t : Tree) (way : List code.Step) (h0 b0 : List ℕ)
           record {
             rest = record {
               state = w.state
-                  ∙ ap (λ (x : State). set_index_key x (nth_step way (j - 1)).slot (nth_step way (j - 1)).child (nth_step way j).slot) d.rest.state
+                  ∙ rw (ex, ey)
+                  (ap (λ (v : State). set_index_key v (nth_step way (j - 1)).slot (nth_step way (j - 1)).child (nth_step way j).slot) d.rest.state)
                   ∙ sym (index_cons (step way (j - 1)) (step way j) (steps_from way j (length way - j))
                   (steps_from way (suc j) (length way - suc j)) s (from_cons way j v))
                   ∙ sym (ap (λ (l : List Step). index_keys l s)

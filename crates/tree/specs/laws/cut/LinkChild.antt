@@ -1,5 +1,5 @@
 -- Laws of a child linked under its first key: the room that it finds, and the slot after. Assumes nothing.
-use Rattle.std.specs.Prelude.{◌≡◌, refl, List, true, false, ℕ, ◌+◌, ◌*◌, ◌^◌, ◌≤◌, ◌<◌, length}
+use Rattle.std.specs.Prelude.{◌≡◌, refl, List, false, ℕ, ◌+◌, ◌*◌, ◌^◌, ◌≤◌, ◌<◌, length}
 use Rattle.std.proofs.Math.Path.{sym, ap}
 use Rattle.std.proofs.Common.{◌∙◌, arith}
 use Rattle.std.proofs.Math.ListN.{set}
@@ -14,6 +14,7 @@ use Rattle.tree.specs.State.{node_at, put_node, with_nodes, changed}
 use Rattle.tree.specs.internal.Bank.{node_in, live, Ready, Put}
 use Rattle.tree.specs.internal.Undo.{Follows}
 use Rattle.tree.specs.internal.Writers.{edited}
+use Rattle.tree.specs.declared.writers.DirtyMark.TheVariants.{Set}
 use Rattle.tree.specs.internal.Index.{Rewritten}
 use Rattle.tree.specs.internal.Cutting.{child_put, ChildFits}
 use Rattle.tree.specs.laws.slots.Bank.{put_set, put_ready}
@@ -65,7 +66,7 @@ module _ (size slots n i c room : ℕ) (t : Tree) (h0 b0 : List ℕ) (r : Ready 
     child_entry = ap (λ (k : List ℕ). record { key = k; value = mem c }) ek
 
     pub child_linked : (h1 b1 : List ℕ) → length h1 ≡ length h0 → length b1 ≡ length b0
-        → Put size slots h0 b0 h1 b1 n (edited true (node_in size h0 b0 n)
+        → Put size slots h0 b0 h1 b1 n (edited Set (node_in size h0 b0 n)
         (insert_at i given (node_in size h0 b0 n).entries))
         → Follows size slots t.used h0 b0 h1 b1 → Rewritten size slots t h0 b0 h1 b1 (child_put (state_of size t h0 b0) n i c)
     unfolding state_of put_node with_nodes

@@ -65,3 +65,5 @@ module _ (size slots n place : ℕ) (t : Tree) (heads bytes : List ℕ) (r : Rea
     root_sums b h e =
         let z : leb (suc level) 32 ≡ true = le-leb (suc level) 32 (omega arith) in
         rw (by_sums, z, and-true, ← ea, ← eb) (rw add-one at e)
+
+pub ruleset new_root_holds_laws = (root_deep, left_small, right_small, root_sums)

@@ -42,7 +42,7 @@ use Rattle.tree.specs.laws.load.MapFloor.{load_inside, load_accepts}
 use Rattle.tree.specs.internal.Tree.{child_of, bound_of, edge_of, bounds_of, read_child, fetched_at, loaded_of}
 use Rattle.tree.specs.laws.slots.Tree.{node_in_lem, node_out, used_nodes}
 use Rattle.tree.specs.declared.editor.Tree.{Tree}
-use Rattle.tree.specs.declared.editor.Bound.{Bound}
+use Rattle.tree.specs.declared.editor.Position.{Position}
 use Rattle.tree.specs.declared.editor.Bounds.{Bounds}
 use Rattle.tree.specs.declared.lent.Lent.{Lent}
 use Rattle.std.specs.Prelude as std
@@ -81,18 +81,19 @@ module _ (size : ℕ) (t : Tree) (heads bytes : List ℕ) where
 
 -- ---- bounds
 
-module _ (s : State) (b : Option Bound) where
+module _ (s : State) (b : Option Position) where
   pub bound_none : b ≡ None → edge_of None ≡ bound_of s b
   unfolding edge_of bound_of
   bound_none h = rw h
 
-  pub bound_some : (x : Bound) (k : Bor (List ℕ)) → b ≡ Some x → k.now ≡ key_at (node_at s x.slot).entries x.index → edge_of (Some k) ≡ bound_of s b
+  pub bound_some : (x : Position) (k : Bor (List ℕ)) → b ≡ Some x → k.now ≡ key_at (node_at s x.slot).entries x.index
+      → edge_of (Some k) ≡ bound_of s b
   unfolding edge_of bound_of
   bound_some x k h e = rw (h, e)
 
 pub ruleset bound_keys = (bound_none, bound_some)
 
-module _ (s : State) (b : Option Bound) (q : Option (Bor (List ℕ))) (eq : edge_of q ≡ bound_of s b) (o n i : ℕ) where
+module _ (s : State) (b : Option Position) (q : Option (Bor (List ℕ))) (eq : edge_of q ≡ bound_of s b) (o n i : ℕ) where
   pub lower_first : q ≡ None → bound_of s (Some (record { slot = n; index = i })) ≡ tighter_lower o (bound_of s b) (key_at (node_at s n).entries i)
   unfolding edge_of bound_of tighter_lower
   lower_first h = rw (← eq, h)
@@ -122,7 +123,7 @@ module _ (s : State) (b : Option Bound) (q : Option (Bor (List ℕ))) (eq : edge
 
 pub ruleset tighter = (lower_first, lower_new, lower_old, upper_first, upper_new, upper_old)
 
-module _ (s : State) (b : Bounds Bound) (o n i count : ℕ) (lower : Option Bound) (ec : count ≡ length (node_at s n).entries)
+module _ (s : State) (b : Bounds Position) (o n i count : ℕ) (lower : Option Position) (ec : count ≡ length (node_at s n).entries)
     (el : bound_of s lower ≡ tighter_lower o (bound_of s b.lower) (key_at (node_at s n).entries i)) where
   pub bounds_last : count - 1 ≤ i → bounds_of s (record { lower = lower; upper = b.upper }) ≡ child_bounds o (bounds_of s b) (node_at s n).entries i
   unfolding bounds_of child_bounds
@@ -130,7 +131,7 @@ module _ (s : State) (b : Bounds Bound) (o n i count : ℕ) (lower : Option Boun
       let t : ltb (suc i) (length (node_at s n).entries) ≡ false = le-ltb (suc i) (length (node_at s n).entries) (omega arith) in
       rw (el, t)
 
-  pub bounds_inner : (upper : Option Bound) → (count - 1 ≤ i → ⊥) → bound_of s upper
+  pub bounds_inner : (upper : Option Position) → (count - 1 ≤ i → ⊥) → bound_of s upper
       ≡ tighter_upper o (bound_of s b.upper) (key_at (node_at s n).entries (i + 1))
       → bounds_of s (record { lower = lower; upper = upper }) ≡ child_bounds o (bounds_of s b) (node_at s n).entries i
   unfolding bounds_of child_bounds
@@ -142,12 +143,12 @@ pub ruleset inner_bounds = (bounds_last, bounds_inner)
 
 -- ---- a block read
 
-module _ (image : List ℕ) (l : Lent) (t : Tree) (heads bytes : List ℕ) (b : Bounds Bound) (n r a level : ℕ) (x : std.Result Node Refusal)
+module _ (image : List ℕ) (l : Lent) (t : Tree) (heads bytes : List ℕ) (b : Bounds Position) (n r a level : ℕ) (x : std.Result Node Refusal)
     (lo up : Option (Bor (List ℕ)))
     (ev : level ≡ (node_at (state_of l.size t heads bytes) n).level)
     (el : edge_of lo ≡ bound_of (state_of l.size t heads bytes) b.lower)
     (eu : edge_of up ≡ bound_of (state_of l.size t heads bytes) b.upper)
-    (e : read_of (lent.block_at (lent_of image l) a) x ≡ load_at (lent_of image l) t.order
+    (e : read_of (lent.block_at (lent_of image l) a) x ≡ load_at (lent_of image l) t.order.code
     (record {
       root = false;
       oid = r;
@@ -194,7 +195,7 @@ module _ (size : ℕ) (t : Tree) (heads bytes : List ℕ) (n i r : ℕ)
 
 -- ---- read, then brought
 
-module _ (image : List ℕ) (l : Lent) (t : Tree) (heads bytes : List ℕ) (b : Bounds Bound) (n i r a : ℕ) (x : std.Result Node Refusal)
+module _ (image : List ℕ) (l : Lent) (t : Tree) (heads bytes : List ℕ) (b : Bounds Position) (n i r a : ℕ) (x : std.Result Node Refusal)
     (e : read_of (lent.block_at (lent_of image l) a) x ≡ read_child (lent_of image l) (state_of l.size t heads bytes)
     (bounds_of (state_of l.size t heads bytes) b) n r a) where
   abbrev s : State
@@ -246,7 +247,7 @@ module _ (image : List ℕ) (l : Lent) (t : Tree) (heads bytes : List ℕ) (b : 
 
 -- ---- a child loaded
 
-module _ (image : List ℕ) (l : Lent) (t : Tree) (heads bytes : List ℕ) (b : Bounds Bound) (n i : ℕ) (x : Option Child)
+module _ (image : List ℕ) (l : Lent) (t : Tree) (heads bytes : List ℕ) (b : Bounds Position) (n i : ℕ) (x : Option Child)
     (e : x ≡ child_of (val_at (node_at (state_of l.size t heads bytes) n).entries i)) where
   abbrev st : State
   st = state_of l.size t heads bytes
@@ -308,7 +309,8 @@ module _ (image : List ℕ) (l : Lent) (t : Tree) (heads bytes : List ℕ) (b : 
       unfolding state_of
       found = sym ef
 
-      order_is : (inner : Bounds Bound) → bounds_of st inner ≡ child_bounds t.order bs (node_at st n).entries i → bounds_of st inner ≡ child_bounds
+      order_is : (inner : Bounds Position) → bounds_of st inner ≡ child_bounds t.order.code bs (node_at st n).entries i
+          → bounds_of st inner ≡ child_bounds
           st.order bs (node_at st n).entries i
       unfolding state_of
       order_is inner ei = ei
@@ -318,7 +320,7 @@ module _ (image : List ℕ) (l : Lent) (t : Tree) (heads bytes : List ℕ) (b : 
       unfolding load_child loaded_of address_at
       load_unmapped k g = sym (rw (is_there_lem, free, found, g))
 
-      pub load_fetched : (a : ℕ) (inner : Bounds Bound) → f ≡ Ok a → bounds_of (state_of l.size t heads bytes) inner ≡ child_bounds t.order
+      pub load_fetched : (a : ℕ) (inner : Bounds Position) → f ≡ Ok a → bounds_of (state_of l.size t heads bytes) inner ≡ child_bounds t.order.code
           (bounds_of (state_of l.size t heads bytes) b) (node_at (state_of l.size t heads bytes) n).entries i
           → (y : Result At) → y ≡ fetched_at (lent_of image l) (state_of l.size t heads bytes)
           (bounds_of (state_of l.size t heads bytes) inner) n i r a

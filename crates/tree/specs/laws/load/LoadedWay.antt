@@ -1,5 +1,8 @@
 -- Laws of a way whose children are loaded: where it ends, and that load leaves the state as it was on it. Assumes nothing.
-use Rattle.std.specs.Prelude.{◌≡◌, Bool, length, set, drop}
+use Rattle.std.specs.Prelude.{◌≡◌, Bool, length, set, drop, ltb}
+use Rattle.std.specs.Bool.{then_some}
+use borrow.Author.Tests.{ltb-true}
+use Rattle.node.specs.laws.base.Tests.{by_test}
 use Rattle.std.proofs.Math.Path.{refl, sym, ap}
 use Rattle.std.proofs.Math.Bool.{true}
 use Rattle.std.proofs.Common.{subst, ◌∙◌, get_or-drop}
@@ -41,7 +44,7 @@ one_slot (leaf v) c e = let y : ◌≡◌ {A = ℕ} 1 0 = ap length e in absurd 
 one_slot (disk r) c e = let y : ◌≡◌ {A = ℕ} 1 0 = ap length e in absurd (omega arith)
 one_slot (mem x) c e = ap mem (sym (ap (λ (y : List ℕ). get_or y 0 0) e))
 
-kid_slot : (kid : Option ℕ) (c : ℕ) (v : Val) → kid_means kid ≡ slots_of v → kid ≡ Some c → v ≡ mem c
+pub kid_slot : (kid : Option ℕ) (c : ℕ) (v : Val) → kid_means kid ≡ slots_of v → kid ≡ Some c → v ≡ mem c
 unfolding kid_means
 kid_slot kid c v e h = one_slot v c (sym (rw h) ∙ e)
 
@@ -97,11 +100,11 @@ module _ (P : ℕ → Taken → Type 0) (level root : ℕ) where
       record { on = λ m h. g.on m (subst (λ (j : ℕ). LedTo P j m n) e (record { taken = x; on = p; below = h })) }
 
 module _ (P : ℕ → Taken → Type 0) (size : ℕ) (t : Tree) (heads bytes key : List ℕ) where
-  pub led_end : (k : Bool) → k ≡ keyed_length t.order (length key) → k ≡ true → (level : ℕ)
+  led_some : (k : Bool) → k ≡ keyed_length t.order.code (length key) → k ≡ true → (level : ℕ)
       → level ≡ (node_at (state_of size t heads bytes) t.root).level → (i n : ℕ) → level ≤ i → Leading P level t.root (level - i) n → n < t.used
       → LedLeaf P t.used (state_of size t heads bytes) key (Some n)
   unfolding state_of keyed
-  led_end k ek u level ev i n hi g hn =
+  led_some k ek u level ev i n hi g hn =
       let e : 0 ≡ level - i = omega arith in
       let on : LedTo P level n t.root = g.on n (subst (λ (j : ℕ). LedTo P j n n) e refl) in
       record {
@@ -109,6 +112,18 @@ module _ (P : ℕ → Taken → Type 0) (size : ℕ) (t : Tree) (heads bytes key
         keys = λ m q. sym ek ∙ u;
         leads = λ m q. rw (← ev) (subst (λ (j : ℕ). LedTo P level j t.root) (one_value n m q) on);
       }
+
+  led_none : LedLeaf P t.used (state_of size t heads bytes) key None
+  led_none =
+      record { within = λ m q. absurd (no_value m q); keys = λ m q. absurd (no_value m q); leads = λ m q. absurd (no_value m q) }
+
+  pub led_end : (k : Bool) → k ≡ keyed_length t.order.code (length key) → k ≡ true → (level : ℕ)
+      → level ≡ (node_at (state_of size t heads bytes) t.root).level → (i n : ℕ) → level ≤ i → Leading P level t.root (level - i) n
+      → (r : Option ℕ) → r ≡ then_some (ltb n t.used) n → LedLeaf P t.used (state_of size t heads bytes) key r
+  led_end k ek u level ev i n hi g r er =
+      by_test (ltb n t.used)
+      (λ q. rw (er, q) (led_some k ek u level ev i n hi g (ltb-true n t.used q)))
+      (λ q. rw (er, q) led_none)
 
 module _ (P : ℕ → Taken → Type 0) (used : ℕ) (s : State) (key : List ℕ)
     (f : (n : ℕ) (x : Taken) → P n x → TakenOf s.order key (node_at s n).entries (Some x)) where
@@ -183,7 +198,7 @@ module _ (size : ℕ) (t : Tree) (heads bytes : List ℕ) (level : ℕ) (key : L
 
   module _ (way : List code.Step) (j n : ℕ) (g : Onward (state_of size t heads bytes) level key (steps_of way j) (level - j) n)
       (hw : j < length way) where
-    pub onward_turn : j < level → (r : Option Taken) → TakenOf t.order key (node_at (state_of size t heads bytes) n).entries r
+    pub onward_turn : j < level → (r : Option Taken) → TakenOf t.order.code key (node_at (state_of size t heads bytes) n).entries r
         → (x : Taken) → r ≡ Some x
         → Onward (state_of size t heads bytes) level key (steps_of (set way j (record { slot = n; child = x.index })) (j + 1))
         (level - (j + 1)) x.slot
@@ -223,3 +238,7 @@ module _ (size : ℕ) (t : Tree) (heads bytes : List ℕ) (level : ℕ) (key : L
 
   pub walked_not : Walked size t heads bytes level key None
   walked_not = record { same = λ w q. absurd (no_value w q); arrives = λ w q. absurd (no_value w q) }
+
+pub ruleset taken_in_laws = (taken_none, taken_lies, taken_is)
+
+pub ruleset way_loaded_laws = (onward_start, onward_turn, walked_end, walked_not)

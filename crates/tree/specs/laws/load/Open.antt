@@ -18,6 +18,7 @@ use Rattle.node.specs.Read.{on_disk, info_at, read_of, spans_length}
 use Rattle.node.specs.laws.read.Accepted.{Accepted}
 use Rattle.node.specs.laws.base.Bytes.{Bytes}
 use Rattle.node.specs.Slot.{MemNode}
+use Rattle.node.specs.declared.order.Order.{Order}
 use Rattle.node.specs.declared.info.BTreeInfo.{BTreeInfo}
 use Rattle.node.specs.declared.read.Node.{Node}
 use Rattle.node.specs.Place.{Place}
@@ -74,39 +75,39 @@ open_bytes slots size room h e = omega (arith, slots_below (4 * size) 0 (slots +
 
 -- ---- from the root's address on
 
-module _ (image : List ℕ) (l : Lent) (r order xid a : ℕ) (x : std.Result Node Refusal)
-    (e : read_of (lent.block_at (lent_of image l) a) x ≡ load_at (lent_of image l) order
+module _ (image : List ℕ) (l : Lent) (r : ℕ) (order : Order) (xid a : ℕ) (x : std.Result Node Refusal)
+    (e : read_of (lent.block_at (lent_of image l) a) x ≡ load_at (lent_of image l) order.code
     (record { root = true; oid = r; parent = 0; ksize = 0; vsize = 0; bounded = false }) [] [] a) where
   abbrev place : Place
   place = record { root = true; oid = r; parent = 0; ksize = 0; vsize = 0; bounded = false }
 
-  root_is : opened_root (lent_of image l) r order xid a
+  root_is : opened_root (lent_of image l) r order.code xid a
       ≡ (read_of (lent.block_at (lent_of image l) a) x >>= λ d. check 10 (root_holds (lent_of image l) a (leb 1 (length (lent_of image l).map)) d)
-      >> ok (opened_at (lent_of image l) order xid a d))
+      >> ok (opened_at (lent_of image l) order.code xid a d))
   unfolding opened_root load_block load_at root_place unbounded bound_key
   root_is = rw e
 
   pub open_refused : (k : Refusal) (heads bytes : List ℕ) → x ≡ Err k → opened_of l.size heads bytes (Err k) ≡ opened_root
-      (lent_of image l) r order xid a
+      (lent_of image l) r order.code xid a
   unfolding opened_of read_of
   open_refused k heads bytes ex = sym (root_is ∙ rw ex)
 
   module _ (v : Node) (ex : x ≡ Ok v) where
     pub open_inside : a < length image / l.size
-    open_inside = load_inside image l order a place [] [] x v e ex
+    open_inside = load_inside image l order.code a place [] [] x v e ex
 
     module _ (by_id t : Bool) (eb : by_id ≡ is_some l.map)
         (et : t ≡ root_holds (lent_of image l) a by_id (on_disk v (lent.block_at (lent_of image l) a))) where
       pub open_root : (heads bytes : List ℕ) → t ≡ false → opened_of l.size heads bytes (Err is.Root) ≡ opened_root
-          (lent_of image l) r order xid a
+          (lent_of image l) r order.code xid a
       unfolding opened_of read_of
       open_root heads bytes h =
           let z : root_holds (lent_of image l) a by_id (on_disk v (lent.block_at (lent_of image l) a)) ≡ false = sym et ∙ h in
           sym (root_is ∙ rw (ex, mapped_is image l by_id eb, z))
 
     module _ (m : l.size ≤ 65536) (block : List ℕ) (eb : block ≡ window (a * l.size) l.size image) where
-      accepts : Accepted order place [] [] (window (a * l.size) l.size image) v
-      accepts = load_accepts image l order a place [] [] x v e ex m
+      accepts : Accepted order.code place [] [] (window (a * l.size) l.size image) v
+      accepts = load_accepts image l order.code a place [] [] x v e ex m
 
       pub open_long : length block ≡ l.size
       open_long = block_long image l.size a open_inside block eb
@@ -126,7 +127,7 @@ module _ (image : List ℕ) (l : Lent) (r order xid a : ℕ) (x : std.Result Nod
         unfolding nodes_of nodes_from node_in
         one_node = ap (λ (n : MemNode). n ∷ []) p.node
 
-        state_is : state_of l.size tree heads' bytes' ≡ opened_at (lent_of image l) order xid a (on_disk v block)
+        state_is : state_of l.size tree heads' bytes' ≡ opened_at (lent_of image l) order.code xid a (on_disk v block)
         unfolding state_of opened_at on_disk
         state_is =
             let z : info ≡ info_at (lent.block_at (lent_of image l) a) = ei ∙ ap info_at (eb ∙ block_at_lem image l a) in
@@ -134,7 +135,7 @@ module _ (image : List ℕ) (l : Lent) (r order xid a : ℕ) (x : std.Result Nod
 
         pub open_done : opened_of l.size heads' bytes'
             (Ok (record { root = 0; used = 1; info = info; by_id = by_id; subtype = v.subtype; order = order; xid = xid }))
-            ≡ opened_root (lent_of image l) r order xid a
+            ≡ opened_root (lent_of image l) r order.code xid a
         unfolding opened_of read_of
         open_done =
             let z : root_holds (lent_of image l) a by_id (on_disk v (lent.block_at (lent_of image l) a)) ≡ true = sym et ∙ h in
@@ -277,3 +278,7 @@ opened_holds image l heads bytes (Ok t) c = trusts_hold image l t heads bytes c
 
 pub ruleset opening =
     (node_read, node_refused, handed_on, IfOk-at_ok, block_info, open_words, open_bytes, open_refused, open_inside, open_long, open_space, open_ready)
+
+pub ruleset open_laws = (open_most, open_many, checked_sizes, checked_room, checked_open, room_words, room_bytes, opened_holds)
+
+pub ruleset open_in_laws = (open_sizes, open_least, open_most, open_some, open_many, open_order, open_unmapped, open_found)

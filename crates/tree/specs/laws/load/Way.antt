@@ -27,7 +27,7 @@ use Rattle.tree.specs.laws.slots.Tree.{node_in_lem, node_out, used_nodes}
 use Rattle.tree.specs.internal.Way.{nth_step, steps_of, steps_in, onto, walked_of, way_of}
 use Rattle.tree.specs.declared.editor.Tree.{Tree}
 use Rattle.tree.specs.declared.way.Step as code
-use Rattle.tree.specs.declared.editor.Bound.{Bound}
+use Rattle.tree.specs.declared.editor.Position.{Position}
 use Rattle.tree.specs.declared.editor.Bounds.{Bounds}
 use Rattle.std.specs.Prelude as std
 use Rattle.std.specs.Prelude.{Ok, Err, Some, None, Option}
@@ -38,13 +38,13 @@ use Rattle.node.specs.declared.refusal.Refusal.{Refusal}
 -- ---- the child taken
 
 module _ (size : ℕ) (t : Tree) (heads bytes : List ℕ) (key : List ℕ) (n : ℕ) where
-  pub index_out : t.used ≤ n → 0 ≡ way_index t.order key (node_at (state_of size t heads bytes) n).entries
+  pub index_out : t.used ≤ n → 0 ≡ way_index t.order.code key (node_at (state_of size t heads bytes) n).entries
   unfolding way_index not_above no_node
   index_out h = sym (rw (node_out size t heads bytes n h))
 
   module _ (hn : n < t.used) (h : Head) (eh : h ≡ live (head_at heads n)) (l : List ℕ) (el : l ≡ slot_bytes size bytes n) (r : Last)
-      (er : r ≡ last_in t.order key h.count l) where
-    pub index_some : r.count - 1 ≡ way_index t.order key (node_at (state_of size t heads bytes) n).entries
+      (er : r ≡ last_in t.order.code key h.count l) where
+    pub index_some : r.count - 1 ≡ way_index t.order.code key (node_at (state_of size t heads bytes) n).entries
     unfolding way_index last_in node_in
     index_some = rw (node_in_lem size t heads bytes n hn, live_entries (head_at heads n) (slot_bytes size bytes n), er, eh, el)
 
@@ -60,7 +60,7 @@ key_of_keys (e ∷ es) (suc i) = key_of_keys es i
 pub same_keys : (xs ys : List Entry) (i : ℕ) → keys_of xs ≡ keys_of ys → key_at xs i ≡ key_at ys i
 same_keys xs ys i e = key_of_keys xs i ∙ ap (λ (z : List (List ℕ)). get_or z i []) e ∙ sym (key_of_keys ys i)
 
-bound_kept : (l : Lent) (s : State) (bs : load.Bounds) (n i : ℕ) (a : load.At) → load.load_child l s bs n i ≡ ok a → (b : Option Bound)
+bound_kept : (l : Lent) (s : State) (bs : load.Bounds) (n i : ℕ) (a : load.At) → load.load_child l s bs n i ≡ ok a → (b : Option Position)
     → BoundIn (length s.nodes) b → bound_of a.state b ≡ bound_of s b
 unfolding bound_of
 bound_kept l s bs n i a e None h = refl
@@ -68,7 +68,7 @@ bound_kept l s bs n i a e (Some b) h =
     ap (λ (k : List ℕ). k ∷ []) (same_keys (node_at a.state b.slot).entries (node_at s b.slot).entries b.index
     ((load_keeps l s bs n i a e).keys b.slot h))
 
-bounds_kept : (l : Lent) (s : State) (bs : load.Bounds) (n i : ℕ) (a : load.At) → load.load_child l s bs n i ≡ ok a → (b : Bounds Bound)
+bounds_kept : (l : Lent) (s : State) (bs : load.Bounds) (n i : ℕ) (a : load.At) → load.load_child l s bs n i ≡ ok a → (b : Bounds Position)
     → BoundsIn (length s.nodes) b → bounds_of a.state b ≡ bounds_of s b
 unfolding bounds_of
 bounds_kept l s bs n i a e b h = rw (bound_kept l s bs n i a e b.lower h.lower, bound_kept l s bs n i a e b.upper h.upper)
@@ -138,7 +138,7 @@ module _ (l : Lent) (s : State) (bs : load.Bounds) (n i d : ℕ) (key : List ℕ
   way_refused x e = sym (sym inv ∙ ap (onto xs) one_down ∙ rw (← e))
 
   module _ (a : load.At) (e : ok a ≡ load.load_child l s bs n i) where
-    pub way_down : (b inner : Bounds Bound) → bs ≡ bounds_of s b → BoundsIn (length s.nodes) b → bounds_of s inner ≡ load.child_bounds s.order bs
+    pub way_down : (b inner : Bounds Position) → bs ≡ bounds_of s b → BoundsIn (length s.nodes) b → bounds_of s inner ≡ load.child_bounds s.order bs
         (node_at s n).entries i
         → (BoundsIn (length s.nodes) b → n < length s.nodes → BoundsIn (length s.nodes) inner)
         → onto (xs ++ record { slot = n; child = i } ∷ []) (lookup.way_from (d - 1) l a.state (bounds_of a.state inner) a.slot key) ≡ whole
@@ -152,7 +152,7 @@ module _ (l : Lent) (s : State) (bs : load.Bounds) (n i d : ℕ) (key : List ℕ
         rw k (sym (onto_above xs n i (lookup.way_from (d - 1) l a.state (load.child_bounds s.order bs (node_at s n).entries i) a.slot key))
         ∙ sym (ap (onto xs) z) ∙ inv)
 
-    pub down_in : (b inner : Bounds Bound) → BoundsIn (length s.nodes) b
+    pub down_in : (b inner : Bounds Position) → BoundsIn (length s.nodes) b
         → (BoundsIn (length s.nodes) b → n < length s.nodes → BoundsIn (length s.nodes) inner) → BoundsIn (length a.state.nodes) inner
     down_in b inner hb f =
         let u : n < length s.nodes = loaded_used l s bs n i a (sym e) in
@@ -179,9 +179,9 @@ way_start l s level n key way = onto_none (lookup.way_from level l s load.unboun
 pub none_in_lem : (used : ℕ) → BoundsIn used (record { lower = None; upper = None })
 none_in_lem used = record { lower = tt; upper = tt }
 
-module _ (l : Lent) (size : ℕ) (t : Tree) (heads bytes : List ℕ) (b inner : Bounds Bound) (n i d k : ℕ) (key : List ℕ) (way : List code.Step)
+module _ (l : Lent) (size : ℕ) (t : Tree) (heads bytes : List ℕ) (b inner : Bounds Position) (n i d k : ℕ) (key : List ℕ) (way : List code.Step)
     (whole : Result lookup.Way)
-    (hd : 0 < d) (ei : i ≡ way_index t.order key (node_at (state_of size t heads bytes) n).entries)
+    (hd : 0 < d) (ei : i ≡ way_index t.order.code key (node_at (state_of size t heads bytes) n).entries)
     (inv : onto (steps_of way k) (lookup.way_from d l (state_of size t heads bytes) (bounds_of (state_of size t heads bytes) b) n key) ≡ whole)
     (heads' bytes' : List ℕ) (x : std.Result (Tree × ℕ) Refusal)
     (e : loaded_of size heads' bytes' x ≡ load.load_child l (state_of size t heads bytes) (bounds_of (state_of size t heads bytes) b) n i) where
@@ -205,7 +205,7 @@ module _ (l : Lent) (size : ℕ) (t : Tree) (heads bytes : List ℕ) (b inner : 
       )
 
   module _ (t' : Tree) (c : ℕ) (q : x ≡ Ok (t', c)) (hb : BoundsIn t.used b)
-      (ec : bounds_of (state_of size t heads bytes) inner ≡ load.child_bounds t.order (bounds_of (state_of size t heads bytes) b)
+      (ec : bounds_of (state_of size t heads bytes) inner ≡ load.child_bounds t.order.code (bounds_of (state_of size t heads bytes) b)
       (node_at (state_of size t heads bytes) n).entries i)
       (f : BoundsIn t.used b → n < t.used → BoundsIn t.used inner) where
     at_is : ok (record { state = state_of size t' heads' bytes'; slot = c }) ≡ load.load_child l (state_of size t heads bytes)
@@ -254,3 +254,7 @@ pub ready_at : (size slots : ℕ) (heads bytes : List ℕ) (x : std.Result (Tree
     → ReadyAfter size slots heads bytes x
     → Ready size slots t.used heads bytes
 ready_at size slots heads bytes x t c q r = subst (ReadyAfter size slots heads bytes) q r
+
+pub ruleset way_down_laws = (way_start, none_in_lem, turn_refused, turn_in, turn_down, way_end)
+
+pub ruleset way_index_laws = (index_out, index_some)

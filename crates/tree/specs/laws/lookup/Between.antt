@@ -1,23 +1,21 @@
 -- Laws of the entries between two ends: counted, and written out record by record. Assumes nothing.
-use Rattle.std.specs.Prelude.{◌≡◌, refl, List, [], ◌∷◌, ◌++◌, Bool, not, ℕ, suc, ◌+◌, ◌-◌, ◌≤◌, ◌<◌, ◌^◌, length, take, drop, leb}
+use Rattle.std.specs.Prelude.{◌≡◌, refl, List, [], ◌∷◌, ◌++◌, Bool, ℕ, ◌+◌, ◌-◌, ◌≤◌, ◌<◌, ◌^◌, length, take, drop, leb}
 use Rattle.std.proofs.Math.Path.{sym, ap}
-use Rattle.std.proofs.Common.{ap₂, ◌∙◌, append_assoc, add_assoc, add-one, arith, length-append, length-take, length-drop, drop_of_length-le, take-append-drop, length-take-le, take_at, drop-drop}
+use Rattle.std.proofs.Common.{ap₂, ◌∙◌, append_assoc, add_assoc, arith, length-append, length-take, length-drop, drop_of_length-le, take-append-drop, length-take-le, take_at, drop-drop}
 use Rattle.std.proofs.Math.Bool.{true, false}
 use Rattle.std.proofs.Math.Seq.{drop-append-add}
-use borrow.Author.Tests.{le-leb, leb-true, leb-false, le-ltb, lt-ltb, not-true, not-false}
+use borrow.Author.Tests.{le-leb, leb-true, leb-false}
 use Rattle.node.specs.Bytes.{splice}
-use Rattle.node.specs.Order.{less}
 use Rattle.node.specs.Entry.{Entry}
-use Rattle.node.specs.Find.{key_at}
 use Rattle.node.specs.Records.{record_length, records_length, record_of, records_of, entry_of, entries_of}
 use Rattle.node.specs.laws.base.Tests.{by_test}
 use Rattle.node.specs.laws.slot.Slot.{at_lies}
 use Rattle.node.specs.laws.base.Bytes.{Bytes, bytes_drop}
 use Rattle.node.specs.laws.slot.Records.{entries_head, length_entries, records_least, records_less, length_record, length_value_bytes, entry_key_length}
 use Rattle.node.specs.laws.slot.Records.{entry_value_length, record_whole, record_sum}
-use Rattle.tree.specs.Lookup.{ends_above, between, range_enters}
-use Rattle.tree.specs.internal.Range.{lies_between, most, at_most, sum_of}
-use Rattle.tree.specs.declared.range.Sum.{Sum}
+use Rattle.tree.specs.Lookup.{between}
+use Rattle.tree.specs.internal.Range.{lies_between, most, at_most, found_in}
+use Rattle.tree.specs.declared.editor.Tree.{Tree}
 
 -- ---- sums that are cut off
 
@@ -35,9 +33,6 @@ most_most n =
     (λ t. let h = leb-true n most t in omega (arith, most_small n h))
     (λ t. let h = leb-false n most t in omega (arith, most_large n (omega arith)))
 
-pub most_of_lem : (r n : ℕ) → r ≡ at_most n → r ≤ most
-most_of_lem r n e = omega (arith, most_most n)
-
 -- a sum of two, each cut off first
 pub most_both : (a b : ℕ) → at_most (at_most a + at_most b) ≡ at_most (a + b)
 most_both a b =
@@ -54,36 +49,6 @@ most_both a b =
     (λ v. let k = leb-false b most v in omega (arith, most_large b (omega arith))))
     (λ u. let k = leb-false a most u in omega (arith, most_large a (omega arith))) in
     most_large (at_most a + at_most b) z ∙ sym (most_large (a + b) (omega arith)))
-
--- ---- the ends
-
--- ---- whether range looks into a child
-
-module _ (o : ℕ) (lo : List ℕ) (hi : List (List ℕ)) (es : List Entry) (i : ℕ) (k : List ℕ) (ek : k ≡ key_at es i) (a : Bool)
-    (ea : a ≡ ends_above o hi k) where
-  key_ends : ends_above o hi (key_at es i) ≡ a
-  key_ends = ap (ends_above o hi) (sym ek) ∙ sym ea
-
-  pub enters_above : not a ≡ true → false ≡ range_enters o lo hi es i
-  unfolding range_enters
-  enters_above h = sym (rw (key_ends, not-true a h))
-
-  module _ (h : not a ≡ false) (count : ℕ) (ec : count ≡ length es) where
-    last : count ≤ suc i → true ≡ range_enters o lo hi es i
-    unfolding range_enters
-    last q = sym (rw (key_ends, not-false a h, le-ltb (suc i) (length es) (omega arith)))
-
-    pub enters_past : count ≤ i → true ≡ range_enters o lo hi es i
-    enters_past q = last (omega arith)
-
-    pub enters_last : count ≤ i + 1 → true ≡ range_enters o lo hi es i
-    enters_last q = last (omega arith)
-
-    pub enters_next : i + 1 < count → (k' : List ℕ) (r : Bool) → k' ≡ key_at es (i + 1) → r ≡ less o lo k' → r ≡ range_enters o lo hi es i
-    unfolding range_enters
-    enters_next q k' r e f =
-        let z : r ≡ less o lo (key_at es (suc i)) = f ∙ ap (less o lo) (e ∙ ap (key_at es) (add-one i)) in
-        sym (rw (key_ends, not-false a h, lt-ltb (suc i) (length es) (omega arith), ← z))
 
 -- ---- runs replaced
 
@@ -210,16 +175,15 @@ pub count_start : (x : ℕ) → 0 + x ≡ x
 count_start x = omega arith
 
 pub sums_are : (o : ℕ) (lo : List ℕ) (hi : List (List ℕ)) (n i at count long : ℕ) (l : List ℕ)
-    → records_length n l ≤ length l → length l ≤ 2 ^ 20 → i ≤ n → n ≤ i → at ≡ records_length i l → count ≤ i → long ≤ at
-    → count + length (between o lo hi (drop i (entries_of n l))) ≡ length (between o lo hi (entries_of n l))
-    → long + length (records_of (between o lo hi (drop i (entries_of n l)))) ≡ length (records_of (between o lo hi (entries_of n l)))
-    → ◌≡◌ {A = Sum} (record { count = count; length = long }) (sum_of (between o lo hi (entries_of n l)))
-unfolding sum_of records_of
-sums_are o lo hi n i at count long l lies short a b g c d e f =
+    → records_length n l ≤ length l → length l ≤ 2 ^ 20 → i ≤ n → n ≤ i → at ≡ records_length i l → count ≤ i → long ≤ at → (es : List Entry)
+    → count + length (between o lo hi (drop i (entries_of n l))) ≡ length es
+    → long + length (records_of (between o lo hi (drop i (entries_of n l)))) ≡ length (records_of es)
+    → (t : Tree) → record { tree = t; count = count; length = long } ≡ found_in t es
+unfolding found_in records_of
+sums_are o lo hi n i at count long l lies short a b g c d es e f t =
     let z : between o lo hi (drop i (entries_of n l)) ≡ [] = none_left o lo hi n i l b in
-    let x : length (between o lo hi (entries_of n l)) ≡ count = sym e ∙ omega (arith, ap length z) in
-    let y : length (records_of (between o lo hi (entries_of n l))) ≡ long = sym f ∙ omega
-    (arith, ap (λ (q : List Entry). length (records_of q)) z) in
+    let x : length es ≡ count = sym e ∙ omega (arith, ap length z) in
+    let y : length (records_of es) ≡ long = sym f ∙ omega (arith, ap (λ (q : List Entry). length (records_of q)) z) in
     let p : count ≤ most = omega (arith, records_least n l) in
     let q : long ≤ most = omega (arith, records_less i n l a) in
     sym (rw (x, y, most_small count p, most_small long q))

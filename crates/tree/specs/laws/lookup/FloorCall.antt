@@ -31,7 +31,7 @@ use Rattle.tree.specs.laws.room.Way.{roomy_floor}
 use Rattle.tree.specs.laws.refusal1.Calls.{trusts_hold, back_hold, looked_trusts}
 use Rattle.tree.specs.declared.lent.Lent.{Lent}
 use Rattle.tree.specs.declared.editor.Tree.{Tree}
-use Rattle.tree.specs.declared.floor.Last.{Last}
+use Rattle.tree.specs.declared.editor.Position.{Position}
 use Rattle.std.specs.Prelude as std
 use Rattle.std.specs.Prelude.{Ok, Err, Some, None, Option}
 use Rattle.node.specs.declared.refusal.Refusal.{Refusal}
@@ -40,7 +40,7 @@ use Rattle.node.specs.declared.refusal.Refusal.TheVariants as is
 -- ---- the lookup, then the record
 
 module _ (l : lent.Lent) (size : ℕ) (t : Tree) (h0 b0 : List ℕ) (level : ℕ) (ev : level ≡ (node_at (state_of size t h0 b0) t.root).level)
-    (key h1 b1 : List ℕ) (r : std.Result (Tree × Option Last) Refusal)
+    (key h1 b1 : List ℕ) (r : std.Result (Tree × Option Position) Refusal)
     (er : last_means size h1 b1 r ≡ lookup.floor_from level l (state_of size t h0 b0)
     (bounds_of (state_of size t h0 b0) (record { lower = None; upper = None })) t.root key) where
   lookup_is : lookup.floor_from (node_at (state_of size t h0 b0) (state_of size t h0 b0).root).level l (state_of size t h0 b0) load.unbounded
@@ -61,7 +61,7 @@ module _ (l : lent.Lent) (size : ℕ) (t : Tree) (h0 b0 : List ℕ) (level : ℕ
     unfolding floored_output last_means
     way_refused_same x e = sym (ap (floored_output out) (way_is (length out)) ∙ rw e)
 
-    module _ (v : Tree) (f : Option Last) (e : r ≡ Ok (v, f)) where
+    module _ (v : Tree) (f : Option Position) (e : r ≡ Ok (v, f)) where
       found_is : floor_way l (state_of size t h0 b0) (length out) key ≡ floored_of (length out) (got_last (state_of size v h1 b1) f)
       unfolding last_means
       found_is = way_is (length out) ∙ rw e
@@ -78,7 +78,7 @@ module _ (l : lent.Lent) (size : ℕ) (t : Tree) (h0 b0 : List ℕ) (level : ℕ
       unfolding floored_output none_in records_of
       way_none_same q = sym (ap (floored_output out) (none_is q) ∙ splice_none out)
 
-      module _ (x : Last) (q : f ≡ Some x) where
+      module _ (x : Position) (q : f ≡ Some x) where
         entry_is : floor_way l (state_of size t h0 b0) (length out) key ≡ floored_of (length out) (entry_in (state_of size v h1 b1) x.slot x.index)
         unfolding got_last
         entry_is = found_is ∙ rw q
@@ -93,7 +93,7 @@ module _ (l : lent.Lent) (size : ℕ) (t : Tree) (h0 b0 : List ℕ) (level : ℕ
 
 -- ---- 12 first, marks cleared
 
-module _ (l : lent.Lent) (size : ℕ) (t : Tree) (h0 b0 key : List ℕ) (k : Bool) (ek : k ≡ keyed_length t.order (length key)) where
+module _ (l : lent.Lent) (size : ℕ) (t : Tree) (h0 b0 key : List ℕ) (k : Bool) (ek : k ≡ keyed_length t.order.code (length key)) where
   keyed_is : keyed (state_of size t h0 b0).order key ≡ k
   unfolding state_of keyed
   keyed_is = sym ek
@@ -218,3 +218,5 @@ module _ (image : List ℕ) (l : Lent) (t : Tree) (h0 b0 : List ℕ) (a : Bool)
     pub floor_output : (room : ℕ) (key o out : List ℕ) → o ≡ floored_output out (lookup.floor_in (lent_of image l) (state_of l.size t h0 b0) room key)
         → o ≡ floored_output out (floored_in (lent_of image l) t h0 b0 room key)
     floor_output room key o out q = q ∙ ap (floored_output out) (sym (lent_yes room key))
+
+pub ruleset floor_laws = (left_of_lem, floor_lent, floor_lent_same, floor_answer, floor_output)

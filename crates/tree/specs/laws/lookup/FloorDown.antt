@@ -21,16 +21,15 @@ use Rattle.tree.specs.laws.slots.Tree.{used_nodes}
 use Rattle.tree.specs.laws.trust.Loads.{Loads, loads_then, load_loads}
 use Rattle.tree.specs.laws.lookup.FloorLoads.{floor_loads, bounds_more, left_with, left_loads, child_used, child_more, child_in, child_kept}
 use Rattle.tree.specs.declared.editor.Tree.{Tree}
-use Rattle.tree.specs.declared.editor.Bound.{Bound}
+use Rattle.tree.specs.declared.editor.Position.{Position}
 use Rattle.tree.specs.declared.editor.Bounds.{Bounds}
-use Rattle.tree.specs.declared.floor.Last.{Last}
 use Rattle.std.specs.Prelude as std
 use Rattle.std.specs.Prelude.{Ok, Err, Some, None, Option}
 use Rattle.node.specs.declared.refusal.Refusal.{Refusal}
 
 -- ---- a child loaded, and its bounds
 
-module _ (l : Lent) (size : ℕ) (t : Tree) (heads bytes : List ℕ) (b : Bounds Bound) (n i : ℕ) (x : std.Result (Tree × ℕ) Refusal)
+module _ (l : Lent) (size : ℕ) (t : Tree) (heads bytes : List ℕ) (b : Bounds Position) (n i : ℕ) (x : std.Result (Tree × ℕ) Refusal)
     (heads' bytes' : List ℕ)
     (ex : loaded_of size heads' bytes' x ≡ load_child l (state_of size t heads bytes) (bounds_of (state_of size t heads bytes) b) n i)
     (t' : Tree) (c : ℕ) (q : x ≡ Ok (t', c)) where
@@ -42,20 +41,20 @@ module _ (l : Lent) (size : ℕ) (t : Tree) (heads bytes : List ℕ) (b : Bounds
   pub into_more : t.used ≤ t'.used
   into_more = child_more l size t heads bytes b n i t' heads' bytes' c into
 
-  module _ (inner : Bounds Bound) (hb : BoundsIn t.used b) (f : BoundsIn t.used b → n < t.used → BoundsIn t.used inner) where
+  module _ (inner : Bounds Position) (hb : BoundsIn t.used b) (f : BoundsIn t.used b → n < t.used → BoundsIn t.used inner) where
     pub into_in : BoundsIn t'.used inner
     into_in = child_in l size t heads bytes b n i t' heads' bytes' c into inner hb f
 
-    pub into_bounds : bounds_of (state_of size t heads bytes) inner ≡ child_bounds t.order (bounds_of (state_of size t heads bytes) b)
+    pub into_bounds : bounds_of (state_of size t heads bytes) inner ≡ child_bounds t.order.code (bounds_of (state_of size t heads bytes) b)
         (node_at (state_of size t heads bytes) n).entries i
-        → bounds_of (state_of size t' heads' bytes') inner ≡ child_bounds t.order (bounds_of (state_of size t heads bytes) b)
+        → bounds_of (state_of size t' heads' bytes') inner ≡ child_bounds t.order.code (bounds_of (state_of size t heads bytes) b)
         (node_at (state_of size t heads bytes) n).entries i
     into_bounds eb = child_kept l size t heads bytes b n i t' heads' bytes' c into inner hb f ∙ eb
 
 -- ---- the last entry d levels down
 
-module _ (l : Lent) (size : ℕ) (t : Tree) (heads bytes : List ℕ) (b : Bounds Bound) (n d : ℕ) where
-  pub last_leaf : d ≡ 0 → (r : Option Last) → got_last (state_of size t heads bytes) r ≡ last_at (state_of size t heads bytes) n
+module _ (l : Lent) (size : ℕ) (t : Tree) (heads bytes : List ℕ) (b : Bounds Position) (n d : ℕ) where
+  pub last_leaf : d ≡ 0 → (r : Option Position) → got_last (state_of size t heads bytes) r ≡ last_at (state_of size t heads bytes) n
       → last_means size heads bytes (Ok (t, r)) ≡ last_from d l (state_of size t heads bytes) (bounds_of (state_of size t heads bytes) b) n
   unfolding last_from last_at last_means
   last_leaf z r e = rw z (ap ok e)
@@ -69,7 +68,7 @@ module _ (l : Lent) (size : ℕ) (t : Tree) (heads bytes : List ℕ) (b : Bounds
 
     last_step : last_from d l (state_of size t heads bytes) (bounds_of (state_of size t heads bytes) b) n
         ≡ (loaded_of size heads' bytes' x >>= λ c. last_from (d - 1) l c.state
-        (child_bounds t.order (bounds_of (state_of size t heads bytes) b) (node_at (state_of size t heads bytes) n).entries i) c.slot)
+        (child_bounds t.order.code (bounds_of (state_of size t heads bytes) b) (node_at (state_of size t heads bytes) n).entries i) c.slot)
     unfolding last_from state_of
     last_step =
         let z : d ≡ suc (d - 1) = omega arith in
@@ -81,9 +80,9 @@ module _ (l : Lent) (size : ℕ) (t : Tree) (heads bytes : List ℕ) (b : Bounds
     unfolding last_means loaded_of
     last_refused y q = sym (last_step ∙ rw q)
 
-    pub last_down : (t' : Tree) (c : ℕ) → x ≡ Ok (t', c) → (inner : Bounds Bound) → BoundsIn t.used b
+    pub last_down : (t' : Tree) (c : ℕ) → x ≡ Ok (t', c) → (inner : Bounds Position) → BoundsIn t.used b
         → (BoundsIn t.used b → n < t.used → BoundsIn t.used inner)
-        → bounds_of (state_of size t heads bytes) inner ≡ child_bounds t.order (bounds_of (state_of size t heads bytes) b)
+        → bounds_of (state_of size t heads bytes) inner ≡ child_bounds t.order.code (bounds_of (state_of size t heads bytes) b)
         (node_at (state_of size t heads bytes) n).entries i
         → (y : Result (Got Entry)) → y ≡ last_from (d - 1) l (state_of size t' heads' bytes') (bounds_of (state_of size t' heads' bytes') inner) c
         → y ≡ last_from d l (state_of size t heads bytes) (bounds_of (state_of size t heads bytes) b) n
@@ -94,19 +93,19 @@ module _ (l : Lent) (size : ℕ) (t : Tree) (heads bytes : List ℕ) (b : Bounds
 
 -- ---- leftward
 
-module _ (l : Lent) (size : ℕ) (t : Tree) (heads bytes : List ℕ) (b : Bounds Bound) (n i d : ℕ) (key : List ℕ) where
+module _ (l : Lent) (size : ℕ) (t : Tree) (heads bytes : List ℕ) (b : Bounds Position) (n i d : ℕ) (key : List ℕ) where
   pub left_first : i ≡ 0 → last_means size heads bytes (Ok (t, None)) ≡ left_from d l (state_of size t heads bytes)
       (bounds_of (state_of size t heads bytes) b) n i key
   unfolding last_means got_last left_from
   left_first z = sym (rw z)
 
   module _ (z : i ≡ 0 → ⊥) (k : List ℕ) (ek : k ≡ key_at (node_at (state_of size t heads bytes) n).entries i) (above : Bool)
-      (ea : above ≡ less t.order key k) where
+      (ea : above ≡ less t.order.code key k) where
     more : ltb 0 i ≡ true
     more = lt-ltb 0 i (omega arith)
 
-    below : less t.order key (key_at (node_at (state_of size t heads bytes) n).entries i) ≡ above
-    below = ap (less t.order key) (sym ek) ∙ sym ea
+    below : less t.order.code key (key_at (node_at (state_of size t heads bytes) n).entries i) ≡ above
+    below = ap (less t.order.code key) (sym ek) ∙ sym ea
 
     pub left_above : above ≡ true → last_means size heads bytes (Ok (t, None)) ≡ left_from d l (state_of size t heads bytes)
         (bounds_of (state_of size t heads bytes) b) n i key
@@ -117,7 +116,7 @@ module _ (l : Lent) (size : ℕ) (t : Tree) (heads bytes : List ℕ) (b : Bounds
         (ex : loaded_of size heads' bytes' x ≡ load_child l (state_of size t heads bytes) (bounds_of (state_of size t heads bytes) b) n (i - 1)) where
       left_step : left_from d l (state_of size t heads bytes) (bounds_of (state_of size t heads bytes) b) n i key
           ≡ (loaded_of size heads' bytes' x >>= λ c. last_from d l c.state
-          (child_bounds t.order (bounds_of (state_of size t heads bytes) b) (node_at (state_of size t heads bytes) n).entries (i - 1)) c.slot)
+          (child_bounds t.order.code (bounds_of (state_of size t heads bytes) b) (node_at (state_of size t heads bytes) n).entries (i - 1)) c.slot)
       unfolding left_from state_of
       left_step = rw (more, below, u, ex)
 
@@ -126,9 +125,9 @@ module _ (l : Lent) (size : ℕ) (t : Tree) (heads bytes : List ℕ) (b : Bounds
       unfolding last_means loaded_of
       left_refused y q = sym (left_step ∙ rw q)
 
-      pub left_down : (t' : Tree) (c : ℕ) → x ≡ Ok (t', c) → (inner : Bounds Bound) → BoundsIn t.used b
+      pub left_down : (t' : Tree) (c : ℕ) → x ≡ Ok (t', c) → (inner : Bounds Position) → BoundsIn t.used b
           → (BoundsIn t.used b → n < t.used → BoundsIn t.used inner)
-          → bounds_of (state_of size t heads bytes) inner ≡ child_bounds t.order (bounds_of (state_of size t heads bytes) b)
+          → bounds_of (state_of size t heads bytes) inner ≡ child_bounds t.order.code (bounds_of (state_of size t heads bytes) b)
           (node_at (state_of size t heads bytes) n).entries (i - 1)
           → (y : Result (Got Entry)) → y ≡ last_from d l (state_of size t' heads' bytes') (bounds_of (state_of size t' heads' bytes') inner) c
           → y ≡ left_from d l (state_of size t heads bytes) (bounds_of (state_of size t heads bytes) b) n i key
@@ -139,14 +138,14 @@ module _ (l : Lent) (size : ℕ) (t : Tree) (heads bytes : List ℕ) (b : Bounds
 
 -- ---- the last entry not above a key
 
-module _ (l : Lent) (size : ℕ) (t : Tree) (heads bytes : List ℕ) (b : Bounds Bound) (n d : ℕ) (key : List ℕ) where
-  pub floor_leaf : d ≡ 0 → (r : Option Last) → got_last (state_of size t heads bytes) r ≡ floor_at (state_of size t heads bytes) n key
+module _ (l : Lent) (size : ℕ) (t : Tree) (heads bytes : List ℕ) (b : Bounds Position) (n d : ℕ) (key : List ℕ) where
+  pub floor_leaf : d ≡ 0 → (r : Option Position) → got_last (state_of size t heads bytes) r ≡ floor_at (state_of size t heads bytes) n key
       → last_means size heads bytes (Ok (t, r)) ≡ floor_from d l (state_of size t heads bytes) (bounds_of (state_of size t heads bytes) b) n key
   unfolding floor_from floor_at last_means
   floor_leaf z r e = rw z (ap ok e)
 
-module _ (l : Lent) (size : ℕ) (t : Tree) (heads bytes : List ℕ) (b : Bounds Bound) (n d : ℕ) (key : List ℕ) where
-  module _ (hd : d ≡ 0 → ⊥) (i : ℕ) (ei : i ≡ way_index t.order key (node_at (state_of size t heads bytes) n).entries)
+module _ (l : Lent) (size : ℕ) (t : Tree) (heads bytes : List ℕ) (b : Bounds Position) (n d : ℕ) (key : List ℕ) where
+  module _ (hd : d ≡ 0 → ⊥) (i : ℕ) (ei : i ≡ way_index t.order.code key (node_at (state_of size t heads bytes) n).entries)
       (x : std.Result (Tree × ℕ) Refusal)
       (heads' bytes' : List ℕ)
       (ex : loaded_of size heads' bytes' x ≡ load_child l (state_of size t heads bytes) (bounds_of (state_of size t heads bytes) b) n i) where
@@ -164,11 +163,11 @@ module _ (l : Lent) (size : ℕ) (t : Tree) (heads bytes : List ℕ) (b : Bounds
     unfolding floor_from last_means loaded_of state_of
     floor_refused y q = sym (ap (λ (m : ℕ). floor_from m l from bs n key) lower ∙ rw (← ei, ← ex, q))
 
-    module _ (t' : Tree) (c : ℕ) (q : x ≡ Ok (t', c)) (inner : Bounds Bound) (hb : BoundsIn t.used b)
+    module _ (t' : Tree) (c : ℕ) (q : x ≡ Ok (t', c)) (inner : Bounds Position) (hb : BoundsIn t.used b)
         (f : BoundsIn t.used b → n < t.used → BoundsIn t.used inner)
-        (eb : bounds_of (state_of size t heads bytes) inner ≡ child_bounds t.order (bounds_of (state_of size t heads bytes) b)
+        (eb : bounds_of (state_of size t heads bytes) inner ≡ child_bounds t.order.code (bounds_of (state_of size t heads bytes) b)
         (node_at (state_of size t heads bytes) n).entries i)
-        (r : std.Result (Tree × Option Last) Refusal) (heads'' bytes'' : List ℕ)
+        (r : std.Result (Tree × Option Position) Refusal) (heads'' bytes'' : List ℕ)
         (er : last_means size heads'' bytes'' r ≡ floor_from (d - 1) l (state_of size t' heads' bytes')
         (bounds_of (state_of size t' heads' bytes') inner) c
         key) where
@@ -176,7 +175,7 @@ module _ (l : Lent) (size : ℕ) (t : Tree) (heads bytes : List ℕ) (b : Bounds
           (record { state = state_of size t' heads' bytes'; slot = c })
       child_is = sym (into l size t heads bytes b n i x heads' bytes' ex t' c q)
 
-      below_is : floor_from (d - 1) l (state_of size t' heads' bytes') (child_bounds t.order (bounds_of (state_of size t heads bytes) b)
+      below_is : floor_from (d - 1) l (state_of size t' heads' bytes') (child_bounds t.order.code (bounds_of (state_of size t heads bytes) b)
           (node_at (state_of size t heads bytes) n).entries i) c key ≡ last_means size heads'' bytes'' r
       below_is =
           ap (λ (z : load.Bounds). floor_from (d - 1) l (state_of size t' heads' bytes') z c key)
@@ -187,13 +186,13 @@ module _ (l : Lent) (size : ℕ) (t : Tree) (heads bytes : List ℕ) (b : Bounds
       unfolding floor_from last_means state_of
       floor_below y u = sym (ap (λ (m : ℕ). floor_from m l from bs n key) lower ∙ rw (← ei, child_is, below_is, u))
 
-      pub floor_found : (v : Tree) (f : Option Last) → r ≡ Ok (v, f) → (e : Last) → f ≡ Some e
+      pub floor_found : (v : Tree) (f : Option Position) → r ≡ Ok (v, f) → (e : Position) → f ≡ Some e
           → last_means size heads'' bytes'' (Ok (v, f)) ≡ floor_from d l (state_of size t heads bytes)
           (bounds_of (state_of size t heads bytes) b) n key
       unfolding floor_from last_means got_last entry_in state_of
       floor_found v f u e q = rw q (sym (ap (λ (m : ℕ). floor_from m l from bs n key) lower ∙ rw (← ei, child_is, below_is, u, q)))
 
-      module _ (v : Tree) (g : Option Last) (u : r ≡ Ok (v, g)) (z : g ≡ None) where
+      module _ (v : Tree) (g : Option Position) (u : r ≡ Ok (v, g)) (z : g ≡ None) where
         abbrev to : State
         to = state_of size v heads'' bytes''
 
@@ -219,8 +218,8 @@ module _ (l : Lent) (size : ℕ) (t : Tree) (heads bytes : List ℕ) (b : Bounds
 
         left_is : floor_from d l (state_of size t heads bytes) (bounds_of (state_of size t heads bytes) b) n key
             ≡ left_with (d - 1) l (state_of size v heads'' bytes'') (bounds_of (state_of size t heads bytes) b) n i
-            (less t.order key (key_at (node_at (state_of size t heads bytes) n).entries i))
-            (child_bounds t.order (bounds_of (state_of size t heads bytes) b) (node_at (state_of size t heads bytes) n).entries (i - 1))
+            (less t.order.code key (key_at (node_at (state_of size t heads bytes) n).entries i))
+            (child_bounds t.order.code (bounds_of (state_of size t heads bytes) b) (node_at (state_of size t heads bytes) n).entries (i - 1))
         unfolding floor_from none_in state_of
         left_is = ap (λ (m : ℕ). floor_from m l from bs n key) lower ∙ rw (← ei, child_is, below_is, none_is, ← ei)
 

@@ -87,25 +87,26 @@ module _ (size : ℕ) (t : Tree) (heads bytes : List ℕ) (n count : ℕ) (e : c
 
 module _ (size : ℕ) (t : Tree) (heads bytes key : List ℕ) (n : ℕ) where
   module _ (c : ℕ) (l : List ℕ) (el : (node_at (state_of size t heads bytes) n).entries ≡ entries_of c l) (x : found.Last)
-      (ex : x ≡ last_in t.order key c l) where
-    pub count_above : x.count ≡ not_above t.order key (node_at (state_of size t heads bytes) n).entries
+      (ex : x ≡ last_in t.order.code key c l) where
+    pub count_above : x.count ≡ not_above t.order.code key (node_at (state_of size t heads bytes) n).entries
     unfolding last_in
     count_above = rw (el, ex)
 
     pub floor_at_none : x.count ≡ 0 → got_last (state_of size t heads bytes) None ≡ floor_at (state_of size t heads bytes) n key
     unfolding got_last none_in floor_at state_of
-    floor_at_none z = sym (rw (above_none t.order key (node_at (state_of size t heads bytes) n).entries (sym count_above ∙ z)))
+    floor_at_none z = sym (rw (above_none t.order.code key (node_at (state_of size t heads bytes) n).entries (sym count_above ∙ z)))
 
     module _ (z : x.count ≡ 0 → ⊥) where
       pub floor_at_some : got_last (state_of size t heads bytes) (Some (record { slot = n; index = x.count - 1 }))
           ≡ floor_at (state_of size t heads bytes) n key
       unfolding got_last entry_in floor_at state_of
-      floor_at_some = sym (rw (above_one t.order key (node_at (state_of size t heads bytes) n).entries (x.count - 1) (omega (arith, count_above))))
+      floor_at_some =
+          sym (rw (above_one t.order.code key (node_at (state_of size t heads bytes) n).entries (x.count - 1) (omega (arith, count_above))))
 
       pub floor_at_ready : (slots : ℕ) → Ready size slots t.used heads bytes → EntryReady size slots t heads bytes n (x.count - 1)
       floor_at_ready slots r =
           let es : List Entry = (node_at (state_of size t heads bytes) n).entries in
-          let m : x.count ≤ length es = omega (arith, above_le t.order key es, count_above) in
+          let m : x.count ≤ length es = omega (arith, above_le t.order.code key es, count_above) in
           let k : length es ≡ 0 → ⊥ = λ q. z (omega arith) in
           let f : EntryReady size slots t heads bytes n (length es - 1) = last_at_ready size t heads bytes n (length es) refl k slots r in
           record { ready = r; slot = f.slot; entry = (let g = f.entry in omega arith) }
@@ -189,3 +190,7 @@ module _ (size slots : ℕ) (t : Tree) (heads bytes : List ℕ) (n i : ℕ) (r :
               let w : records_of (entry_of (drop at l) ∷ []) ≡ take (end - at) (drop at l) =
               records_whole 1 (drop at l) (omega (arith, room)) (bytes_drop at l bl) ∙ ap (λ (k : ℕ). take k (drop at l)) (sym once) in
               eo ∙ ap (splice out 0) (sym w) ∙ sym (ap (floored_output out) found_is)
+
+pub ruleset floor_at_laws = (floor_at_none, floor_at_some, floor_at_ready)
+
+pub ruleset last_at_laws = (last_at_none, last_at_some, last_at_ready)

@@ -22,7 +22,7 @@ use Rattle.tree.specs.laws.load.Way.{same_keys, loaded_used}
 use Rattle.tree.specs.laws.trust.Loads.{Loads, loads_refl, loads_then, load_loads, holds_cond, by_list}
 use Rattle.tree.specs.laws.lookup.RangeAgain.{keys_same}
 use Rattle.tree.specs.declared.editor.Tree.{Tree}
-use Rattle.tree.specs.declared.editor.Bound.{Bound}
+use Rattle.tree.specs.declared.editor.Position.{Position}
 use Rattle.tree.specs.declared.editor.Bounds.{Bounds}
 
 -- ---- whatever the slots hold, floor only loads
@@ -65,11 +65,11 @@ bounds_keys o bs xs ys i e =
     let n : length xs ≡ length ys = keys_same xs ys e in
     rw (same_keys xs ys i e, same_keys xs ys (suc i) e, n)
 
-bound_more : (m k : ℕ) (b : Option Bound) → m ≤ k → BoundIn m b → BoundIn k b
+bound_more : (m k : ℕ) (b : Option Position) → m ≤ k → BoundIn m b → BoundIn k b
 bound_more m k None h i = tt
 bound_more m k (Some x) h i = omega arith
 
-pub bounds_more : (m k : ℕ) (b : Bounds Bound) → m ≤ k → BoundsIn m b → BoundsIn k b
+pub bounds_more : (m k : ℕ) (b : Bounds Position) → m ≤ k → BoundsIn m b → BoundsIn k b
 bounds_more m k b h i = record { lower = bound_more m k b.lower h i.lower; upper = bound_more m k b.upper h i.upper }
 
 -- `left_from`, its test and its child's bounds given
@@ -78,18 +78,18 @@ left_with d l s bs n i above cs =
     cond (ltb 0 i && not above) (load_child l s bs n (i - 1) >>= λ c. last_from d l c.state cs c.slot) (ok (none_in s))
 
 module _ (l : Lent) (s t : State) (k : Loads l s t) where
-  bound_loads : (b : Option Bound) → BoundIn (length s.nodes) b → bound_of t b ≡ bound_of s b
+  bound_loads : (b : Option Position) → BoundIn (length s.nodes) b → bound_of t b ≡ bound_of s b
   unfolding bound_of
   bound_loads None h = refl
   bound_loads (Some b) h =
       ap (λ (x : List ℕ). x ∷ []) (same_keys (node_at t b.slot).entries (node_at s b.slot).entries b.index (k.keys b.slot h))
 
-  pub bounds_loads : (b : Bounds Bound) → BoundsIn (length s.nodes) b → bounds_of t b ≡ bounds_of s b
+  pub bounds_loads : (b : Bounds Position) → BoundsIn (length s.nodes) b → bounds_of t b ≡ bounds_of s b
   unfolding bounds_of
   bounds_loads b h = rw (bound_loads b.lower h.lower, bound_loads b.upper h.upper)
 
   -- leftward after loads: as with the keys and the bounds before them
-  pub left_loads : (d : ℕ) (b : Bounds Bound) (n i : ℕ) (key : List ℕ) → BoundsIn (length s.nodes) b → n < length s.nodes
+  pub left_loads : (d : ℕ) (b : Bounds Position) (n i : ℕ) (key : List ℕ) → BoundsIn (length s.nodes) b → n < length s.nodes
       → left_from d l t (bounds_of t b) n i key ≡ left_with d l t (bounds_of s b) n i (less s.order key (key_at (node_at s n).entries i))
       (child_bounds s.order (bounds_of s b) (node_at s n).entries (i - 1))
   unfolding left_from
@@ -107,7 +107,7 @@ module _ (l : Lent) (s t : State) (k : Loads l s t) where
 
 -- ---- a child loaded, as the code has it
 
-module _ (l : Lent) (size : ℕ) (t : Tree) (heads bytes : List ℕ) (b : Bounds Bound) (n i : ℕ) (t' : Tree) (heads' bytes' : List ℕ) (c : ℕ)
+module _ (l : Lent) (size : ℕ) (t : Tree) (heads bytes : List ℕ) (b : Bounds Position) (n i : ℕ) (t' : Tree) (heads' bytes' : List ℕ) (c : ℕ)
     (e : ok (record { state = state_of size t' heads' bytes'; slot = c }) ≡ load_child l (state_of size t heads bytes)
     (bounds_of (state_of size t heads bytes) b) n i) where
   abbrev s : State
@@ -128,7 +128,7 @@ module _ (l : Lent) (size : ℕ) (t : Tree) (heads bytes : List ℕ) (b : Bounds
   pub child_more : t.used ≤ t'.used
   child_more = omega (arith, loads.longer, used_nodes size t heads bytes, used_nodes size t' heads' bytes')
 
-  module _ (inner : Bounds Bound) (hb : BoundsIn t.used b) (f : BoundsIn t.used b → n < t.used → BoundsIn t.used inner) where
+  module _ (inner : Bounds Position) (hb : BoundsIn t.used b) (f : BoundsIn t.used b → n < t.used → BoundsIn t.used inner) where
     pub child_in : BoundsIn t'.used inner
     child_in = bounds_more t.used t'.used inner child_more (f hb child_used)
 

@@ -162,7 +162,7 @@ module _ (l : lent.Lent) (size : ℕ) (t : Tree) (h0 b0 : List ℕ) (tr : truste
 
 -- ---- get as a call: 12 first, marks cleared
 
-module _ (l : lent.Lent) (size : ℕ) (t : Tree) (h0 b0 key : List ℕ) (k : Bool) (ek : k ≡ keyed_length t.order (length key)) where
+module _ (l : lent.Lent) (size : ℕ) (t : Tree) (h0 b0 key : List ℕ) (k : Bool) (ek : k ≡ keyed_length t.order.code (length key)) where
   keyed_is : keyed (state_of size t h0 b0).order key ≡ k
   unfolding state_of keyed
   keyed_is = sym ek
@@ -277,3 +277,5 @@ module _ (image : List ℕ) (l : Lent) (t : Tree) (h0 b0 : List ℕ) (a : Bool)
     pub get_output : (room : ℕ) (key o out : List ℕ) → o ≡ got_output out (lookup.get_in (lent_of image l) (state_of l.size t h0 b0) room key)
         → o ≡ got_output out (got_in (lent_of image l) t h0 b0 room key)
     get_output room key o out q = q ∙ ap (got_output out) (sym (lent_yes room key))
+
+pub ruleset get_laws = (left_of_lem, get_lent, get_lent_same, get_answer, get_output)

@@ -111,7 +111,7 @@ module _ (size slots : ℕ) (t : Tree) (heads bytes key : List ℕ) where
       (q : LeadsTo (node_at (state_of size t heads bytes) (state_of size t heads bytes).root).level (state_of size t heads bytes) key n
       (state_of size t heads bytes).root) (r : Ready size slots t.used heads bytes) (c : ℕ) (l : List ℕ)
       (ec : (node_at (state_of size t heads bytes) n).entries ≡ entries_of c l) (el : l ≡ slot_bytes size bytes n) (x : found.Last)
-      (ex : x ≡ last_in t.order key c l) (z : x.count ≡ 0 → ⊥) where
+      (ex : x ≡ last_in t.order.code key c l) (z : x.count ≡ 0 → ⊥) where
     at_is : x.at ≡ records_length (x.count - 1) (slot_bytes size bytes n)
     unfolding last_in
     at_is = rw (ex, el)
@@ -122,7 +122,7 @@ module _ (size slots : ℕ) (t : Tree) (heads bytes key : List ℕ) where
     spot_floor v room =
         let s : State = state_of size t heads bytes in
         let e : Entry = get_or (node_at s n).entries (x.count - 1) (record { key = []; value = ghost }) in
-        let o = above_one t.order key (node_at s n).entries (x.count - 1)
+        let o = above_one t.order.code key (node_at s n).entries (x.count - 1)
         (omega (arith, count_above size t heads bytes key n c l ec x ex)) in
         let f = leads_floor (node_at s s.root).level v s unbounded key n s.root e q o in
         rw (k, f)
@@ -174,3 +174,5 @@ module _ (size : ℕ) (t : Tree) (heads bytes : List ℕ) (level : ℕ) (key : L
 
   pub walked_ready : (slots : ℕ) → Ready size slots t.used heads bytes → WayReady size slots heads bytes (Ok w)
   walked_ready slots x = rw (q.same w e) x
+
+pub ruleset copy_at_laws = (spot_room, spot_refused, spot_refused_same, spot_copied, spot_copied_out)

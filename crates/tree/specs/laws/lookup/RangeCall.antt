@@ -25,14 +25,13 @@ use Rattle.tree.specs.Answers.{range_means, ranged_output}
 use Rattle.tree.specs.internal.Bank.{Ready}
 use Rattle.tree.specs.internal.Room.{Roomy}
 use Rattle.tree.specs.internal.Tree.{bound_of, bounds_of}
-use Rattle.tree.specs.internal.Range.{end_of, sum_of, counted, ranged_of, range_held, range_way}
+use Rattle.tree.specs.internal.Range.{Sum, end_of, sum_of, counted, ranged_of, range_held, range_way}
 use Rattle.tree.specs.laws.lookup.Between.{most_small}
 use Rattle.tree.specs.laws.lookup.RangeCount.{range_load, Found, counted_found}
 use Rattle.tree.specs.laws.lookup.RangeHeld.{held_again, range_storable}
 use Rattle.tree.specs.laws.lookup.RangeSums.{range_small, range_few}
 use Rattle.tree.specs.declared.lent.Lent.{Lent}
 use Rattle.tree.specs.declared.editor.Tree.{Tree}
-use Rattle.tree.specs.declared.range.Sum.{Sum}
 use Rattle.tree.specs.declared.range.Ranged.{Ranged}
 use Rattle.std.specs.Prelude as std
 use Rattle.std.specs.Prelude.{Ok, Err, Some, None}
@@ -182,7 +181,7 @@ module _ (image : List ℕ) (l : Lent) (t : Tree) (h0 b0 : List ℕ) (level : �
 
 -- ---- 12 of both ends first, marks cleared
 
-module _ (image : List ℕ) (l : Lent) (t : Tree) (h0 b0 lo hi : List ℕ) (a : Bool) (ea : a ≡ keyed_length t.order (length lo)) where
+module _ (image : List ℕ) (l : Lent) (t : Tree) (h0 b0 lo hi : List ℕ) (a : Bool) (ea : a ≡ keyed_length t.order.code (length lo)) where
   low_is : keyed (state_of l.size t h0 b0).order lo ≡ a
   unfolding state_of keyed
   low_is = sym ea
@@ -201,7 +200,7 @@ module _ (image : List ℕ) (l : Lent) (t : Tree) (h0 b0 lo hi : List ℕ) (a : 
     unfolding ranged_output
     in_low_same out = sym (ap (ranged_output out) (low_no (length out)))
 
-  module _ (na : a ≡ true) (c : Bool) (ec : c ≡ keyed_length t.order (length hi)) where
+  module _ (na : a ≡ true) (c : Bool) (ec : c ≡ keyed_length t.order.code (length hi)) where
     high_is : keyed (state_of l.size t h0 b0).order hi ≡ c
     unfolding state_of keyed
     high_is = sym ec
@@ -231,3 +230,5 @@ module _ (image : List ℕ) (l : Lent) (t : Tree) (h0 b0 lo hi : List ℕ) (a : 
       pub in_output : (o out : List ℕ) → o ≡ ranged_output out (range_way (lent_of image l) (state_of l.size t h b) room lo hi)
           → o ≡ ranged_output out (range_in (lent_of image l) (state_of l.size t h0 b0) room lo hi)
       in_output o out q = q ∙ ap (ranged_output out) way_in
+
+pub ruleset range_in_laws = (in_low, in_low_same, in_high, in_high_same)

@@ -1,20 +1,18 @@
 -- Laws of range as it loads and counts: one for each turn and each way out. Assumes nothing.
-use Rattle.std.specs.Prelude.{◌≡◌, refl, List, [], ◌++◌, ℕ, zero, suc, ◌+◌, ◌≤◌, length}
+use Rattle.std.specs.Prelude.{◌≡◌, refl, List, [], ◌++◌, true, ℕ, zero, suc, ◌+◌, ◌≤◌, length}
 use Rattle.std.proofs.Common.{sym, ap, ap₂, ◌∙◌, arith, length-append}
 use Rattle.node.specs.Result.{Result, ok, refused, ◌>>=◌}
 use Rattle.node.specs.Entry.{Entry}
 use Rattle.node.specs.Records.{records_of}
-use Rattle.node.specs.laws.base.Tests.{by_test}
 use Rattle.node.specs.laws.base.Results.{Holds, holds_ok, holds_bind, bind_ok, no_answer}
 use Rattle.tree.specs.Lent.{Lent}
 use Rattle.tree.specs.State.{State, node_at}
 use Rattle.tree.specs.Load as load
 use Rattle.tree.specs.Load.{child_bounds, load_child}
 use Rattle.tree.specs.Lookup.{Got, range_enters, range_kids, range_from}
-use Rattle.tree.specs.internal.Range.{most, at_most, sum_of, plus, Counted, counted, ahead, range_child}
+use Rattle.tree.specs.internal.Range.{Sum, most, at_most, sum_of, plus, Counted, counted, ahead, range_child}
 use Rattle.tree.specs.laws.trust.Loads.{Loads, loads_refl, loads_then, load_loads, holds_cond}
 use Rattle.tree.specs.laws.lookup.Between.{most_small, most_most, most_both, records_append}
-use Rattle.tree.specs.declared.range.Sum.{Sum}
 
 -- ---- what a range loads, whatever the state
 
@@ -43,17 +41,15 @@ range_load (suc d) l lo hi s bs n = kids_load (range_from d l lo hi) l (λ t cs 
     (length (node_at s n).entries) 0
 
 pub child_load : (d : ℕ) (l : Lent) (lo : List ℕ) (hi : List (List ℕ)) (s : State) (bs : load.Bounds) (n i : ℕ)
-    → Holds (λ g. Loads l s g.state) (range_child (range_from d l lo hi) l s bs n lo hi i)
+    → Holds (λ g. Loads l s g.state) (range_child (range_from d l lo hi) l s bs n i)
 unfolding range_child
 child_load d l lo hi s bs n i =
     let es : List Entry = (node_at s n).entries in
-    holds_cond (range_enters s.order lo hi es i) _ _
-    (λ t. holds_bind (load_child l s bs n i) _ λ a e.
+    holds_bind (load_child l s bs n i) _ λ a e.
     record {
       at = λ g y. loads_then l s a.state g.state (load_loads l s bs n i a e)
           ((range_load d l lo hi a.state (child_bounds s.order bs es i) a.slot).at g y);
-    })
-    (λ t. holds_ok (loads_refl l s))
+    }
 
 -- ---- counted: what was accepted
 
@@ -129,18 +125,12 @@ bind_bind : {A B C : Type 0} (r : Result A) (f : A → Result B) (g : B → Resu
 bind_bind (refused x) f g = refl
 bind_bind (ok a) f g = refl
 
-same_answer : (r : Result (Got Entry)) → r ≡ (r >>= λ h. ok (record { state = h.state; answer = h.answer }))
-same_answer (refused x) = refl
-same_answer (ok h) = refl
-
--- child i, then the others
+-- a child that is entered, then the others
 pub kids_child : (f : State → load.Bounds → ℕ → Result (Got Entry)) (l : Lent) (s : State) (bs : load.Bounds) (n : ℕ) (lo : List ℕ)
-    (hi : List (List ℕ)) (m i : ℕ) → range_kids f l s bs n lo hi (suc m) i
-    ≡ (range_child f l s bs n lo hi i >>= λ g. range_kids f l g.state bs n lo hi m (suc i)
+    (hi : List (List ℕ)) (m i : ℕ) → range_enters s.order lo hi (node_at s n).entries i ≡ true → range_kids f l s bs n lo hi (suc m) i
+    ≡ (range_child f l s bs n i >>= λ g. range_kids f l g.state bs n lo hi m (suc i)
     >>= λ h. ok (record { state = h.state; answer = g.answer ++ h.answer }))
 unfolding range_kids range_child
-kids_child f l s bs n lo hi m i =
-    by_test (range_enters s.order lo hi (node_at s n).entries i)
-    (λ z. rw z (sym (bind_bind (load_child l s bs n i) (λ c. f c.state (child_bounds s.order bs (node_at s n).entries i) c.slot)
-    (λ g. range_kids f l g.state bs n lo hi m (suc i) >>= λ h. ok (record { state = h.state; answer = g.answer ++ h.answer })))))
-    (λ z. rw z (same_answer (range_kids f l s bs n lo hi m (suc i))))
+kids_child f l s bs n lo hi m i z =
+    rw z (sym (bind_bind (load_child l s bs n i) (λ c. f c.state (child_bounds s.order bs (node_at s n).entries i) c.slot)
+    (λ g. range_kids f l g.state bs n lo hi m (suc i) >>= λ h. ok (record { state = h.state; answer = g.answer ++ h.answer }))))

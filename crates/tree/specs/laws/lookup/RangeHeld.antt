@@ -54,45 +54,43 @@ module _ (f : State → Bounds → ℕ → Result (Got Entry)) (h : ℕ → List
       ∙ add_count (put_node t n m) (adopted t.virtual b d) in
       omega (arith, put_count t n m)
 
-  child_same : (bs : Bounds) (n i : ℕ) (g : Got Entry) → range_child f l t bs n lo hi i ≡ ok g → length g.state.nodes ≤ length t.nodes
-      → Same t g (held_child h t lo hi n i)
-  unfolding range_child held_child
-  child_same bs n i g e k =
-      by_test (range_enters t.order lo hi (node_at t n).entries i)
-      (λ z.
+  child_same : (bs : Bounds) (n i : ℕ) (g : Got Entry) → range_enters t.order lo hi (node_at t n).entries i ≡ true
+      → range_child f l t bs n i ≡ ok g → length g.state.nodes ≤ length t.nodes → Same t g (held_child h t lo hi n i)
+  unfolding range_child
+  child_same bs n i g z e k =
       let cs : Bounds = child_bounds t.order bs (node_at t n).entries i in
       let next : At → Result (Got Entry) = λ c. f c.state cs c.slot in
-      let e' : (load_child l t bs n i >>= next) ≡ ok g = rw z at e in
-      let (a, p, q) = bind_ok (load_child l t bs n i) next g e' in
+      let (a, p, q) = bind_ok (load_child l t bs n i) next g e in
       by_load l t bs n i a p
       (λ c v w.
       let q' : f t cs c ≡ ok g = rw w at q in
       let (x, y) = same cs c g q' k in
       (x, in_slot bs n i c z v ∙ y))
-      (λ r d b v w x y u. absurd (omega (arith, brought_more n i a d b u, ((loads a.state cs a.slot).at g q).longer))))
-      (λ z. let q : record { state = t; answer = [] } ≡ g = cc (rw z at e) in
-      (sym (ap (λ (x : Got Entry). x.state) q), rw z (ap (λ (x : Got Entry). x.answer) q)))
+      (λ r d b v w x y u. absurd (omega (arith, brought_more n i a d b u, ((loads a.state cs a.slot).at g q).longer)))
 
   kids_same : (m i : ℕ) (bs : Bounds) (n : ℕ) (g : Got Entry) → range_kids f l t bs n lo hi m i ≡ ok g → length g.state.nodes ≤ length t.nodes
       → Same t g (held_kids h t lo hi n m i)
-  unfolding held_kids range_kids
+  unfolding held_kids held_child range_kids
   kids_same zero i bs n g e k =
       let q : record { state = t; answer = [] } ≡ g = cc in
       (sym (ap (λ (x : Got Entry). x.state) q), ap (λ (x : Got Entry). x.answer) q)
   kids_same (suc m) i bs n g e k =
+      by_test (range_enters t.order lo hi (node_at t n).entries i)
+      (λ r.
       let third : Got Entry → Got Entry → Result (Got Entry) = λ x y. ok (record { state = y.state; answer = x.answer ++ y.answer }) in
       let second : Got Entry → Result (Got Entry) = λ x. range_kids f l x.state bs n lo hi m (suc i) >>= third x in
-      let e' : (range_child f l t bs n lo hi i >>= second) ≡ ok g = sym (kids_child f l t bs n lo hi m i) ∙ e in
-      let (x, p, q) = bind_ok (range_child f l t bs n lo hi i) second g e' in
+      let e' : (range_child f l t bs n i >>= second) ≡ ok g = sym (kids_child f l t bs n lo hi m i r) ∙ e in
+      let (x, p, q) = bind_ok (range_child f l t bs n i) second g e' in
       let (y, u, v) = bind_ok (range_kids f l x.state bs n lo hi m (suc i)) (third x) g q in
       let w : record { state = y.state; answer = x.answer ++ y.answer } ≡ g = cc in
       let wn : length y.state.nodes ≡ length g.state.nodes = ap (λ (z : Got Entry). length z.state.nodes) w in
-      let (a, b) = child_same bs n i x p (omega (arith, ((kids_load f l loads x.state bs n lo hi m (suc i)).at y u).longer)) in
+      let (a, b) = child_same bs n i x r p (omega (arith, ((kids_load f l loads x.state bs n lo hi m (suc i)).at y u).longer)) in
       let u' : range_kids f l t bs n lo hi m (suc i) ≡ ok y = ap (λ (s : State). range_kids f l s bs n lo hi m (suc i)) (sym a) ∙ u in
       let (c, d) = kids_same m (suc i) bs n y u' (omega arith) in (
         sym (ap (λ (z : Got Entry). z.state) w) ∙ c,
         ap₂ (λ (z z' : List Entry). z ++ z') b d ∙ ap (λ (z : Got Entry). z.answer) w,
-      )
+      ))
+      (λ r. let (a, b) = kids_same m (suc i) bs n g (rw r at e) k in (a, rw r b))
 
 range_same : (d : ℕ) (l : Lent) (lo : List ℕ) (hi : List (List ℕ)) (t : State) (bs : Bounds) (n : ℕ) (g : Got Entry)
     → range_from d l lo hi t bs n ≡ ok g → length g.state.nodes ≤ length t.nodes → Same t g (range_held d t lo hi n)

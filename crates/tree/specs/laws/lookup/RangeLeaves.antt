@@ -117,3 +117,5 @@ module _ (image : List ℕ) (l : Lent) (t : Tree) (h0 b0 : List ℕ) (a : Bool)
     pub range_output : (room : ℕ) (lo hi o out : List ℕ) → o ≡ ranged_output out (range_in (lent_of image l) (state_of l.size t h0 b0) room lo hi)
         → o ≡ ranged_output out (ranged_in (lent_of image l) t h0 b0 room lo hi)
     range_output room lo hi o out q = q ∙ ap (ranged_output out) (sym (lent_yes room lo hi))
+
+pub ruleset range_laws = (left_ranged, range_lent, range_lent_same, range_answer, range_output)

@@ -1,30 +1,28 @@
 -- Laws of a drop: the range of an id's versions is loaded and counted, then listed in the scratch, then removed. Assumes nothing.
-use Rattle.std.specs.Prelude.{◌≡◌, refl, true, ◌&&◌, ℕ, ◌+◌, ◌*◌, ◌^◌, ◌≤◌, drop, replicate}
+use Rattle.std.specs.Prelude.{◌≡◌, refl, ℕ, ◌+◌, ◌*◌, ◌^◌, ◌≤◌, drop, replicate}
 use Rattle.std.proofs.Math.Path.{sym, ap, ap₂}
 use Rattle.std.proofs.Common.{◌∙◌, add-mul, mul_assoc, mul_left_comm, arith}
-use mathlib.Core.List.{List}
+use mathlib.Core.List.{List, ◌++◌}
 use Rattle.std.proofs.Math.ListN.{length}
-use Rattle.std.proofs.Math.Dec.{eqb}
-use borrow.Author.Tests.{eqb-true, le-leb}
+use borrow.Author.Tests.{le-leb}
 use Rattle.node.specs.Bytes.{splice}
-use Rattle.node.specs.Order.{pair, pair_key}
-use Rattle.node.specs.Entry.{Entry, every}
-use Rattle.node.specs.Records.{entries_of, records_of}
+use Rattle.node.specs.Order.{pair_key}
+use Rattle.node.specs.Entry.{Entry}
+use Rattle.node.specs.Records.{entries_of, records_length, records_of}
 use Rattle.node.specs.Result.{Result, ok, refused}
-use Rattle.node.specs.laws.base.Tests.{and_left}
 use Rattle.node.specs.laws.base.Results.{no_answer}
 use Rattle.node.specs.laws.base.Bytes.{Bytes}
-use Rattle.node.specs.laws.slot.Records.{Storables}
+use Rattle.node.specs.laws.slot.Records.{Storables, entries_back, records_back}
+use Rattle.node.specs.laws.base.Seal.{length_splice}
 use Rattle.tree.specs.Lent as lending
 use Rattle.tree.specs.Lent.{lent_of}
 use Rattle.tree.specs.State.{State, node_at}
 use Rattle.tree.specs.Load as load
 use Rattle.tree.specs.Load.{unbounded}
 use Rattle.tree.specs.Lookup.{Got, range_from}
-use Rattle.tree.specs.Omap.{is_omap, versions_end, remove_all, dropped}
+use Rattle.tree.specs.Omap.{versions_end, remove_all, dropped}
 use Rattle.tree.specs.Workspace.{state_of}
 use Rattle.tree.specs.Answers.{edited_of}
-use Rattle.tree.specs.internal.Dropping.{Listed}
 use Rattle.tree.specs.internal.Edits.{Trusts}
 use Rattle.tree.specs.internal.Range.{most, at_most, sum_of, Counted, counted, ranged_of, ReadyRanged, range_held}
 use Rattle.tree.specs.internal.Tree.{bounds_of}
@@ -37,7 +35,6 @@ use Rattle.tree.specs.laws.room.Calls.{roomy_range}
 use Rattle.tree.specs.laws.lookup.RangeSums.{range_weight, range_few}
 use Rattle.tree.specs.laws.lookup.RangeHeld.{held_again, range_storable}
 use Rattle.tree.specs.laws.omap.Keys.{pair_is}
-use Rattle.tree.specs.laws.omap.Listed.{keyed16, held_keyed, listed_entries, listed_as}
 use Rattle.tree.specs.declared.editor.Tree.{Tree}
 use Rattle.tree.specs.declared.lent.Lent.{Lent}
 use Rattle.tree.specs.declared.range.Ranged.{Ranged}
@@ -73,6 +70,22 @@ counted_ok (ok g) c e =
 
 list_room : (slots size : ℕ) → 2 * size + slots * (2 * size) ≡ (2 * slots + 2) * size
 list_room slots size = omega (arith, add-mul (2 * slots) 2 size, mul_assoc 2 slots size, mul_left_comm slots 2 size)
+
+-- ---- written out, the entries are listed there
+
+module _ (es : List Entry) (s s' : List ℕ) (ss : Storables es) (e : s' ≡ splice s 0 (records_of es)) where
+  list_is : s' ≡ records_of es ++ drop (0 + length (records_of es)) s
+  unfolding splice
+  list_is = e
+
+  listed_entries : entries_of (length es) s' ≡ es
+  listed_entries = ap (entries_of (length es)) list_is ∙ entries_back es (drop (0 + length (records_of es)) s) ss
+
+  listed_within : length (records_of es) ≤ length s → records_length (length es) s' ≤ length s'
+  listed_within w =
+      let z : records_length (length es) s' ≡ length (records_of es) =
+      ap (records_length (length es)) list_is ∙ records_back es (drop (0 + length (records_of es)) s) ss in
+      omega (arith, z, ap length e ∙ length_splice s 0 (records_of es) (omega arith))
 
 -- ---- the range of an id's versions
 
@@ -166,34 +179,23 @@ module _ (image : List ℕ) (l : Lent) (t : Tree) (h0 b0 : List ℕ) (id level :
     unfolding lent_of
     weight = rw held (range_weight L s (pair_key id 0) (versions_end id) g c.trust c.roomy found.is)
 
-    pub ranged_room : (n : ℕ) → n ≡ (2 * l.slots + 2) * l.size
-        → 2 * l.size + length (records_of (range_held level (state_of l.size v.tree h1 b1) lo end v.tree.root)) ≤ n
+    pub ranged_room : (n : ℕ) → n + 2 * l.size ≡ (2 * l.slots + 2) * l.size
+        → 0 + length (records_of (range_held level (state_of l.size v.tree h1 b1) lo end v.tree.root)) ≤ n
     ranged_room n w = omega (arith, weight, list_room l.slots l.size)
 
-    module _ (bb : Bytes b1) (f : is_omap (state_of l.size t h0 b0) ≡ true) (sc sc' : List ℕ) (w : length sc ≡ (2 * l.slots + 2) * l.size)
-        (eo : sc' ≡ splice sc (2 * l.size) (records_of (range_held level (state_of l.size v.tree h1 b1) lo end v.tree.root))) where
-      same_order : v.tree.order ≡ pair
-      unfolding is_omap state_of
-      same_order =
-          loaded.loads.order ∙ eqb-true t.order pair (and_left (eqb t.order pair) (eqb t.info.key_size 16)
-          (and_left (eqb t.order pair && eqb t.info.key_size 16) (eqb t.info.val_size 16) f))
-
+    module _ (bb : Bytes b1) (sc sc' : List ℕ) (w : length sc + 2 * l.size ≡ (2 * l.slots + 2) * l.size)
+        (eo : sc' ≡ splice sc 0 (records_of (range_held level (state_of l.size v.tree h1 b1) lo end v.tree.root))) where
       stored : Storables es
       stored = range_storable l.size l.slots v.tree h1 b1 ranged_trusts.ready bb level lo end v.tree.root
 
-      keyed : every keyed16 es ≡ true
-      keyed = held_keyed L l.size v.tree h1 b1 ranged_trusts.trust same_order level lo end v.tree.root
+      pub ranged_within : records_length v.count sc' ≤ length sc'
+      ranged_within = rw count_is (listed_within es sc sc' stored eo (let z = ranged_room (length sc) w in omega arith))
 
-      pub ranged_listed : Listed (2 * l.size) v.count sc'
-      ranged_listed = rw count_is (listed_as es sc sc' (2 * l.size) stored keyed (ranged_room (length sc) w) eo)
-
-      listed : entries_of v.count (drop (2 * l.size) sc') ≡ g.answer
-      listed =
-          ap (λ (j : ℕ). entries_of j (drop (2 * l.size) sc')) count_is
-          ∙ listed_entries es sc sc' (2 * l.size) stored keyed (ranged_room (length sc) w) eo ∙ held
+      listed : entries_of v.count sc' ≡ g.answer
+      listed = ap (λ (j : ℕ). entries_of j sc') count_is ∙ listed_entries es sc sc' stored eo ∙ held
 
       pub dropped_answer : (x : Result State)
-          → x ≡ remove_all (lent_of image l) (entries_of v.count (drop (2 * l.size) sc')) (state_of l.size v.tree h1 b1)
+          → x ≡ remove_all (lent_of image l) (entries_of v.count sc') (state_of l.size v.tree h1 b1)
           → x ≡ dropped (lent_of image l) (state_of l.size t h0 b0) id
       unfolding dropped
       dropped_answer x d = d ∙ ap₂ (remove_all L) listed found.state ∙ sym (rw found.is)

@@ -16,10 +16,8 @@ use Rattle.tree.specs.State.{State}
 use Rattle.tree.specs.Hold.{key_fits, value_fits}
 use Rattle.tree.specs.Upsert.{entry_fits}
 use Rattle.tree.specs.Omap.{is_omap, versions_end, omap_value}
-use Rattle.tree.specs.Workspace.{state_of}
 use Rattle.tree.specs.internal.Range.{end_of}
 use Rattle.tree.specs.laws.trust.Remove.{Safe}
-use Rattle.tree.specs.declared.editor.Tree.{Tree}
 
 -- ---- a list written over from its start to its end
 
@@ -62,21 +60,6 @@ versions_next out k id d n e =
     rw (ne_eqb id (2 ^ 64 - 1) d, q)
 
 -- ---- object maps
-
-module _ (t : Tree) where
-  pub omap_order : (t.order ≡ 0 → ⊥) → (size : ℕ) (heads bytes : List ℕ) → false ≡ is_omap (state_of size t heads bytes)
-  unfolding is_omap state_of
-  omap_order d size heads bytes = sym (rw (ne_eqb t.order pair d))
-
-  module _ (o : t.order ≡ 0) where
-    pub omap_key : (t.info.key_size ≡ 16 → ⊥) → (size : ℕ) (heads bytes : List ℕ) → false ≡ is_omap (state_of size t heads bytes)
-    unfolding is_omap state_of
-    omap_key d size heads bytes = sym (rw (eq-eqb t.order pair o, ne_eqb t.info.key_size 16 d))
-
-    pub omap_val : (r : Bool) → t.info.key_size ≡ 16 → r ≡ eqb t.info.val_size 16 → (size : ℕ) (heads bytes : List ℕ)
-        → r ≡ is_omap (state_of size t heads bytes)
-    unfolding is_omap state_of
-    omap_val r k e size heads bytes = e ∙ sym (rw (eq-eqb t.order pair o, eq-eqb t.info.key_size 16 k))
 
 -- what is 16 and 16 bytes long fits an object map, and what an accepted edit left of it
 pub omap_fits : (l : Lent) (s t : State) (k v : List ℕ) → is_omap s ≡ true → Safe l s t → length k ≡ 16 → length v ≡ 16

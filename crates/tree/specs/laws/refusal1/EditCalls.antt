@@ -1,5 +1,5 @@
 -- Edits as calls: 1 first, marks cleared, slots brought back on a refusal; what an edit leaves. Assumes nothing.
-use Rattle.std.specs.Prelude.{◌≡◌, List, Bool, true, ◌&&◌, ℕ, ◌+◌, ◌*◌, ◌^◌, ◌≤◌, ◌<◌, eqb}
+use Rattle.std.specs.Prelude.{◌≡◌, List, Bool, true, ◌&&◌, ℕ, ◌+◌, ◌*◌, ◌^◌, ◌≤◌, ◌<◌}
 use Rattle.std.proofs.Math.Path.{refl, sym, ap}
 use Rattle.std.proofs.Common.{subst, ◌∙◌, mul-le-mul}
 use Rattle.std.proofs.Math.Bool.{false, not}
@@ -40,27 +40,18 @@ use Rattle.node.specs.declared.refusal.Refusal.TheVariants as is
 
 module _ (image : List ℕ) (l : Lent) (t : Tree) (heads bytes : List ℕ) (a : Bool)
     (e : a ≡ workspace_holds l.size l.slots t.used heads bytes && lent_holds (lent_of image l) (state_of l.size t heads bytes)) where
-  pub edit_no : (scratch : List ℕ) → not a ≡ true
-      → false ≡ (workspace_holds l.size l.slots t.used heads bytes && lent_holds (lent_of image l) (state_of l.size t heads bytes))
-      && scratch_holds l.size l.slots scratch
-  edit_no scratch q = rw (← e, not-true a q)
-
-  module _ (q : not a ≡ false) where
+  module _ (q : a ≡ true) where
     pub edit_many : l.slots ≤ 4096
-    edit_many = (called_ready image l t heads bytes a e q).many
+    edit_many = (called_ready image l t heads bytes a e (ap not q)).many
 
     pub edit_room : (2 * l.slots + 2) * l.size < 2 ^ 64
     edit_room =
-        let r = called_ready image l t heads bytes a e q in
+        let r = called_ready image l t heads bytes a e (ap not q) in
         let a : 2 * l.slots + 2 ≤ 8194 = omega (arith, r.many) in
         let m : (2 * l.slots + 2) * l.size ≤ 8194 * 65536 = mul-le-mul a r.most in
         omega arith
 
-    pub edit_is : (scratch : List ℕ) (r : Bool) → r ≡ eqb (length scratch) ((2 * l.slots + 2) * l.size)
-        → r ≡ (workspace_holds l.size l.slots t.used heads bytes && lent_holds (lent_of image l) (state_of l.size t heads bytes))
-        && scratch_holds l.size l.slots scratch
-    unfolding scratch_holds
-    edit_is scratch r k = k ∙ sym (rw (← e, not-false a q))
+pub ruleset scratched = (edit_many, edit_room)
 
 -- ---- the call
 
@@ -207,3 +198,5 @@ module _ (l : Lent) (t : Tree) (h0 b0 h2 b2 h3 b3 : List ℕ) where
 pub edited_trusts : (image : List ℕ) (l : Lent) (u : Tree) (h b : List ℕ) (r : Result State) → Holds (λ x. trusted (lent_of image l) x ≡ true) r
     → Holds (Roomy (2 * l.size)) r → ok (state_of l.size u h b) ≡ r → Ready l.size l.slots u.used h b → Trusts image l u h b
 edited_trusts image l u h b r p q e y = record { ready = y; trust = p.at _ (sym e); roomy = q.at _ (sym e) }
+
+pub ruleset upsert_laws = (edits_trusts, edits_scratch, edited_left, upsert_answer)

@@ -170,8 +170,8 @@ module _ (size : ℕ) (t : Tree) (heads bytes : List ℕ) (n : ℕ) (h : Head) (
 
   node_parts : node_holds s n (node_of h l)
       ≡ leb h.level 32 && count_holds h.level h.count
-      && (every (entry_holds t.order t.info (eqb h.level 0)) es && every (λ e. child_holds s h.level e.value) es)
-      && place_holds t (eqb n t.root) h (room_of t.info es) && rising t.order es
+      && (every (entry_holds t.order.code t.info (eqb h.level 0)) es && every (λ e. child_holds s h.level e.value) es)
+      && place_holds t (eqb n t.root) h (room_of t.info es) && rising t.order.code es
   unfolding node_holds node_stands stands_on_disk node_of fits count_holds place_holds state_of
   node_parts =
       rw (
@@ -188,15 +188,15 @@ module _ (size : ℕ) (t : Tree) (heads bytes : List ℕ) (n : ℕ) (h : Head) (
   node_body =
       ap (λ (b : Bool). records_hold h.count h.used l && b) node_parts
       ∙ apart (leb h.level 32) (count_holds h.level h.count) (records_hold h.count h.used l)
-      (every (entry_holds t.order t.info (eqb h.level 0)) es)
-      (every (λ e. child_holds s h.level e.value) es) (place_holds t (eqb n t.root) h (room_of t.info es)) (rising t.order es)
+      (every (entry_holds t.order.code t.info (eqb h.level 0)) es)
+      (every (λ e. child_holds s h.level e.value) es) (place_holds t (eqb n t.root) h (room_of t.info es)) (rising t.order.code es)
 
 module _ (t : Tree) (n : ℕ) (h : Head) (l : List ℕ) where
   -- what a body that holds grants
-  body_stands : body_holds t n h l ≡ true → records_stand t.order t.info (eqb h.level 0) h.count h.used l ≡ true
+  body_stands : body_holds t n h l ≡ true → records_stand t.order.code t.info (eqb h.level 0) h.count h.used l ≡ true
   unfolding body_holds
   body_stands q =
-      let r : Bool = records_stand t.order t.info (eqb h.level 0) h.count h.used l in
+      let r : Bool = records_stand t.order.code t.info (eqb h.level 0) h.count h.used l in
       let a : Bool = leb h.level 32 && count_holds h.level h.count in
       (and_split a r (and_split (a && r) (place_holds t (eqb n t.root) h (room_of t.info (entries_of h.count l))) q).0).1
 
@@ -204,9 +204,9 @@ module _ (t : Tree) (n : ℕ) (h : Head) (l : List ℕ) where
   unfolding records_stand records_hold
   body_lies q = leb-true (records_length h.count l) (length l) (and_split _ _ (and_split _ _ (and_split _ _ (body_stands q)).0).0).0
 
-  pub body_entries : body_holds t n h l ≡ true → every (entry_holds t.order t.info (eqb h.level 0)) (entries_of h.count l) ≡ true
+  pub body_entries : body_holds t n h l ≡ true → every (entry_holds t.order.code t.info (eqb h.level 0)) (entries_of h.count l) ≡ true
   unfolding records_stand
   body_entries q =
       let a : Bool = records_hold h.count h.used l in
-      let b : Bool = every (entry_holds t.order t.info (eqb h.level 0)) (entries_of h.count l) in
-      (and_split a b (and_split (a && b) (rising t.order (entries_of h.count l)) (body_stands q)).0).1
+      let b : Bool = every (entry_holds t.order.code t.info (eqb h.level 0)) (entries_of h.count l) in
+      (and_split a b (and_split (a && b) (rising t.order.code (entries_of h.count l)) (body_stands q)).0).1

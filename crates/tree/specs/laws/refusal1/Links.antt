@@ -40,23 +40,23 @@ module _ (t : Tree) (n : ℕ) (h : Head) (l : List ℕ) where
     unfolding body_holds
     body_empty q = rw (le-leb h.level 32 a, ← ek, not-true k q)
 
-    module _ (b : not k ≡ false) (x : Option Lengths) (ex : x ≡ checked_of t.order t.info (eqb h.level 0) h.count h.used l) where
+    module _ (b : not k ≡ false) (x : Option Lengths) (ex : x ≡ checked_of t.order.code t.info (eqb h.level 0) h.count h.used l) where
       pub body_not : x ≡ None → false ≡ body_holds t n h l
       unfolding body_holds
       body_not q = rw (
         le-leb h.level 32 a,
         ← ek,
         not-false k b,
-        checked_not t.order t.info (eqb h.level 0) h.count h.used l
+        checked_not t.order.code t.info (eqb h.level 0) h.count h.used l
             (sym q ∙ ex),
       )
 
       module _ (s : Lengths) (q : x ≡ Some s) where
         lengths : s ≡ lengths_of t.info h.count l
-        lengths = checked_lengths t.order t.info (eqb h.level 0) h.count h.used l s (sym q ∙ ex)
+        lengths = checked_lengths t.order.code t.info (eqb h.level 0) h.count h.used l s (sym q ∙ ex)
 
-        stand : records_stand t.order t.info (eqb h.level 0) h.count h.used l ≡ true
-        stand = checked_stands t.order t.info (eqb h.level 0) h.count h.used l s (sym q ∙ ex)
+        stand : records_stand t.order.code t.info (eqb h.level 0) h.count h.used l ≡ true
+        stand = checked_stands t.order.code t.info (eqb h.level 0) h.count h.used l s (sym q ∙ ex)
 
         lie : records_length h.count l ≤ length l
         unfolding records_stand records_hold
@@ -143,3 +143,5 @@ module _ (heads : List ℕ) (used level n : ℕ) (l ms : List ℕ) where
       let q : length (entries_of n l) ≤ i = omega (arith, length_entries n l) in
       let z : drop i (entries_of n l) ≡ [] = drop_of_length-le (entries_of n l) q in
       sym (ap (λ (x : List Entry). link_entries heads used level x ks) z) ∙ inv
+
+pub ruleset link_value_laws = (link_other, link_disk, link_no, link_mem)

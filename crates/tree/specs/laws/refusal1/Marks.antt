@@ -176,3 +176,5 @@ once_is s used n ms ks t h k e q =
     by_marks : Marked used (plus (λ c. cond (eqb c s.root) 1 0) (λ c. named c s.nodes)) (mark_nodes used s.nodes ms) → t ≡ named_once s used
     by_marks (all zs p n) = said_yes t ks zs (q ∙ p) ∙ sym (once_all s used (λ c u. omega (arith, n.once c u)))
     by_marks (twice c u m p) = said_no t ks (q ∙ p) ∙ sym (once_twice s used c u (omega arith))
+
+pub ruleset mark_slot_laws = (slot_past, slot_twice, slot_fresh)

@@ -90,9 +90,9 @@ module _ (size : ℕ) (t : Tree) (heads bytes ms : List ℕ) (n : ℕ) (h : Head
           pub slot_leaf : h.level ≡ 0 → mark_of true ms ≡ hold_slot size heads bytes (state_of size t heads bytes) t.used n ms
           unfolding mark_of
           slot_leaf q =
-              let z : every (entry_holds t.order t.info true) (entries_of h.count l) ≡ true = rw (eq-eqb h.level 0 q) at
+              let z : every (entry_holds t.order.code t.info true) (entries_of h.count l) ≡ true = rw (eq-eqb h.level 0 q) at
               (body_entries t n h l holds) in
-              sym (hold_rest ∙ leaf_entries size t heads bytes h.level t.order t.info (entries_of h.count l) ms z)
+              sym (hold_rest ∙ leaf_entries size t heads bytes h.level t.order.code t.info (entries_of h.count l) ms z)
 
           pub slot_links : (r : Bool) (ks : List ℕ) → mark_of r ks ≡ link_entries heads t.used h.level (entries_of h.count part) ms
               → mark_of r ks ≡ hold_slot size heads bytes (state_of size t heads bytes) t.used n ms
@@ -255,3 +255,6 @@ module _ (size slots N : ℕ) (t : Tree) (heads bytes : List ℕ) (r : Laid size
   pub together_room : t.used ≤ length {A = ℕ} (set (replicate N 0) t.root 1)
   together_room = let z : length {A = ℕ} (set (replicate N 0) t.root 1) ≡ length {A = ℕ} (replicate N 0) = length-set {A = ℕ} (replicate N 0)
       t.root 1 in omega (arith, z, blank_long N, r.within, r.many)
+
+pub ruleset hold_slot_laws =
+    (slot_words_lem, slot_dead, slot_long, slot_body, body_records, slot_leaf, slot_links, laid_words, laid_part, laid_few, laid_small)

@@ -1,5 +1,5 @@
 -- Refusal 1 passed: the workspace is ready, and the state is trusted. Assumes nothing.
-use Rattle.std.specs.Prelude.{◌≡◌, List, cond, ◌&&◌, ◌||◌, not, ℕ, zero, suc, ◌+◌, ◌*◌, ◌%◌, ◌^◌, ◌≤◌, ◌<◌, length}
+use Rattle.std.specs.Prelude.{◌≡◌, List, [], cond, ◌&&◌, ◌||◌, not, ℕ, zero, suc, ◌+◌, ◌*◌, ◌%◌, ◌^◌, ◌≤◌, ◌<◌, length}
 use Rattle.std.proofs.Math.Path.{refl, sym}
 use Rattle.std.proofs.Common.{◌∙◌, arith}
 use Rattle.std.proofs.Math.Bool.{Bool, true, false}
@@ -233,6 +233,40 @@ holds_small size slots used heads bytes k h q =
     let z : 0 + k ≡ k = omega arith in
     rw z at (slots_small size heads bytes used 0 k (and_split (room_holds size slots used heads bytes) (slots_hold size heads bytes used 0) h).1 q)
 
+-- ---- refusal 1, one test after the other
+
+module _ (image : List ℕ) (l : Lent) (t : Tree) (k : Bool)
+    (ek : (heads bytes : List ℕ) → k ≡ numbers_hold (lent_of image l) (state_of l.size t heads bytes)) (hk : k ≡ true) where
+  numbers_so : numbers_hold (lent_of image l) (state_of l.size t [] []) ≡ true
+  numbers_so = sym (ek [] []) ∙ hk
+
+  pub lent_most : l.size ≤ 65536
+  unfolding lent_of
+  lent_most = numbers_most (lent_of image l) (state_of l.size t [] []) numbers_so
+
+  pub lent_many : l.slots ≤ 4096
+  unfolding lent_of
+  lent_many = numbers_many (lent_of image l) (state_of l.size t [] []) numbers_so
+
+  pub lent_sized : Sized t.info
+  unfolding state_of
+  lent_sized = numbers_sized (lent_of image l) (state_of l.size t [] []) numbers_so
+
+  pub lent_laid : (heads bytes : List ℕ) (r : Bool) → r ≡ room_holds l.size l.slots t.used heads bytes → r ≡ true
+      → Laid l.size l.slots t.used heads bytes
+  unfolding lent_of
+  lent_laid heads bytes r er hr =
+      let least : 512 ≤ l.size = numbers_least (lent_of image l) (state_of l.size t [] []) numbers_so in
+      room_laid l.size l.slots t.used heads bytes least lent_most lent_many (sym er ∙ hr)
+
+-- a workspace is its room, and its slots
+pub lent_room : (size slots used : ℕ) (heads bytes : List ℕ)
+    → workspace_holds size slots used heads bytes ≡ room_holds size slots used heads bytes && slots_hold size heads bytes used 0
+unfolding workspace_holds room_holds
+lent_room size slots used heads bytes = refl
+
+pub ruleset checked = (lent_most, lent_many, lent_sized, lent_laid, lent_room, and-false)
+
 -- ---- refusal 1
 
 module _ (image : List ℕ) (l : Lent) (t : Tree) (heads bytes : List ℕ) where
@@ -247,57 +281,6 @@ module _ (image : List ℕ) (l : Lent) (t : Tree) (heads bytes : List ℕ) where
 
   abbrev numbers : Bool
   numbers = numbers_hold (lent_of image l) s
-
-  whole : workspace_holds l.size l.slots t.used heads bytes && lent_holds (lent_of image l) s ≡ (room && held) && (numbers && hold_together s)
-  unfolding lent_holds workspace_holds room_holds
-  whole = refl
-
-  third : (a b c d : Bool) → c ≡ false → false ≡ (a && b) && (c && d)
-  third a b c d h = rw h (sym (and-false (a && b)))
-
-  first : (a b c d : Bool) → a ≡ false → false ≡ (a && b) && (c && d)
-  first a b c d h = rw h
-
-  rest : (a b c d : Bool) → a ≡ true → c ≡ true → b && d ≡ (a && b) && (c && d)
-  rest a b c d h k = rw (h, k)
-
-  module _ (k : Bool) (ek : (xs ys : List ℕ) → k ≡ numbers_hold (lent_of image l) (state_of l.size t xs ys)) where
-    pub lent_numbers_lem : not k ≡ true → false ≡ workspace_holds l.size l.slots t.used heads bytes && lent_holds (lent_of image l)
-        (state_of l.size t heads bytes)
-    lent_numbers_lem q = third room held numbers (hold_together s) (sym (ek heads bytes) ∙ not-true k q) ∙ sym whole
-
-    module _ (hk : not k ≡ false) where
-      numbers_so : numbers_hold (lent_of image l) s ≡ true
-      numbers_so = sym (ek heads bytes) ∙ not-false k hk
-
-      pub lent_least : 512 ≤ l.size
-      unfolding lent_of
-      lent_least = numbers_least (lent_of image l) s numbers_so
-
-      pub lent_most : l.size ≤ 65536
-      unfolding lent_of
-      lent_most = numbers_most (lent_of image l) s numbers_so
-
-      pub lent_many : l.slots ≤ 4096
-      unfolding lent_of
-      lent_many = numbers_many (lent_of image l) s numbers_so
-
-      pub lent_sized : Sized t.info
-      unfolding state_of
-      lent_sized = numbers_sized (lent_of image l) s numbers_so
-
-      module _ (r : Bool) (er : r ≡ room_holds l.size l.slots t.used heads bytes) where
-        pub lent_room : not r ≡ true → false ≡ workspace_holds l.size l.slots t.used heads bytes && lent_holds (lent_of image l)
-            (state_of l.size t heads bytes)
-        lent_room q = first room held numbers (hold_together s) (sym er ∙ not-true r q) ∙ sym whole
-
-        module _ (hr : not r ≡ false) where
-          pub lent_laid : Laid l.size l.slots t.used heads bytes
-          lent_laid = room_laid l.size l.slots t.used heads bytes lent_least lent_most lent_many (sym er ∙ not-false r hr)
-
-          pub lent_is : (a : Bool) → a ≡ slots_hold l.size heads bytes t.used 0 && hold_together (state_of l.size t heads bytes)
-              → a ≡ workspace_holds l.size l.slots t.used heads bytes && lent_holds (lent_of image l) (state_of l.size t heads bytes)
-          lent_is a e = e ∙ rest room held numbers (hold_together s) (sym er ∙ not-false r hr) numbers_so ∙ sym whole
 
   -- refusal 1 passed: the workspace is ready, and the state is trusted
   pub holds_ready : workspace_holds l.size l.slots t.used heads bytes ≡ true → lent_holds (lent_of image l) (state_of l.size t heads bytes)

@@ -213,7 +213,7 @@ module _ (image : List ℕ) (l : Lent) (t : Tree) (h0 b0 : List ℕ) (c : Trusts
 -- ---- remove as a call: 12 first, marks cleared
 
 module _ (image : List ℕ) (l : Lent) (t : Tree) (h0 b0 key : List ℕ) (c : Trusts image l t h0 b0) (k : Bool)
-    (ek : k ≡ keyed_length t.order (length key)) where
+    (ek : k ≡ keyed_length t.order.code (length key)) where
   keyed_is : keyed (state_of l.size t h0 b0).order key ≡ k
   unfolding state_of keyed
   keyed_is = sym ek
@@ -252,3 +252,5 @@ module _ (image : List ℕ) (l : Lent) (t : Tree) (h0 b0 key : List ℕ) (c : Tr
   pub call_done : (u : Tree) (there : Bool) → r ≡ Ok (u, there) → ReadyRemoved l.size l.slots h b r → Trusts image l u h b
   unfolding removed_of
   call_done u there q y = trusts_of u there (call_same (Ok (u, there)) q) (subst (ReadyRemoved l.size l.slots h b) q y)
+
+pub ruleset removed_laws = (remove_lost, remove_stops)

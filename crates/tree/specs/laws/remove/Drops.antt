@@ -1,5 +1,5 @@
 -- Laws of nodes dropped on a way, bottom up, as the code drops them. Assumes nothing.
-use Rattle.std.specs.Prelude.{◌≡◌, refl, List, [], ◌∷◌, true, ℕ, suc, ◌+◌, ◌-◌, ◌≤◌, ◌<◌, length}
+use Rattle.std.specs.Prelude.{◌≡◌, refl, List, ◌∷◌, ℕ, zero, suc, ◌+◌, ◌-◌, ◌≤◌, ◌<◌, length}
 use Rattle.std.proofs.Math.Path.{sym}
 use Rattle.std.proofs.Common.{ap, subst, ◌∙◌}
 use native.Mathlib.Omega.{arith}
@@ -10,8 +10,9 @@ use Rattle.tree.specs.Lookup.{Step}
 use Rattle.tree.specs.Remove.{Dropped, drop_node, drop_emptied}
 use Rattle.tree.specs.internal.Bank.{node_in, live, Ready, Put}
 use Rattle.tree.specs.internal.Undo.{Follows}
-use Rattle.tree.specs.internal.Way.{nth_step, steps_in}
+use Rattle.tree.specs.internal.Way.{nth_step, steps_in, WayIn}
 use Rattle.tree.specs.internal.Writers.{edited}
+use Rattle.tree.specs.declared.writers.DirtyMark.TheVariants.{Set}
 use Rattle.tree.specs.internal.Index.{Rewritten, steps_from}
 use Rattle.tree.specs.internal.Removing.{dead_put, child_dropped, DropFits, DropRoom, Emptied}
 use Rattle.tree.specs.laws.slots.Undo.{follows_same, follows_on}
@@ -43,7 +44,7 @@ module _ (size slots n i c : ℕ) (t : Tree) (h0 b0 h1 b1 : List ℕ) (hn : n < 
   drop_upto = omega (arith, drop_index)
 
   pub drop_done : (h2 b2 : List ℕ) → length h2 ≡ length h1 → length b2 ≡ length b1
-      → Put size slots h1 b1 h2 b2 n (edited true (node_in size h1 b1 n) (remove_at i (node_in size h1 b1 n).entries))
+      → Put size slots h1 b1 h2 b2 n (edited Set (node_in size h1 b1 n) (remove_at i (node_in size h1 b1 n).entries))
       → Follows size slots t.used h1 b1 h2 b2 → Rewritten size slots t h0 b0 h2 b2 (child_dropped (state_of size t h0 b0) n i c)
   drop_done h2 b2 eh eb p f =
       let k = put_rewritten size slots n t h1 b1 h2 b2 w.ready hn eh eb _ p f in
@@ -108,9 +109,12 @@ split_nodes : (x : Step) (c : ℕ) (d : Dropped) → (drop_node x c d).nodes ≡
 unfolding drop_node
 split_nodes x c d = by_list (node_at d.state c).entries (λ q. rw q (omega arith)) (λ y ys q. rw q (omega arith))
 
-drop_one : (x : Step) (s : State) → drop_emptied (x ∷ []) s ≡ record { state = s; nodes = 0 }
-unfolding drop_emptied
-drop_one x s = refl
+-- one step has no node below it
+drop_few : (way : List code.Step) (j m : ℕ) (s : State) → m ≤ 1 → drop_emptied (steps_from way j m) s ≡ record { state = s; nodes = 0 }
+unfolding steps_from drop_emptied
+drop_few way j zero s h = refl
+drop_few way j (suc zero) s h = refl
+drop_few way j (suc (suc m)) s h = absurd (omega arith)
 
 drop_cons : (x y : Step) (l ys : List Step) (s : State) → l ≡ y ∷ ys → drop_emptied (x ∷ l) s ≡ drop_node x y.slot (drop_emptied l s)
 unfolding drop_emptied
@@ -120,16 +124,14 @@ module _ (size slots : ℕ) (t : Tree) (way : List code.Step) (h0 b0 : List ℕ)
   abbrev from : ℕ → Dropped
   from j = drop_emptied (steps_from way j (length way - j)) (state_of size t h0 b0)
 
-  pub emptied_none : Ready size slots t.used h0 b0 → 1 ≤ length way
+  pub emptied_none : Ready size slots t.used h0 b0
       → Emptied size slots t h0 b0 h0 b0 (drop_emptied (steps_from way (length way - 1) (length way - (length way - 1))) (state_of size t h0 b0)) 0
-  unfolding steps_from
-  emptied_none r u =
-      let z : length way - (length way - 1) ≡ 1 = omega arith in
-      let q = drop_one (step_of way (length way - 1)) (state_of size t h0 b0) in
-      rw z (record {
+  emptied_none r =
+      let q = drop_few way (length way - 1) (length way - (length way - 1)) (state_of size t h0 b0) (omega arith) in
+      record {
         rest = record { state = sym (ap (λ (d : Dropped). d.state) q); ready = r; follows = follows_same size slots t.used h0 b0 };
         count = sym (ap (λ (d : Dropped). d.nodes) q);
-      })
+      }
 
   module _ (j : ℕ) (h b : List ℕ) (dropped : ℕ)
       (e : Emptied size slots t h0 b0 h b (drop_emptied (steps_from way j (length way - j)) (state_of size t h0 b0)) dropped) where
@@ -145,17 +147,13 @@ module _ (size slots : ℕ) (t : Tree) (way : List code.Step) (h0 b0 : List ℕ)
         subst (λ (l : List Step). Emptied size slots t h0 b0 h b (drop_emptied l (state_of size t h0 b0)) dropped) q e
 
     module _ (u : 0 < j) (v : j < length way) where
-      pub emptied_fits : DropRoom (state_of size t h0 b0) way
-          → DropFits (state_of size t h b) (nth_step way (j - 1)).slot (nth_step way (j - 1)).child (nth_step way j).slot
-      emptied_fits r = rw e.rest.state (r.turn j u v)
-
-      pub emptied_next : (h' b' : List ℕ) (one : ℕ)
+      drop_next : (h' b' : List ℕ) (one : ℕ)
           → Emptied size slots t h b h' b' (drop_node (record {
             slot = (nth_step way (j - 1)).slot;
             child = (nth_step way (j - 1)).child;
           }) (nth_step way j).slot (record { state = state_of size t h b; nodes = 0 })) one
           → Emptied size slots t h0 b0 h' b' (drop_emptied (steps_from way (j - 1) (length way - (j - 1))) (state_of size t h0 b0)) (dropped + one)
-      emptied_next h' b' one f =
+      drop_next h' b' one f =
           let z : suc (j - 1) ≡ j = omega arith in
           let k : j - 1 < length way = omega arith in
           let x : Step = step_of way (j - 1) in
@@ -178,3 +176,14 @@ module _ (size slots : ℕ) (t : Tree) (way : List code.Step) (h0 b0 : List ℕ)
                 ap (λ (d : Dropped). d.nodes) q ∙ split_nodes x c (from j) ∙ ap (λ (d : Dropped). (from j).nodes + d.nodes) a in
                 omega (arith, e.count, f.count);
           }
+
+      module _ (x y : code.Step) (ex : x ≡ nth_step way (j - 1)) (ey : y ≡ nth_step way j) where
+        pub emptied_place : WayIn t.used way → DropRoom (state_of size t h0 b0) way
+            → (x.slot < t.used) × (y.slot < t.used) × DropFits (state_of size t h b) x.slot x.child y.slot
+        emptied_place w r = rw (ex, ey, e.rest.state) (w.slot (j - 1) (omega arith), w.slot j v, r.turn j u v)
+
+        pub emptied_next : (h' b' : List ℕ) (one : ℕ)
+            → Emptied size slots t h b h' b'
+            (drop_node (record { slot = x.slot; child = x.child }) y.slot (record { state = state_of size t h b; nodes = 0 })) one
+            → Emptied size slots t h0 b0 h' b' (drop_emptied (steps_from way (j - 1) (length way - (j - 1))) (state_of size t h0 b0)) (dropped + one)
+        emptied_next h' b' one = rw (ex, ey) (drop_next h' b' one)

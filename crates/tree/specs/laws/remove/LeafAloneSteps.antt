@@ -4,6 +4,7 @@ use Rattle.std.proofs.Math.Path.{sym, ap}
 use Rattle.std.proofs.Common.{subst, ◌∙◌, arith}
 use Rattle.std.proofs.Math.Bool.{false}
 use borrow.Author.Tests.{not-false, not-true}
+use Rattle.std.proofs.lemmas.Bool.{eqb-false}
 use Rattle.node.specs.laws.base.Tests.{by_test, never, and_split}
 use Rattle.node.specs.Order.{keyed, same_key}
 use Rattle.node.specs.Entry.{Entry, Val}
@@ -34,6 +35,7 @@ use Rattle.tree.specs.laws.remove.Words.{put_state}
 use Rattle.tree.specs.laws.remove.LeafAlone.{taken, still_removed}
 use Rattle.tree.specs.internal.Found.{FoundAt}
 use Rattle.tree.specs.internal.Writers.{edited}
+use Rattle.tree.specs.declared.writers.DirtyMark.TheVariants.{Kept}
 use Rattle.tree.specs.Remove.{has_only_child, Removed, removed, remove_in}
 use Rattle.tree.specs.Lent.{Lent, lent_of}
 use Rattle.tree.specs.declared.lent.Lent as lends
@@ -84,54 +86,53 @@ module _ (size : ℕ) (t : Tree) (h b : List ℕ) where
         dirty = λ v. e;
       }
 
-  pub settled_not : (n : ℕ) → false ≡ true → Settled (state_of size t h b) n
-  settled_not n q = never q refl
-
   pub settled_then : (n : ℕ) (r : Bool) → (r ≡ true → Settled (state_of size t h b) n) → not r ≡ false → Settled (state_of size t h b) n
   settled_then n r f u = f (not-false r u)
 
-  pub settled_whole : (n : ℕ) (w : Bool) → not t.by_id ≡ false → w ≡ stays_whole (state_of size t h b) n → w ≡ true
+  pub settled_whole : (n : ℕ) (w : Bool) → t.by_id ≡ true → w ≡ stays_whole (state_of size t h b) n → w ≡ true
       → Settled (state_of size t h b) n
   settled_whole n w v e q =
       record {
         whole = sym e ∙ q;
-        dirty = λ z. (unfold state_of in never (not-false t.by_id v) z);
+        dirty = λ z. (unfold state_of in never v z);
       }
+
+  pub ruleset settling = (settled_dirty, settled_whole)
 
   -- ---- the entry gone on by
 
   module _ (key : List ℕ) (n : ℕ) (q : Settled (state_of size t h b) n) (count : ℕ) (z : count ≡ 0 → ⊥) (l : List ℕ)
       (still_room : records_length count l ≤ length l) (el : (node_at (state_of size t h b) n).entries ≡ entries_of count l) (y : Last)
-      (ey : y ≡ last_in t.order key count l) where
+      (ey : y ≡ last_in t.order.code key count l) where
     abbrev i : ℕ
-    i = way_index t.order key (entries_of count l)
+    i = way_index t.order.code key (entries_of count l)
 
     inside : i < count
     unfolding way_index
-    inside = omega (arith, above_le t.order key (entries_of count l), length_entries count l)
+    inside = omega (arith, above_le t.order.code key (entries_of count l), length_entries count l)
 
     start : y.at ≡ records_length i l
     unfolding last_in way_index
     start = rw ey
 
     pub still_lies : y.at + record_length (drop y.at l) ≤ length l
-    still_lies = taken_lies t.order key l count still_room z y ey
+    still_lies = taken_lies t.order.code key l count still_room z y ey
 
     module _ (v : Val) (ev : v ≡ (entry_of (drop y.at l)).value) (kid : Option ℕ) (ek : kid_means kid ≡ slots_of v) (m : ℕ) (ec : kid ≡ Some m)
         (k f : List ℕ)
         (ekey : k ≡ (entry_of (drop y.at l)).key)
         (ef : f ≡ key_at (node_at (state_of size t h b) m).entries 0) (e : Bool) (ee : e ≡ not (same_key k f)) where
-      key_is : k ≡ key_at (node_at s n).entries (way_index t.order key (node_at s n).entries)
+      key_is : k ≡ key_at (node_at s n).entries (way_index t.order.code key (node_at s n).entries)
       key_is =
           key_found (node_at s n).entries count l el i y.at inside l refl start k ekey
-          ∙ ap (λ (z : List Entry). key_at (node_at s n).entries (way_index t.order key z)) (sym el)
+          ∙ ap (λ (z : List Entry). key_at (node_at s n).entries (way_index t.order.code key z)) (sym el)
 
       pub still_on : e ≡ false → (j : ℕ) → j ≡ y.count - 1
           → StillOf (state_of size t h b) key n (Some (record { index = j; slot = m }))
       still_on u j ej =
           let o : Taken = record { index = j; slot = m } in
-          let q' : TakenOf t.order key (node_at s n).entries (Some o) =
-          rw el (taken_is t.order key l count still_room z y ey j ej v ev kid ek m ec) in
+          let q' : TakenOf t.order.code key (node_at s n).entries (Some o) =
+          rw el (taken_is t.order.code key l count still_room z y ey j ej v ev kid ek m ec) in
           let on : GoesOn s key n m =
           record {
             child = (unfold state_of in q'.child o refl);
@@ -142,18 +143,15 @@ module _ (size : ℕ) (t : Tree) (h b : List ℕ) where
 
   -- ---- the entry taken
 
-  pub above_not : (n i : ℕ) → false ≡ true → StaysAbove (state_of size t h b) n i
-  above_not n i q = never q refl
-
-  pub above_is : (n i : ℕ) → n < t.used → t.root < t.used → (i ≡ 0 → ⊥) → (c d : Bool) → c ≡ (node_in size h b n).dirty → not c ≡ false
-      → d ≡ (node_in size h b t.root).dirty → not d ≡ false → (t.info.key_count ≡ 0 → ⊥) → (o : Bool) → o ≡ has_only_child (state_of size t h b)
-      → not o ≡ true → StaysAbove (state_of size t h b) n i
-  above_is n j hn hr z c d ec nc ed nd zk o eo u =
+  pub above_is : (n i : ℕ) → n < t.used → t.root < t.used → (i ≡ 0 → ⊥) → (c d : Bool) → c ≡ (node_in size h b n).dirty → c ≡ true
+      → d ≡ (node_in size h b t.root).dirty → d ≡ true → (k : Bool) → k ≡ not (eqb t.info.key_count 0) → k ≡ true
+      → (o : Bool) → o ≡ has_only_child (state_of size t h b) → not o ≡ true → StaysAbove (state_of size t h b) n i
+  above_is n j hn hr z c d ec nc ed nd k ek zk o eo u =
       record {
         later = omega (arith, z);
-        leaf = ap (λ m. m.dirty) (node_in_lem size t h b n hn) ∙ sym ec ∙ not-false c nc;
-        root = (unfold state_of in ap (λ m. m.dirty) (node_in_lem size t h b t.root hr) ∙ sym ed ∙ not-false d nd);
-        keys = (unfold state_of in omega (arith, zk));
+        leaf = ap (λ m. m.dirty) (node_in_lem size t h b n hn) ∙ sym ec ∙ nc;
+        root = (unfold state_of in ap (λ m. m.dirty) (node_in_lem size t h b t.root hr) ∙ sym ed ∙ nd);
+        keys = (unfold state_of in omega (arith, eqb-false t.info.key_count 0 (not-true (eqb t.info.key_count 0) (sym ek ∙ zk))));
         more = sym eo ∙ not-true o u;
       }
 
@@ -164,13 +162,13 @@ module _ (size : ℕ) (t : Tree) (h b : List ℕ) where
       (q : StillLeaf t.used (state_of size t h b) key (Some n)) (f : Found) (ff : FoundAt size (state_of size t h b) h b n key f)
       (found : f.found ≡ true)
       (a : StaysAbove (state_of size t h b) n f.index) (h' b' : List ℕ) (eh : length h' ≡ length h) (eb : length b' ≡ length b)
-      (w : Wrote size h b h' b' n (edited false (node_in size h b n) (remove_at f.index (node_in size h b n).entries))) where
-    put : Put size slots h b h' b' n (edited false (node_in size h b n) (remove_at f.index (node_in size h b n).entries))
-    put = put_of size slots h b h' b' n (edited false (node_in size h b n) (remove_at f.index (node_in size h b n).entries)) w
+      (w : Wrote size h b h' b' n (edited Kept (node_in size h b n) (remove_at f.index (node_in size h b n).entries))) where
+    put : Put size slots h b h' b' n (edited Kept (node_in size h b n) (remove_at f.index (node_in size h b n).entries))
+    put = put_of size slots h b h' b' n (edited Kept (node_in size h b n) (remove_at f.index (node_in size h b n).entries)) w
 
     pub still_ready : Ready size slots t.used h' b'
     still_ready =
-        put_ready size slots h b h' b' n (edited false (node_in size h b n) (remove_at f.index (node_in size h b n).entries)) put t.used r eh eb
+        put_ready size slots h b h' b' n (edited Kept (node_in size h b n) (remove_at f.index (node_in size h b n).entries)) put t.used r eh eb
 
     module _ (i : BTreeInfo) (ei : i ≡ with_counts t.info (t.info.key_count - 1) t.info.node_count) where
       abbrev u : Tree
@@ -179,8 +177,8 @@ module _ (size : ℕ) (t : Tree) (h b : List ℕ) where
       after_is : state_of size u h' b' ≡ taken s n f.index
       unfolding state_of with_info
       after_is =
-          let e : state_of size t h' b' ≡ put_node s n (edited false (node_in size h b n) (remove_at f.index (node_in size h b n).entries)) =
-          put_state size slots n t h b h' b' r hn eh eb (edited false (node_in size h b n) (remove_at f.index (node_in size h b n).entries)) put in
+          let e : state_of size t h' b' ≡ put_node s n (edited Kept (node_in size h b n) (remove_at f.index (node_in size h b n).entries)) =
+          put_state size slots n t h b h' b' r hn eh eb (edited Kept (node_in size h b n) (remove_at f.index (node_in size h b n).entries)) put in
           let x : BTreeInfo = with_counts t.info (t.info.key_count - 1) t.info.node_count in
           ap (λ (y : BTreeInfo). with_info (state_of size t h' b') y) ei ∙ ap (λ (y : State). with_info y x) e
           ∙ ap (λ (y : MemNode). with_info (put_node s n (with_entries y (remove_at f.index y.entries))) x) (sym (node_in_lem size t h b n hn))
@@ -205,7 +203,7 @@ module _ (size : ℕ) (t : Tree) (h b : List ℕ) where
   pub leaf_used : (key : List ℕ) (n : ℕ) → StillLeaf t.used (state_of size t h b) key (Some n) → n < t.used
   leaf_used key n q = q.within n refl
 
-  pub leaf_keyed : (key : List ℕ) (n : ℕ) → StillLeaf t.used (state_of size t h b) key (Some n) → keyed t.order key ≡ true
+  pub leaf_keyed : (key : List ℕ) (n : ℕ) → StillLeaf t.used (state_of size t h b) key (Some n) → keyed t.order.code key ≡ true
   unfolding state_of
   leaf_keyed key n q = q.keys n refl
 
@@ -247,3 +245,5 @@ module _ (image : List ℕ) (l : lends.Lent) (t : Tree) (h b : List ℕ) (c : Tr
 
       pub yes_left : RemovedCalled image l t h b h' b' (Ok (u, true))
       yes_left = call_done image l t h b key c h' b' (Ok (u, true)) is u true refl made.2
+
+pub ruleset remove_in_laws = (stand_of, sized_of, yes_answer)

@@ -56,3 +56,5 @@ module _ (size slots n : ℕ) (t : Tree) (heads bytes : List ℕ) (r : Ready siz
   pub fits_root : (b : Bool) → b ≡ fits t.info true h.level (entries_of h.count l)
       → b ≡ fits t.info true (node_at (state_of size t heads bytes) n).level (node_at (state_of size t heads bytes) n).entries
   fits_root b e = e ∙ ap₂ (λ (v : ℕ) (es : List Entry). fits t.info true v es) level_is entries_are
+
+pub ruleset fits_as_root_laws = (fits_small, fits_root)

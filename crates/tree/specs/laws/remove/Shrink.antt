@@ -21,6 +21,7 @@ use Rattle.tree.specs.Answers.{edited_of}
 use Rattle.tree.specs.internal.Bank.{node_in, live, Ready, Put}
 use Rattle.tree.specs.internal.Undo.{Follows}
 use Rattle.tree.specs.internal.Writers.{edited}
+use Rattle.tree.specs.declared.writers.DirtyMark.TheVariants.{Kept}
 use Rattle.tree.specs.internal.Way.{nth_step, steps_in, WayIn, Touched}
 use Rattle.tree.specs.internal.Index.{Rewritten}
 use Rattle.tree.specs.internal.Removing.{DropRoom, Emptied, taken_on, shrunk_at}
@@ -96,7 +97,7 @@ module _ (size₀ slots i : ℕ) (t : Tree) (way : List code.Step) (h0 b0 h1 b1 
 
   module _ (h2 b2 : List ℕ) (eh : length h2 ≡ length h1) (eb : length b2 ≡ length b1)
       (p : Put size₀ slots h1 b1 h2 b2 (nth_step way (length way - 1)).slot
-      (edited false (node_in size₀ h1 b1 (nth_step way (length way - 1)).slot) (remove_at i
+      (edited Kept (node_in size₀ h1 b1 (nth_step way (length way - 1)).slot) (remove_at i
       (node_in size₀ h1 b1 (nth_step way (length way - 1)).slot).entries)))
       (f : Follows size₀ slots t.used h1 b1 h2 b2) where
     -- the leaf without its entry
@@ -212,3 +213,5 @@ module _ (size₀ slots i : ℕ) (t : Tree) (way : List code.Step) (h0 b0 h2 b2 
 
         pub shrunk_follows : Follows size₀ slots t.used h0 b0 h4 b4
         shrunk_follows = follows_on size₀ slots t.used u.used h0 b0 h3 b3 h4 b4 dropped_follows g.follows (omega (arith, shrunk_used))
+
+pub ruleset shrink_laws = (taken_is, dropped_follows, shrunk_none, shrunk_many)

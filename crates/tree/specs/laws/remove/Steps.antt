@@ -36,6 +36,7 @@ use Rattle.tree.specs.laws.trust.Cut.{by_cut, by_top}
 use Rattle.tree.specs.laws.trust.Upsert.{down_once}
 use Rattle.tree.specs.laws.room.Calls.{roomy_way}
 use Rattle.tree.specs.laws.room.Edit.{more_count, link_count}
+use Rattle.tree.specs.laws.lookup.GetCall.{steps_long}
 use Rattle.tree.specs.laws.remove.Ways.{from_start, on_way_lem}
 use Rattle.tree.specs.laws.remove.Room.{bare_slots, index_fits}
 use Rattle.tree.specs.laws.remove.Cuts.{cuts_slots}
@@ -164,6 +165,9 @@ module _ (image : List ℕ) (l : Lent) (t₀ : Tree) (h0 b0 : List ℕ) (way : L
 
   once : (c : ℕ) → on_way c ps ≤ 1
   once c = down_once all all s ps c came.loaded.stands came.down
+
+  pub on_some : 1 ≤ length way
+  on_some = let z = ap length came.steps in omega (arith, z, steps_long way (length way))
 
   pub on_in : WayIn t₀.used way
   on_in =
@@ -299,3 +303,5 @@ module _ (image : List ℕ) (l : Lent) (t₀ : Tree) (h0 b0 : List ℕ) (way : L
               follows_on l.size l.slots t₀.used t.used h0 b0 h2 b2 h3 b3
               (follows_on l.size l.slots t₀.used t.used h0 b0 h1 b1 h2 b2 f w.follows (omega (arith, used_same))) g (omega
               (arith, used_same))
+
+pub ruleset remove_on_laws = (on_refused, on_uncut)

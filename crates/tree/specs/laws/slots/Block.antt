@@ -93,3 +93,7 @@ root_packed size slots t heads bytes y hn l is h eh r q =
     q ∙ ap₂ (packed_length t.info true) (sym (block_level size slots t.root t heads bytes y hn l is h eh))
     (sym (block_entries size slots t.root t heads bytes y hn l is h eh))
     ∙ ap (λ (m : MemNode). packed_length t.info true m.level m.entries) (sym (node_in_lem size t heads bytes t.root hn))
+
+pub ruleset pack_slot_laws = (block_small, block_room, block_fits, block_packed)
+
+pub ruleset root_length_laws = (block_small, block_room, root_packed)

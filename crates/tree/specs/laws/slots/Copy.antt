@@ -197,3 +197,12 @@ module _ (size slots used : ℕ) (h0 b0 : List ℕ) (r : Shadowed size slots use
 
     pub back_end : i ≤ used → used ≤ i → Back size slots used used h0 b0 h1 b1
     back_end e f = let z : i ≡ used = omega arith in subst (λ (j : ℕ). Back size slots used j h0 b0 h1 b1) z p
+
+-- what `copy_slot`, `save`, `bring_back` and `restore` take of these
+pub ruleset copies = (copy_small, copy_source, copy_target, copy_wrote)
+
+pub ruleset saves = (save_live, save_shadow, save_before, save_now)
+
+pub ruleset brings = (back_live, back_shadow, back_lies, back_moved, back_same)
+
+pub ruleset restores = (back_start, back_shadowed, back_next, back_end)

@@ -317,3 +317,12 @@ module _ (size c a used : ℕ) (is_virtual : Bool) (block heads heads' bytes byt
           parts = λ j e. ap (λ (x : List ℕ). slot_bytes size x j) bytes_are ∙ part_other size bytes d c (ed ∙ ek) hb j e;
           after = λ j e. ap (λ (x : List ℕ). get_or x j 0) gh ∙ word_after heads c h j e (omega arith);
         }
+
+-- what `link_part` takes of these
+pub ruleset links = (link_old, link_held, link_used, link_entries_lem)
+
+pub ruleset ready_slot = (ready_part, ready_most, ready_few)
+
+pub ruleset ready_records = (ready_part, ready_most, ready_few, slot_room, slot_used)
+
+pub ruleset ready_room = (ready_part, ready_most, ready_few, slot_room)

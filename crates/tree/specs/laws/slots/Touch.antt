@@ -130,3 +130,7 @@ module _ (size slots : ℕ) (t : Tree) (way : List code.Step) (h0 b0 : List ℕ)
 
         both : state_of size t h2 b2 ≡ touch (steps_in way) (state_of size t h0 b0)
         both = second ∙ ap (λ (s : State). mark_dirty s (nth_step way (length way - 1)).slot) first ∙ sym (touch_by_id)
+
+pub ruleset mark_way_laws = (dirtied_none, way_slot, dirtied_next, dirtied_all)
+
+pub ruleset touch_laws = (touched_way, touched_ready, leaf_room, leaf_used, touched_both)

@@ -14,6 +14,7 @@ use Rattle.node.specs.Slot.{MemNode, head_at, node_of, is_child}
 use Rattle.tree.specs.State.{no_node}
 use Rattle.tree.specs.Workspace.{slot_bytes, nodes_of}
 use Rattle.tree.specs.internal.Bank.{node_in, live, Ready, Wrote, Put}
+use Rattle.tree.specs.laws.base.Refused.{handed_on}
 use Rattle.tree.specs.laws.slots.Bank.{length_nodes, node_at_lem}
 use Rattle.tree.specs.internal.Undo.{saved_at, origin_at, origin_in, OriginLies, Follows, Saved}
 
@@ -245,3 +246,8 @@ module _ (size slots : ℕ) where
       pub saved_follows : n < used → used ≤ slots → Follows size slots used h0 b0 h2 b2
       saved_follows hn w = follows_on used used h0 b0 h1 b1 h2 b2 p.follows (follows_marked used h1 b1 h2 b2 n m q p.mark (omega arith) w)
           (omega arith)
+
+-- what the functions that save a slot and write it take of these
+pub ruleset saves = (saved_ready, saved_same, saved_put, saved_follows)
+
+pub ruleset handed_back = (handed_on, follows_same)

@@ -122,3 +122,7 @@ module _ (image : List ℕ) (l : Lent) (t : Tree) (h0 b0 key : List ℕ) (v : Va
     pub in_put : upserted (lent_of image l) (state_of l.size t h b) key v ≡ upsert_in (lent_of image l) (state_of l.size t h0 b0) key v
     unfolding upsert_in
     in_put = ap (λ (x : State). upserted (lent_of image l) x key v) s.0 ∙ sym (rw (sym ek ∙ n))
+
+pub ruleset upsert_in_laws = (in_refused, in_fits)
+
+pub ruleset upserted_laws = (went_few, went_refused)

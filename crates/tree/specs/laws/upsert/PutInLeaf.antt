@@ -1,6 +1,6 @@
 -- An entry put in its leaf as the code puts it: whether it fits, what it holds, the tree's numbers, the slot's records. Assumes nothing.
 use Rattle.std.specs.Prelude.{◌≡◌, refl, Bool, cond, not, ◌&&◌, ◌||◌, take, leb, ltb, eqb, max}
-use Rattle.std.specs.Prelude.{Option, Some, None}
+use Rattle.std.specs.Prelude.{Option, Some, None, MatchOption, IsTrue}
 use Rattle.std.specs.Borrow.{Bor}
 use Rattle.std.proofs.Math.Path.{sym, ap}
 use Rattle.std.proofs.Common.{ap₂, ◌∙◌, arith}
@@ -31,6 +31,7 @@ use Rattle.tree.specs.Answers.{put_value, lent_value}
 use Rattle.tree.specs.internal.Bank.{node_in, live, Lies, Ready, Put}
 use Rattle.tree.specs.internal.Found.{FoundAt}
 use Rattle.tree.specs.internal.Writers.{edited}
+use Rattle.tree.specs.declared.writers.DirtyMark.TheVariants.{Kept}
 use Rattle.tree.specs.laws.slots.Bank.{live_entries, put_set, put_ready}
 use Rattle.tree.specs.laws.slots.Tree.{node_in_lem}
 use Rattle.tree.specs.laws.load.Fetch.{count_is}
@@ -110,32 +111,29 @@ module _ (size : ℕ) (t : Tree) (heads bytes key : List ℕ) where
   abbrev fit : Val → Bool
   fit = entry_fits (state_of size t heads bytes) key
 
-  ghost_is : fit ghost ≡ key_length_holds t.order t.info (length key) && true
+  ghost_is : fit ghost ≡ key_length_holds t.order.code t.info (length key) && true
   unfolding entry_fits key_fits value_fits key_length_holds state_of is_child keyed
-  ghost_is = and_true (keyed_length t.order (length key) && (not (fixed t.info) || eqb (length key) t.info.key_size))
+  ghost_is = and_true (keyed_length t.order.code (length key) && (not (fixed t.info) || eqb (length key) t.info.key_size))
 
   leaf_is : (value : List ℕ) → fit (leaf value)
-      ≡ key_length_holds t.order t.info (length key) && value_length_holds t.info (length value)
+      ≡ key_length_holds t.order.code t.info (length key) && value_length_holds t.info (length value)
   unfolding entry_fits key_fits value_fits key_length_holds value_length_holds state_of is_child keyed
   leaf_is value =
-      and_once (keyed_length t.order (length key) && (not (fixed t.info) || eqb (length key) t.info.key_size))
+      and_once (keyed_length t.order.code (length key) && (not (fixed t.info) || eqb (length key) t.info.key_size))
       (not (fixed t.info) || eqb (length value) t.info.val_size)
 
-  module _ (k : Bool) (ek : k ≡ key_length_holds t.order t.info (length key)) where
-    pub fits_key : (v : Option (Bor (List ℕ))) → not k ≡ true → false ≡ entry_fits (state_of size t heads bytes) key (lent_value v)
+  module _ (k : Bool) (ek : k ≡ key_length_holds t.order.code t.info (length key)) where
+    pub fits_key : (v : Option (Bor (List ℕ))) → k ≡ false → k ≡ entry_fits (state_of size t heads bytes) key (lent_value v)
     unfolding lent_value put_value
-    fits_key None n = sym (ghost_is ∙ rw (← ek, not-true k n))
-    fits_key (Some x) n = sym (leaf_is x.now ∙ rw (← ek, not-true k n))
+    fits_key None n = n ∙ sym (ghost_is ∙ rw (← ek, n))
+    fits_key (Some x) n = n ∙ sym (leaf_is x.now ∙ rw (← ek, n))
 
-    pub fits_ghost : (v : Option (Bor (List ℕ))) → not k ≡ false → v ≡ None
-        → true ≡ entry_fits (state_of size t heads bytes) key (lent_value v)
+    pub fits_rest : (v : Option (Bor (List ℕ))) (r : Bool) (So : Bor (List ℕ) → Type 0) → k ≡ true → MatchOption v (IsTrue r) So
+        → ((x : Bor (List ℕ)) → So x → r ≡ value_length_holds t.info (length x.now))
+        → r ≡ entry_fits (state_of size t heads bytes) key (lent_value v)
     unfolding lent_value put_value
-    fits_ghost v n e = sym (rw e (ghost_is ∙ rw (← ek, not-false k n)))
-
-    pub fits_value : (v : Option (Bor (List ℕ))) (x : Bor (List ℕ)) (r : Bool) → not k ≡ false → v ≡ Some x
-        → r ≡ value_length_holds t.info (length x.now) → r ≡ entry_fits (state_of size t heads bytes) key (lent_value v)
-    unfolding lent_value put_value
-    fits_value v x r n e q = q ∙ sym (rw e (leaf_is x.now ∙ rw (← ek, not-false k n)))
+    fits_rest None r So n q f = q ∙ sym (ghost_is ∙ rw (← ek, n))
+    fits_rest (Some x) r So n q f = f x q ∙ sym (leaf_is x.now ∙ rw (← ek, n))
 
 -- ---- what is put
 
@@ -214,28 +212,28 @@ module _ (size slots n : ℕ) (t t' : Tree) (h0 b0 h1 b1 : List ℕ) (i : BTreeI
     node = node_in_lem size t h0 b0 n hn
 
     pub leaf_old : f.found ≡ true
-        → m ≡ edited false (node_in size h0 b0 n) (with_value f.index v (node_in size h0 b0 n).entries)
+        → m ≡ edited Kept (node_in size h0 b0 n) (with_value f.index v (node_in size h0 b0 n).entries)
         → i ≡ with_longest (with_counts t.info t.info.key_count t.info.node_count) t.info.longest_key (greater t.info.longest_val k)
         → state_of size t' h1 b1 ≡ put_in_leaf (state_of size t h0 b0) n key v
     unfolding state_of put_entry
     leaf_old q em' ei =
-        let there : is_there t.order key (node_at (state_of size t h0 b0) n).entries ≡ true = sym g.there ∙ q in
+        let there : is_there t.order.code key (node_at (state_of size t h0 b0) n).entries ≡ true = sym g.there ∙ q in
         put_state ∙ put_is (state_of size t h0 b0) n key v m i
         (em' ∙ rw (← node, there, g.place))
-        (ei ∙ info_old t.info (is_there t.order key (node_at (state_of size t h0 b0) n).entries) key v k there ek)
+        (ei ∙ info_old t.info (is_there t.order.code key (node_at (state_of size t h0 b0) n).entries) key v k there ek)
 
     pub leaf_new : f.found ≡ false
-        → m ≡ edited false (node_in size h0 b0 n)
+        → m ≡ edited Kept (node_in size h0 b0 n)
         (insert_at f.index (record { key = key; value = v }) (node_in size h0 b0 n).entries)
         → i ≡ with_longest (with_counts t.info (t.info.key_count + 1) t.info.node_count) (greater t.info.longest_key (length key))
         (greater t.info.longest_val k)
         → state_of size t' h1 b1 ≡ put_in_leaf (state_of size t h0 b0) n key v
     unfolding state_of put_entry
     leaf_new q em' ei =
-        let there : is_there t.order key (node_at (state_of size t h0 b0) n).entries ≡ false = sym g.there ∙ q in
+        let there : is_there t.order.code key (node_at (state_of size t h0 b0) n).entries ≡ false = sym g.there ∙ q in
         put_state ∙ put_is (state_of size t h0 b0) n key v m i
         (em' ∙ rw (← node, there, g.place))
-        (ei ∙ info_new t.info (is_there t.order key (node_at (state_of size t h0 b0) n).entries) key v k there ek)
+        (ei ∙ info_new t.info (is_there t.order.code key (node_at (state_of size t h0 b0) n).entries) key v k there ek)
 
 -- ---- a place found stays found while the entries are the same
 
@@ -265,8 +263,8 @@ module _ (size slots n : ℕ) (t : Tree) (h0 b0 h1 b1 key : List ℕ) (f : Found
   unfolding state_of
   found_again =
       record {
-        place = g.place ∙ ap (place_of t.order key) (sym e);
-        there = g.there ∙ ap (is_there t.order key) (sym e);
+        place = g.place ∙ ap (place_of t.order.code key) (sym e);
+        there = g.there ∙ ap (is_there t.order.code key) (sym e);
         start = g.start ∙ start_is size slots n t h0 b0 r0 hn f.index g.upto ∙ ap (λ (x : List Entry). weight (take f.index x)) (sym e)
             ∙ sym (start_is size slots n t h1 b1 r1 hn f.index (omega (arith, g.upto, count_same)));
         upto = omega (arith, g.upto, count_same);

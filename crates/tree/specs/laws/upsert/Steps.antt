@@ -105,6 +105,10 @@ module _ (l : Lent) (t : Tree) (h0 b0 : List ℕ) (way : List code.Step) (key : 
   plain : is_child v ≡ false
   plain = (entry_fits_lem g.from key v g.fits).1
 
+  -- a key that a block has room for
+  pub gone_short : 4 + length key + value_length v + 56 ≤ l.size → length key < 2 ^ 16
+  gone_short k = omega (arith, g.ready.most)
+
   -- ---- the way
 
   pub gone_some : 1 ≤ length way
@@ -178,9 +182,6 @@ module _ (l : Lent) (t : Tree) (h0 b0 : List ℕ) (way : List code.Step) (key : 
       on_room k =
           let a : weight (node_at (state_of l.size t h1 b1) n).entries ≡ weight (node_at s n).entries = ap weight entries₁ in
           omega (arith, node_weight l.size l.slots t h1 b1 q.ready n leaf_used, roomy.most n leaf_live)
-
-      pub on_short : 4 + length key + value_length v + 56 ≤ l.size → length key < 2 ^ 16
-      on_short k = omega (arith, g.ready.most)
 
       -- ---- the entry put
 

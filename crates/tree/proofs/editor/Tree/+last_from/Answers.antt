@@ -1,16 +1,10 @@
-use Rattle.tree.specs.laws.base.Refused.{handed_on}
-use Rattle.tree.specs.laws.lookup.FloorDown.{into_more, into_in, last_leaf, last_refused, last_down}
+use Rattle.tree.specs.laws.lookup.FloorDown.{into_more, into_in, last_leaf, last_down}
 use Rattle.tree.specs.laws.slots.Undo.{follows_on}
 use borrow.Author.Rules.{rules}
 use Rattle.tree.proofs.editor.Tree.+last_from.Goals as goal
 
 pub returns-then-d-eq0-clause-answer : goal.returns-then-d-eq0-clause-answer
 returns-then-d-eq0-clause-answer t c = last_leaf _ _ c.args.self _ _ _ _ _ c.if-d-eq0.true _ c.last_at.ensures.answer
-
-pub returns-in_err-t-clause-answer : goal.returns-in_err-t-clause-answer
-returns-in_err-t-clause-answer t c =
-    rw (handed_on c.from_residual.result _ c.from_residual.ensures.1)
-    (last_refused _ _ c.args.self _ _ _ _ _ c.if-d-eq0.false _ _ c.count_at-count.ensures.0 c.saturating_sub-i.ensures _ _ _ c.load_child.ensures.answer _ c.in_err-t.was)
 
 pub last_from-requires : goal.last_from-requires
 last_from-requires t c =

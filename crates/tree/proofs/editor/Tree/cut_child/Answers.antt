@@ -1,20 +1,14 @@
 use native.Mathlib.Omega.{arith}
-use Rattle.tree.specs.laws.base.Refused.{handed_on}
 use Rattle.tree.specs.laws.slots.Undo.{follows_on}
 use Rattle.tree.specs.laws.cut.Asked.{room_count, room_slots}
-use Rattle.tree.specs.laws.cut.CutAt.{cut_used, cut_upto, parted_used, parted_count_same, parted_child, child_parent, child_next, child_full, child_done, counted_ready}
+use Rattle.tree.specs.laws.cut.CutAt.{cut_used, cut_upto, parted_used, parted_count_same, parted_child, child_parent, child_next, child_done, counted_ready}
 use Rattle.tree.proofs.editor.Tree.cut_child.Goals as goal
-
-pub returns-in_err-room_for-clause-answer : goal.returns-in_err-room_for-clause-answer
-returns-in_err-room_for-clause-answer c =
-    let a = c.args in
-    rw (handed_on c.from_residual.result _ c.from_residual.ensures.1) (child_full a.lent a.self _ _ a.up _ _ a.found.at _ c.in_err-room_for.ensures)
 
 pub part-t-requires : goal.part-t-requires
 part-t-requires c =
     let p = c.requires in
     let a = c.args in
-    record { ready_2 = p.ready.0; used_lt_slots = (omega (arith, room_slots _ _ _ _ _ c.in_ok-room_for.ensures), cut_used a.lent a.self _ _ _ _ _ _ p.ready.0 p.room.0 p.room.1, cut_upto a.lent a.self _ _ _ _ _ _ p.ready.0 p.room.0 p.room.1, p.room.1.start) }
+    record { ready_2 = p.ready.0; used_lt_slots = (omega (arith, room_slots _ _ _ _ _ c.in_ok-room_for.ensures), record { slot = cut_used a.lent a.self _ _ _ _ _ _ p.ready.0 p.room.0 p.room.1; upto = cut_upto a.lent a.self _ _ _ _ _ _ p.ready.0 p.room.0 p.room.1; start = p.room.1.start }) }
 
 pub overflow_add-up : goal.overflow_add-up
 overflow_add-up c =

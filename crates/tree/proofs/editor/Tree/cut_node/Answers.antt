@@ -1,8 +1,7 @@
 use native.Mathlib.Omega.{arith}
-use Rattle.tree.specs.laws.base.Refused.{handed_on}
 use Rattle.tree.specs.laws.slots.Undo.{follows_same}
 use Rattle.tree.specs.laws.slots.OneSlot.{ready_part, ready_few}
-use Rattle.tree.specs.laws.cut.CutNode.{node_used, node_sized, node_whole, node_room, node_long, node_uncut, node_cut, node_after, top_fits, child_fits, top_answer, child_answer}
+use Rattle.tree.specs.laws.cut.CutNode.{node_used, node_sized, node_whole, node_room, node_long, node_cut, node_after, top_fits, child_fits, top_answer, child_answer}
 use Rattle.tree.proofs.editor.Tree.cut_node.Goals as goal
 
 pub fits_at-requires : goal.fits_at-requires
@@ -31,22 +30,15 @@ invariant_of-records c =
     let a = c.args in
     record { within = node_room a.lent a.self _ _ _ _ p.ready.0 p.room _ c.fits_at.ensures c.if-fits_at.false _ c.load-h.ensures _ c.slot_of.ensures.slot }
 
-pub cut-requires : goal.cut-requires
-cut-requires c =
+pub invariant_of-cut : goal.invariant_of-cut
+invariant_of-cut c =
     let p = c.requires in
     let a = c.args in
-    node_long a.lent a.self _ _ _ _ p.ready.0 p.room _ c.fits_at.ensures c.if-fits_at.false _ c.load-h.ensures _ c.slot_of.ensures.slot
+    record { small = node_long a.lent a.self _ _ _ _ p.ready.0 p.room _ c.fits_at.ensures c.if-fits_at.false _ c.load-h.ensures _ c.slot_of.ensures.slot }
 
 pub invariant_of-shape : goal.invariant_of-shape
 invariant_of-shape c =
     let p = c.requires in let a = c.args in record { sized = node_sized a.lent a.self _ _ _ _ p.ready.0 p.room }
-
-pub returns-in_err-found-clause-answer : goal.returns-in_err-found-clause-answer
-returns-in_err-found-clause-answer c =
-    let p = c.requires in
-    let a = c.args in
-    rw (handed_on c.from_residual.result _ c.from_residual.ensures.1)
-    (node_uncut a.lent a.self _ _ _ _ p.ready.0 p.room _ c.fits_at.ensures c.if-fits_at.false _ c.load-h.ensures _ c.slot_of.ensures.slot _ c.cut.ensures.place _ c.in_err-found.was)
 
 pub cut_root-requires : goal.cut_root-requires
 cut_root-requires c =

@@ -1,8 +1,7 @@
 use native.Mathlib.Omega.{arith}
-use Rattle.tree.specs.laws.base.Refused.{handed_on}
 use Rattle.tree.specs.laws.slots.Undo.{follows_on}
 use Rattle.tree.specs.laws.cut.Asked.{room_slots}
-use Rattle.tree.specs.laws.cut.CutAt.{cut_used, cut_sized, cut_first, cut_upto, parted_used, parted_root, top_not, top_low, top_full, top_done, top_count, counted_ready}
+use Rattle.tree.specs.laws.cut.CutAt.{cut_used, cut_sized, cut_first, cut_upto, parted_used, parted_root, top_low, top_done, top_count, counted_ready}
 use Rattle.std.proofs.Common.{ap}
 use mathlib.Core.Bool.{not}
 use Rattle.tree.proofs.editor.Tree.cut_root.Goals as goal
@@ -13,23 +12,11 @@ new_root_holds-holds-requires c =
     let a = c.args in
     record { sized = (cut_sized a.lent a.self _ _ _ _ _ _ p.ready.0 p.room.0 p.room.1, cut_used a.lent a.self _ _ _ _ _ _ p.ready.0 p.room.0 p.room.1, cut_first a.lent a.self _ _ _ _ _ _ p.ready.0 p.room.0 p.room.1) }
 
-pub returns-in_err-check-clause-answer : goal.returns-in_err-check-clause-answer
-returns-in_err-check-clause-answer c =
-    let a = c.args in
-    rw (handed_on c.from_residual.result _ c.from_residual.ensures.1, c.in_err-check.ensures.1)
-    (top_not a.lent a.self _ _ _ _ _ c.new_root_holds-holds.ensures (ap not c.in_err-check.ensures.0))
-
-pub returns-in_err-room_for-clause-answer : goal.returns-in_err-room_for-clause-answer
-returns-in_err-room_for-clause-answer c =
-    let a = c.args in
-    rw (handed_on c.from_residual-in_err-room_for.result _ c.from_residual-in_err-room_for.ensures.1)
-    (top_full a.lent a.self _ _ _ _ _ c.new_root_holds-holds.ensures (ap not c.in_ok-check.ensures) _ c.in_err-room_for.ensures)
-
 pub part-t-requires-clause-used_lt_slots : goal.part-t-requires-clause-used_lt_slots
 part-t-requires-clause-used_lt_slots c =
     let p = c.requires in
     let a = c.args in
-    (omega (arith, room_slots _ _ _ _ _ c.in_ok-room_for.ensures), cut_used a.lent a.self _ _ _ _ _ _ p.ready.0 p.room.0 p.room.1, cut_upto a.lent a.self _ _ _ _ _ _ p.ready.0 p.room.0 p.room.1, p.room.1.start)
+    (omega (arith, room_slots _ _ _ _ _ c.in_ok-room_for.ensures), record { slot = cut_used a.lent a.self _ _ _ _ _ _ p.ready.0 p.room.0 p.room.1; upto = cut_upto a.lent a.self _ _ _ _ _ _ p.ready.0 p.room.0 p.room.1; start = p.room.1.start })
 
 pub grow_root-top-requires-clause-ready : goal.grow_root-top-requires-clause-ready
 grow_root-top-requires-clause-ready c =

@@ -1,13 +1,7 @@
-use Rattle.tree.specs.laws.lookup.FloorCall.{in_argument, in_argument_same, way_in, in_output, floor_undone, floor_left}
+use Rattle.tree.specs.laws.lookup.FloorCall.{way_in, in_output, floor_undone, floor_left}
 use borrow.Author.Rules.{rules}
 use Rattle.std.proofs.Common.{◌∙◌}
 use Rattle.tree.proofs.editor.Tree.floor_down.Goals as goal
-
-pub returns-in_err-check-clause-answer : goal.returns-in_err-check-clause-answer
-returns-in_err-check-clause-answer c = search (rules, in_argument)
-
-pub returns-in_err-check-clause-output : goal.returns-in_err-check-clause-output
-returns-in_err-check-clause-output c = search (rules, in_argument_same)
 
 pub returns-clause-answer : goal.returns-clause-answer
 returns-clause-answer c =

@@ -1,5 +1,4 @@
-use Rattle.tree.specs.laws.base.Refused.{handed_on}
-use Rattle.tree.specs.laws.lookup.FloorDown.{into_more, into_in, left_first, left_above, left_refused, left_down}
+use Rattle.tree.specs.laws.lookup.FloorDown.{into_more, into_in, left_first, left_above, left_down}
 use Rattle.tree.specs.laws.slots.Undo.{follows_on}
 use Rattle.tree.proofs.editor.Tree.floor_left.Goals as goal
 
@@ -9,11 +8,6 @@ returns-then-i-eq0-clause-answer c = left_first _ _ c.args.self _ _ _ _ _ _ _ c.
 pub returns-then-above-clause-answer : goal.returns-then-above-clause-answer
 returns-then-above-clause-answer c =
     left_above _ _ c.args.self _ _ _ _ _ _ _ c.if-i-eq0.false _ c.key_at.ensures _ c.less-above.ensures c.if-above.true
-
-pub returns-in_err-t-clause-answer : goal.returns-in_err-t-clause-answer
-returns-in_err-t-clause-answer c =
-    rw (handed_on c.from_residual.result _ c.from_residual.ensures.1)
-    (left_refused _ _ c.args.self _ _ _ _ _ _ _ c.if-i-eq0.false _ c.key_at.ensures _ c.less-above.ensures c.if-above.false _ _ _ c.load_child.ensures.answer _ c.in_err-t.was)
 
 pub last_from-requires-clause-bounds_in : goal.last_from-requires-clause-bounds_in
 last_from-requires-clause-bounds_in c =

@@ -1,11 +1,5 @@
-use Rattle.tree.specs.laws.base.Refused.{handed_on}
-use Rattle.tree.specs.laws.lookup.FloorCall.{way_refused, way_refused_same, way_none, way_none_same, way_found, way_found_out}
+use Rattle.tree.specs.laws.lookup.FloorCall.{way_refused_same, way_none, way_none_same, way_found, way_found_out}
 use Rattle.tree.proofs.editor.Tree.floor_way.Goals as goal
-
-pub returns-in_err-t-clause-answer : goal.returns-in_err-t-clause-answer
-returns-in_err-t-clause-answer c =
-    rw (handed_on c.from_residual.result _ c.from_residual.ensures.1)
-    (way_refused _ _ c.args.self _ _ _ c.level_at-level.ensures _ _ _ _ c.floor_from.ensures.answer c.args.out.now _ c.in_err-t.was)
 
 pub returns-in_err-t-clause-output : goal.returns-in_err-t-clause-output
 returns-in_err-t-clause-output c =

@@ -1,15 +1,9 @@
-use Rattle.tree.specs.laws.base.Refused.{handed_on}
-use Rattle.tree.specs.laws.lookup.GetCall.{way_low, get_refused, get_refused_same, get_some, get_few, get_suits, get_found, get_found_out}
+use Rattle.tree.specs.laws.lookup.GetCall.{way_low, get_refused_same, get_some, get_few, get_suits, get_found, get_found_out}
 use borrow.Author.Rules.{rules}
 use Rattle.tree.proofs.editor.Tree.get_way.Goals as goal
 
 pub way-requires-clause-level_bound : goal.way-requires-clause-level_bound
 way-requires-clause-level_bound c = way_low _ _ c.args.self _ _ c.requires.bytes_value _ c.level_at-level.ensures
-
-pub returns-in_err-w-clause-answer : goal.returns-in_err-w-clause-answer
-returns-in_err-w-clause-answer c =
-    rw (handed_on c.from_residual.result _ c.from_residual.ensures.1)
-    (get_refused _ _ c.args.self _ _ c.requires.bytes_value _ c.level_at-level.ensures _ c.args.out.now _ _ c.way.result c.way.ensures.answer _ c.in_err-w.was)
 
 pub returns-in_err-w-clause-output : goal.returns-in_err-w-clause-output
 returns-in_err-w-clause-output c =

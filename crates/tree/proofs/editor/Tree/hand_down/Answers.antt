@@ -3,6 +3,7 @@ use native.Mathlib.Omega.{arith}
 use Rattle.tree.specs.laws.base.Refused.{handed_on}
 use Rattle.tree.specs.laws.remove.HandDown.{hand_start, hand_ends, hand_stops, hand_refused, hand_on, hand_sized, hand_child, hand_apart, hand_root, hand_unfit, hand_count, hand_next}
 use borrow.Author.Rules.{rules}
+use borrow.Author.Tests.{ltb-true, ltb-false}
 use Rattle.std.proofs.Common.{ap, ◌≡◌}
 use Prim.Native.Nat.{◌+◌, ◌-◌, ◌<◌}
 use mathlib.Core.Bool.{not}
@@ -62,16 +63,16 @@ returns-then-not-fits_as_root c =
     let fits-as-root = c.fits_as_root in
     record { answer = hand_unfit args.image.now args.lent args.self _ _ _ loop.t _ _ (args.n - loop._i) loop.invariant.2 hd _ has-only-child.ensures (ap not c.if-not-has_only_child.false) _ _ _ load_child_lem.ensures.answer _ _ c.in_ok-u.was _ fits-as-root.ensures (ap not c.if-not-fits_as_root.true); ready = ready_at _ _ _ _ _ _ _ c.in_ok-u.was load_child_lem.ensures.ready; follows = hand_on args.image.now args.lent args.self _ _ _ loop.t _ _ (args.n - loop._i) loop.invariant.2 hd _ has-only-child.ensures (ap not c.if-not-has_only_child.false) _ _ _ load_child_lem.ensures.answer load_child_lem.ensures.follows }
 
-pub returns-then-u-eq0 : goal.returns-then-u-eq0
-returns-then-u-eq0 c =
+pub returns-in_err-check : goal.returns-in_err-check
+returns-in_err-check c =
     let args = c.args in
     let loop = c.loop-i in
     let hd : 0 < args.n - loop._i = omega (arith, c.loop-i-test.true) in
     let has-only-child = c.has_only_child in
     let load_child_lem = c.load_child in
     let fits-as-root = c.fits_as_root in
-    let if3 = c.if-u-eq0 in
-    record { answer = hand_count args.image.now args.lent args.self _ _ _ loop.t _ _ (args.n - loop._i) loop.invariant.2 hd _ has-only-child.ensures (ap not c.if-not-has_only_child.false) _ _ _ load_child_lem.ensures.answer _ _ c.in_ok-u.was _ fits-as-root.ensures (ap not c.if-not-fits_as_root.false) if3.true; ready = tt; follows = hand_on args.image.now args.lent args.self _ _ _ loop.t _ _ (args.n - loop._i) loop.invariant.2 hd _ has-only-child.ensures (ap not c.if-not-has_only_child.false) _ _ _ load_child_lem.ensures.answer load_child_lem.ensures.follows }
+    rw (handed_on c.from_residual-in_err-check.result _ c.from_residual-in_err-check.ensures.1, c.in_err-check.ensures.1)
+    record { answer = hand_count args.image.now args.lent args.self _ _ _ loop.t _ _ (args.n - loop._i) loop.invariant.2 hd _ has-only-child.ensures (ap not c.if-not-has_only_child.false) _ _ _ load_child_lem.ensures.answer _ _ c.in_ok-u.was _ fits-as-root.ensures (ap not c.if-not-fits_as_root.false) (omega (arith, ltb-false 0 _ c.in_err-check.ensures.0)); ready = tt; follows = hand_on args.image.now args.lent args.self _ _ _ loop.t _ _ (args.n - loop._i) loop.invariant.2 hd _ has-only-child.ensures (ap not c.if-not-has_only_child.false) _ _ _ load_child_lem.ensures.answer load_child_lem.ensures.follows }
 
 pub handed_down-t-requires : goal.handed_down-t-requires
 handed_down-t-requires c =
@@ -80,8 +81,7 @@ handed_down-t-requires c =
     let hd : 0 < args.n - loop._i = omega (arith, c.loop-i-test.true) in
     let has-only-child = c.has_only_child in
     let load_child_lem = c.load_child in
-    let if3 = c.if-u-eq0 in
-    record { ready = ready_at _ _ _ _ _ _ _ c.in_ok-u.was load_child_lem.ensures.ready; place = (hand_root args.image.now args.lent args.self _ _ _ loop.t _ _ (args.n - loop._i) loop.invariant.2 hd _ has-only-child.ensures (ap not c.if-not-has_only_child.false) _ _ _ load_child_lem.ensures.answer _ _ c.in_ok-u.was, hand_child args.image.now args.lent args.self _ _ _ loop.t _ _ (args.n - loop._i) loop.invariant.2 hd _ has-only-child.ensures (ap not c.if-not-has_only_child.false) _ _ _ load_child_lem.ensures.answer _ _ c.in_ok-u.was, hand_apart args.image.now args.lent args.self _ _ _ loop.t _ _ (args.n - loop._i) loop.invariant.2 hd _ has-only-child.ensures (ap not c.if-not-has_only_child.false) _ _ _ load_child_lem.ensures.answer _ _ c.in_ok-u.was, omega (arith, if3.false)) }
+    record { ready = ready_at _ _ _ _ _ _ _ c.in_ok-u.was load_child_lem.ensures.ready; place = (hand_root args.image.now args.lent args.self _ _ _ loop.t _ _ (args.n - loop._i) loop.invariant.2 hd _ has-only-child.ensures (ap not c.if-not-has_only_child.false) _ _ _ load_child_lem.ensures.answer _ _ c.in_ok-u.was, hand_child args.image.now args.lent args.self _ _ _ loop.t _ _ (args.n - loop._i) loop.invariant.2 hd _ has-only-child.ensures (ap not c.if-not-has_only_child.false) _ _ _ load_child_lem.ensures.answer _ _ c.in_ok-u.was, hand_apart args.image.now args.lent args.self _ _ _ loop.t _ _ (args.n - loop._i) loop.invariant.2 hd _ has-only-child.ensures (ap not c.if-not-has_only_child.false) _ _ _ load_child_lem.ensures.answer _ _ c.in_ok-u.was, omega (arith, ltb-true 0 _ c.in_ok-check.ensures)) }
 
 pub loop-i-preserved : goal.loop-i-preserved
 loop-i-preserved c =
@@ -91,12 +91,11 @@ loop-i-preserved c =
     let has-only-child = c.has_only_child in
     let load_child_lem = c.load_child in
     let fits-as-root = c.fits_as_root in
-    let if3 = c.if-u-eq0 in
     let handed-down = c.handed_down-t in
     let e : args.n - (loop._i + 1) ≡ args.n - loop._i - 1 = omega arith in (
       search (rules, c.handed_down-t.auto, c.load_child.auto, c.loop-i.invariant),
       search (rules, c.handed_down-t.auto, c.load_child.auto, c.loop-i.invariant),
-      rw e (hand_next args.image.now args.lent args.self _ _ _ loop.t _ _ (args.n - loop._i) loop.invariant.2 hd _ has-only-child.ensures (ap not c.if-not-has_only_child.false) _ _ _ load_child_lem.ensures.answer _ _ c.in_ok-u.was _ fits-as-root.ensures (ap not c.if-not-fits_as_root.false) if3.false load_child_lem.ensures.follows _ _ _ handed-down.ensures),
+      rw e (hand_next args.image.now args.lent args.self _ _ _ loop.t _ _ (args.n - loop._i) loop.invariant.2 hd _ has-only-child.ensures (ap not c.if-not-has_only_child.false) _ _ _ load_child_lem.ensures.answer _ _ c.in_ok-u.was _ fits-as-root.ensures (ap not c.if-not-fits_as_root.false) (λ z. omega (arith, ltb-true 0 _ c.in_ok-check.ensures, z)) load_child_lem.ensures.follows _ _ _ handed-down.ensures),
     )
 
 pub returns : goal.returns

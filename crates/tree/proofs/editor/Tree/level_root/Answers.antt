@@ -14,6 +14,3 @@ put_words-requires c =
     let count_at = c.count_at-count in
     let load = c.load-h in
     record { ready = pre.0; place = (pre.1, leveling_lies _ _ args.self _ _ pre.0 _ count_at.ensures.0 pre.1 _ load.ensures) }
-
-pub returns : goal.returns
-returns c = search laws

@@ -18,7 +18,7 @@ insert_at-requires c =
     let p = c.requires in
     let a = c.args in
     let k = c.first_key-len.ensures.key in
-    record { ready = p.ready; place = (child_slot _ _ _ _ _ _ a.self _ _ p.ready p.room, child_index _ _ _ _ _ _ a.self _ _ p.ready p.room, c.offset_at-at.ensures, child_alive _ _ _ _ _ _ a.self _ _ p.ready p.room); room = child_room _ _ _ _ _ _ a.self _ _ p.ready p.room _ k; stored = (child_short _ _ _ _ _ _ a.self _ _ p.ready p.room _ k, child_held _ _ _ _ _ _ a.self _ _ p.ready p.room _ k) }
+    record { ready = p.ready; place = (record { slot = child_slot _ _ _ _ _ _ a.self _ _ p.ready p.room; upto = child_index _ _ _ _ _ _ a.self _ _ p.ready p.room; start = c.offset_at-at.ensures }, child_alive _ _ _ _ _ _ a.self _ _ p.ready p.room); room = child_room _ _ _ _ _ _ a.self _ _ p.ready p.room _ k; stored = (child_short _ _ _ _ _ _ a.self _ _ p.ready p.room _ k, child_held _ _ _ _ _ _ a.self _ _ p.ready p.room _ k) }
 
 pub returns : goal.returns
 returns c =

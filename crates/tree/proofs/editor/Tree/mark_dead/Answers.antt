@@ -4,8 +4,5 @@ use Rattle.tree.proofs.editor.Tree.mark_dead.Goals as goal
 
 ruleset laws = (rules, dying_lies, died)
 
-pub put_words-requires : goal.put_words-requires
-put_words-requires c = search laws
-
-pub returns : goal.returns
-returns c = search laws
+pub put_words-requires-clause-place : goal.put_words-requires-clause-place
+put_words-requires-clause-place c = search laws

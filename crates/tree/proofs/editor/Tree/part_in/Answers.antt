@@ -14,30 +14,30 @@ overflow_mul-w c = search laws
 
 pub overflow_sub-rest : goal.overflow_sub-rest
 overflow_sub-rest c =
-    at_below _ _ _ _ _ c.args.self _ _ _ c.requires.ready_2 c.requires.used_lt_slots.0 c.requires.used_lt_slots.1 c.live_at-h.ensures c.requires.used_lt_slots.2 c.requires.used_lt_slots.3
+    at_below _ _ _ _ _ c.args.self _ _ _ c.requires.ready_2 c.requires.used_lt_slots.0 c.requires.used_lt_slots.1.slot c.live_at-h.ensures c.requires.used_lt_slots.1.upto c.requires.used_lt_slots.1.start
 
-pub overflow_mul-n : goal.overflow_mul-n
-overflow_mul-n c =
-    omega (arith, part_source _ _ _ _ _ c.args.self _ _ _ c.requires.ready_2 c.requires.used_lt_slots.0 c.requires.used_lt_slots.1 c.live_at-h.ensures c.requires.used_lt_slots.2 c.requires.used_lt_slots.3, part_target _ _ _ _ _ c.args.self _ _ _ c.requires.ready_2 c.requires.used_lt_slots.0 c.requires.used_lt_slots.1 c.live_at-h.ensures c.requires.used_lt_slots.2 c.requires.used_lt_slots.3)
+pub overflow_mul-spot : goal.overflow_mul-spot
+overflow_mul-spot c =
+    omega (arith, part_source _ _ _ _ _ c.args.self _ _ _ c.requires.ready_2 c.requires.used_lt_slots.0 c.requires.used_lt_slots.1.slot c.live_at-h.ensures c.requires.used_lt_slots.1.upto c.requires.used_lt_slots.1.start, part_target _ _ _ _ _ c.args.self _ _ _ c.requires.ready_2 c.requires.used_lt_slots.0 c.requires.used_lt_slots.1.slot c.live_at-h.ensures c.requires.used_lt_slots.1.upto c.requires.used_lt_slots.1.start)
 
-pub overflow_add-n : goal.overflow_add-n
-overflow_add-n c =
-    omega (arith, part_source _ _ _ _ _ c.args.self _ _ _ c.requires.ready_2 c.requires.used_lt_slots.0 c.requires.used_lt_slots.1 c.live_at-h.ensures c.requires.used_lt_slots.2 c.requires.used_lt_slots.3, part_target _ _ _ _ _ c.args.self _ _ _ c.requires.ready_2 c.requires.used_lt_slots.0 c.requires.used_lt_slots.1 c.live_at-h.ensures c.requires.used_lt_slots.2 c.requires.used_lt_slots.3)
+pub overflow_add-spot : goal.overflow_add-spot
+overflow_add-spot c =
+    omega (arith, part_source _ _ _ _ _ c.args.self _ _ _ c.requires.ready_2 c.requires.used_lt_slots.0 c.requires.used_lt_slots.1.slot c.live_at-h.ensures c.requires.used_lt_slots.1.upto c.requires.used_lt_slots.1.start, part_target _ _ _ _ _ c.args.self _ _ _ c.requires.ready_2 c.requires.used_lt_slots.0 c.requires.used_lt_slots.1.slot c.live_at-h.ensures c.requires.used_lt_slots.1.upto c.requires.used_lt_slots.1.start)
 
 pub shift-requires : goal.shift-requires
 shift-requires c =
     let p = c.requires in
-    let a = part_source _ _ _ _ _ c.args.self _ _ _ p.ready_2 p.used_lt_slots.0 p.used_lt_slots.1 c.live_at-h.ensures p.used_lt_slots.2 p.used_lt_slots.3 in
-    let b = part_target _ _ _ _ _ c.args.self _ _ _ p.ready_2 p.used_lt_slots.0 p.used_lt_slots.1 c.live_at-h.ensures p.used_lt_slots.2 p.used_lt_slots.3 in
+    let a = part_source _ _ _ _ _ c.args.self _ _ _ p.ready_2 p.used_lt_slots.0 p.used_lt_slots.1.slot c.live_at-h.ensures p.used_lt_slots.1.upto p.used_lt_slots.1.start in
+    let b = part_target _ _ _ _ _ c.args.self _ _ _ p.ready_2 p.used_lt_slots.0 p.used_lt_slots.1.slot c.live_at-h.ensures p.used_lt_slots.1.upto p.used_lt_slots.1.start in
     omega arith
 
 pub overflow_mul-c : goal.overflow_mul-c
 overflow_mul-c c =
-    omega (arith, part_source _ _ _ _ _ c.args.self _ _ _ c.requires.ready_2 c.requires.used_lt_slots.0 c.requires.used_lt_slots.1 c.live_at-h.ensures c.requires.used_lt_slots.2 c.requires.used_lt_slots.3, part_target _ _ _ _ _ c.args.self _ _ _ c.requires.ready_2 c.requires.used_lt_slots.0 c.requires.used_lt_slots.1 c.live_at-h.ensures c.requires.used_lt_slots.2 c.requires.used_lt_slots.3)
+    omega (arith, part_source _ _ _ _ _ c.args.self _ _ _ c.requires.ready_2 c.requires.used_lt_slots.0 c.requires.used_lt_slots.1.slot c.live_at-h.ensures c.requires.used_lt_slots.1.upto c.requires.used_lt_slots.1.start, part_target _ _ _ _ _ c.args.self _ _ _ c.requires.ready_2 c.requires.used_lt_slots.0 c.requires.used_lt_slots.1.slot c.live_at-h.ensures c.requires.used_lt_slots.1.upto c.requires.used_lt_slots.1.start)
 
 pub overflow_sub-right : goal.overflow_sub-right
 overflow_sub-right c =
-    part_index _ _ _ _ _ c.args.self _ _ _ c.requires.ready_2 c.requires.used_lt_slots.0 c.requires.used_lt_slots.1 c.live_at-h.ensures c.requires.used_lt_slots.2 c.requires.used_lt_slots.3
+    part_index _ _ _ _ _ c.args.self _ _ _ c.requires.ready_2 c.requires.used_lt_slots.0 c.requires.used_lt_slots.1.slot c.live_at-h.ensures c.requires.used_lt_slots.1.upto c.requires.used_lt_slots.1.start
 
 pub store-requires : goal.store-requires
 store-requires c = search laws
@@ -56,4 +56,4 @@ shape_of-bytes c = search laws
 
 pub returns : goal.returns
 returns c =
-    record { after = part_state _ _ _ _ _ _ c.args.self _ _ _ _ _ _ _ c.requires.ready_2 c.requires.used_lt_slots.0 c.requires.used_lt_slots.1 c.live_at-h.ensures c.requires.used_lt_slots.2 c.requires.used_lt_slots.3 refl c.shift.ensures c.store.ensures c.store-2.ensures refl; ready = part_ready _ _ _ _ _ _ c.args.self _ _ _ _ _ _ _ c.requires.ready_2 c.requires.used_lt_slots.0 c.requires.used_lt_slots.1 c.live_at-h.ensures c.requires.used_lt_slots.2 c.requires.used_lt_slots.3 refl c.shift.ensures c.store.ensures c.store-2.ensures refl (search rules) (search rules); follows = part_follows _ _ _ _ _ _ c.args.self _ _ _ _ _ _ _ c.requires.ready_2 c.requires.used_lt_slots.0 c.requires.used_lt_slots.1 c.live_at-h.ensures c.requires.used_lt_slots.2 c.requires.used_lt_slots.3 refl c.shift.ensures c.store.ensures c.store-2.ensures refl c.requires.fact }
+    record { after = part_state _ _ _ _ _ _ c.args.self _ _ _ _ _ _ _ c.requires.ready_2 c.requires.used_lt_slots.0 c.requires.used_lt_slots.1.slot c.live_at-h.ensures c.requires.used_lt_slots.1.upto c.requires.used_lt_slots.1.start refl c.shift.ensures c.store.ensures c.store-2.ensures refl; ready = part_ready _ _ _ _ _ _ c.args.self _ _ _ _ _ _ _ c.requires.ready_2 c.requires.used_lt_slots.0 c.requires.used_lt_slots.1.slot c.live_at-h.ensures c.requires.used_lt_slots.1.upto c.requires.used_lt_slots.1.start refl c.shift.ensures c.store.ensures c.store-2.ensures refl (search rules) (search rules); follows = part_follows _ _ _ _ _ _ c.args.self _ _ _ _ _ _ _ c.requires.ready_2 c.requires.used_lt_slots.0 c.requires.used_lt_slots.1.slot c.live_at-h.ensures c.requires.used_lt_slots.1.upto c.requires.used_lt_slots.1.start refl c.shift.ensures c.store.ensures c.store-2.ensures refl c.requires.fact }

@@ -1,13 +1,6 @@
-use Rattle.tree.specs.laws.base.Refused.{handed_on}
 use Rattle.tree.specs.laws.omap.Calls.{drop_trusts}
-use Rattle.tree.specs.laws.omap.Put.{keys_within_lem, part_room, put_refused, put_after, drop_follows, drop_fits}
+use Rattle.tree.specs.laws.omap.Put.{keys_within_lem, part_room, put_after, drop_follows, drop_fits}
 use Rattle.tree.proofs.editor.Tree.put.Goals as goal
-
-pub returns-in_err-t-clause-answer : goal.returns-in_err-t-clause-answer
-returns-in_err-t-clause-answer c =
-    let a = c.args in
-    rw (handed_on c.from_residual.result _ c.from_residual.ensures.1)
-    (put_refused a.image.now a.lent a.self _ _ _ _ _ _ c.dropped.ensures.answer _ _ _ c.in_err-t.was)
 
 pub upserted-requires-clause-trusts : goal.upserted-requires-clause-trusts
 upserted-requires-clause-trusts c =

@@ -5,7 +5,7 @@ use Rattle.tree.proofs.editor.Tree.put_in_leaf.Goals as goal
 pub revalue_at-requires : goal.revalue_at-requires
 revalue_at-requires c =
     let p = c.requires in
-    record { ready = p.ready; place = (p.place.0, p.place.2.within c.if-f.true, p.place.2.start); room = room_value _ _ _ _ p.room; stored = p.stored.1 }
+    record { ready = p.ready; place = record { slot = p.place.0; index = p.place.2.within c.if-f.true; start = p.place.2.start }; room = room_value _ _ _ _ p.room; stored = c.args.put.held }
 
 pub returns-then-f : goal.returns-then-f
 returns-then-f c =
@@ -17,7 +17,7 @@ returns-then-f c =
 pub insert_at-requires : goal.insert_at-requires
 insert_at-requires c =
     let p = c.requires in
-    record { ready = p.ready; place = (p.place.0, p.place.2.upto, p.place.2.start, alive_in _ _ c.args.self _ _ p.place.0 p.place.1); room = p.room; stored = p.stored }
+    record { ready = p.ready; place = (record { slot = p.place.0; upto = p.place.2.upto; start = p.place.2.start }, alive_in _ _ c.args.self _ _ p.place.0 p.place.1); room = p.room; stored = (c.args.put.short, c.args.put.held) }
 
 pub grown_new-self-requires : goal.grown_new-self-requires
 grown_new-self-requires c = c.requires.place.3 c.if-f.false

@@ -1,20 +1,8 @@
-use Rattle.tree.specs.laws.lookup.RangeCall.{in_low, in_low_same, in_high, in_high_same, way_in, in_output}
+use Rattle.tree.specs.laws.lookup.RangeCall.{way_in, in_output}
 use Rattle.tree.specs.laws.lookup.RangeLeaves.{ranged_undone, ranged_left}
 use borrow.Author.Rules.{rules}
 use Rattle.std.proofs.Common.{◌∙◌}
 use Rattle.tree.proofs.editor.Tree.range_in.Goals as goal
-
-pub returns-in_err-check-clause-answer : goal.returns-in_err-check-clause-answer
-returns-in_err-check-clause-answer c = search (rules, in_low)
-
-pub returns-in_err-check-clause-output : goal.returns-in_err-check-clause-output
-returns-in_err-check-clause-output c = search (rules, in_low_same)
-
-pub returns-in_err-check-2-clause-answer : goal.returns-in_err-check-2-clause-answer
-returns-in_err-check-2-clause-answer c = search (rules, in_high)
-
-pub returns-in_err-check-2-clause-output : goal.returns-in_err-check-2-clause-output
-returns-in_err-check-2-clause-output c = search (rules, in_high_same)
 
 pub returns-clause-answer : goal.returns-clause-answer
 returns-clause-answer c =

@@ -1,15 +1,8 @@
 use borrow.Author.Tests.{leb-true, leb-false}
 use Rattle.node.specs.laws.base.Bytes.{bytes_known}
 use borrow.Author.Rules.{rules}
-use Rattle.tree.specs.laws.base.Refused.{handed_on}
-use Rattle.tree.specs.laws.lookup.RangeCall.{way_refused, way_refused_same, way_short, way_short_same, way_room, way_output, way_done, way_long}
+use Rattle.tree.specs.laws.lookup.RangeCall.{way_refused_same, way_short, way_short_same, way_room, way_output, way_done, way_long}
 use Rattle.tree.proofs.editor.Tree.range_way.Goals as goal
-
-pub returns-in_err-found-clause-answer : goal.returns-in_err-found-clause-answer
-returns-in_err-found-clause-answer c =
-    let a = c.args in
-    rw (handed_on c.from_residual.result _ c.from_residual.ensures.1)
-    (way_refused a.image.now a.lent a.self _ _ _ c.level_at-level.ensures _ _ _ _ _ c.range_from.ensures.answer _ c.in_err-found.was a.out.now)
 
 pub returns-in_err-found-clause-output : goal.returns-in_err-found-clause-output
 returns-in_err-found-clause-output c =
@@ -33,7 +26,7 @@ pub range_out-requires : goal.range_out-requires
 range_out-requires c =
     let a = c.args in
     let p = c.requires in
-    record { n_in_bounds = way_room a.image.now a.lent a.self _ _ _ c.level_at-level.ensures _ _ _ _ _ c.range_from.ensures.answer _ c.in_ok-found.was p.bytes_value p.roomy a.out.now (leb-true _ _ c.in_ok-check.ensures) }
+    record { room = way_room a.image.now a.lent a.self _ _ _ c.level_at-level.ensures _ _ _ _ _ c.range_from.ensures.answer _ c.in_ok-found.was p.bytes_value p.roomy a.out.now (leb-true _ _ c.in_ok-check.ensures) }
 
 pub returns-clause-answer : goal.returns-clause-answer
 returns-clause-answer c =

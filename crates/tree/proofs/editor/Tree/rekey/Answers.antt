@@ -9,7 +9,7 @@ offset_at-at-requires c = search laws
 
 pub rekey_at-requires : goal.rekey_at-requires
 rekey_at-requires c =
-    record { ready = search rules; place = (search rules, search rules, search rules); room = (search rules, search rules) }
+    record { ready = search rules; place = record { slot = search rules; index = search rules; start = search rules }; room = (search rules, search rules) }
 
 pub shape_of-heads : goal.shape_of-heads
 shape_of-heads c = search laws

@@ -1,14 +1,8 @@
-use Rattle.tree.specs.laws.remove.Call.{call_argument, call_answer, call_done}
+use Rattle.tree.specs.laws.remove.Call.{call_answer, call_done}
 use Rattle.tree.specs.laws.refusal1.EditCalls.{stays_trusts, removed_undone, removed_called}
 use borrow.Author.Rules.{rules}
 use Rattle.std.proofs.Common.{◌∙◌}
 use Rattle.tree.proofs.editor.Tree.remove_down.Goals as goal
-
-pub returns-in_err-check-clause-answer : goal.returns-in_err-check-clause-answer
-returns-in_err-check-clause-answer c = search (rules, call_argument)
-
-pub undone-requires-clause-callable : goal.undone-requires-clause-callable
-undone-requires-clause-callable c = search (rules, stays_trusts)
 
 pub returns-clause-answer : goal.returns-clause-answer
 returns-clause-answer c =

@@ -1,7 +1,7 @@
 use Rattle.node.specs.laws.base.Bytes.{Bytes, bytes_known}
 use native.Mathlib.Omega.{arith}
 use Rattle.tree.specs.laws.base.Refused.{handed_on}
-use Rattle.tree.specs.laws.remove.Steps.{on_in, on_root, on_drops, on_refused, on_ready, on_still, on_index, on_cuts, on_uncut, on_trust, on_done, on_back, on_follows}
+use Rattle.tree.specs.laws.remove.Steps.{on_some, on_in, on_root, on_drops, on_refused, on_ready, on_still, on_index, on_cuts, on_uncut, on_trust, on_done, on_back, on_follows}
 use borrow.Author.Rules.{rules}
 use Rattle.tree.proofs.editor.Tree.remove_on.Goals as goal
 
@@ -9,13 +9,13 @@ pub shrink-requires-clause-ready : goal.shrink-requires-clause-ready
 shrink-requires-clause-ready c =
     let p = c.requires in
     let a = c.args in
-    (p.ready.0, on_in a.image.now a.lent a.self _ _ a.way.now a.f.index p.way)
+    (p.ready, on_in a.image.now a.lent a.self _ _ a.way.now a.f.index p.way)
 
 pub shrink-requires-clause-steps : goal.shrink-requires-clause-steps
 shrink-requires-clause-steps c =
     let p = c.requires in
     let a = c.args in
-    (p.ready.1, on_root a.image.now a.lent a.self _ _ a.way.now a.f.index p.way)
+    (on_some a.image.now a.lent a.self _ _ a.way.now a.f.index p.way, on_root a.image.now a.lent a.self _ _ a.way.now a.f.index p.way)
 
 pub shrink-requires-clause-room : goal.shrink-requires-clause-room
 shrink-requires-clause-room c =

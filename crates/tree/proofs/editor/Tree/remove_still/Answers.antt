@@ -1,21 +1,15 @@
 use native.Mathlib.Omega.{arith}
 use borrow.Author.Tests.{not-false}
 use Rattle.tree.specs.laws.remove.LeafAloneSteps.{still_answer, still_ready, leaf_used, leaf_keyed, above_keys}
-use Rattle.tree.specs.laws.remove.LeafAloneSteps.{root_used}
-use borrow.Author.Rules.{rules}
 use Rattle.std.proofs.Common.{ap}
 use mathlib.Core.Bool.{not}
 use Rattle.tree.proofs.editor.Tree.remove_still.Goals as goal
 
-ruleset laws = (rules, root_used)
-
-pub still_above-requires : goal.still_above-requires
-still_above-requires c = search laws
-
 pub take_at-requires : goal.take_at-requires
 take_at-requires c =
+    let q = rw c.in_ok-n.was at c.still_leaf_of.ensures in
     let f = c.found_at-f.ensures in
-    record { ready = c.requires.ready; place = (leaf_used _ _ _ _ _ _ c.in-Some.ensures, f.within (not-false _ c.if-not-f.false), f.start) }
+    record { ready = c.requires.ready; place = record { slot = leaf_used _ _ _ _ _ _ q; index = f.within (not-false _ c.if-not-f.false); start = f.start } }
 
 pub overflow_sub-info : goal.overflow_sub-info
 overflow_sub-info c =
@@ -24,12 +18,12 @@ overflow_sub-info c =
 pub returns : goal.returns
 returns c =
     let p = c.requires in
-    let q = c.in-Some.ensures in
+    let q = rw c.in_ok-n.was at c.still_leaf_of.ensures in
     let f = c.found_at-f.ensures in
     let found = not-false _ c.if-not-f.false in
     let a = c.still_above.ensures (not-false _ (ap not c.if-not-still_above.false)) in
     let w = c.take_at in (
-      (λ l. still_answer _ _ _ _ _ _ _ p.ready p.bytes_value.0 (leaf_used _ _ _ _ _ _ c.in-Some.ensures) q _ f found a _ _ w.auto.heads w.auto.bytes w.ensures _ c.recounted-self.ensures l),
+      (λ l. still_answer _ _ _ _ _ _ _ p.ready p.bytes_value.0 (leaf_used _ _ _ _ _ _ q) q _ f found a _ _ w.auto.heads w.auto.bytes w.ensures _ c.recounted-self.ensures l),
       leaf_keyed _ _ _ _ _ _ q,
-      still_ready _ _ _ _ _ _ _ p.ready p.bytes_value.0 (leaf_used _ _ _ _ _ _ c.in-Some.ensures) q _ f found a _ _ w.auto.heads w.auto.bytes w.ensures,
+      still_ready _ _ _ _ _ _ _ p.ready p.bytes_value.0 (leaf_used _ _ _ _ _ _ q) q _ f found a _ _ w.auto.heads w.auto.bytes w.ensures,
     )

@@ -2,7 +2,7 @@ use lib.ListN.{length}
 use mathlib.Core.Path.{◌≡◌}
 use native.Mathlib.Omega.{arith}
 use Rattle.tree.specs.laws.base.Refused.{handed_on}
-use Rattle.tree.specs.laws.remove.Call.{remove_low, remove_lost, remove_some, remove_long, remove_index, remove_start, remove_few, remove_ready, remove_leaf, remove_back, remove_absent, remove_on_way, remove_stops, remove_done}
+use Rattle.tree.specs.laws.remove.Call.{remove_low, remove_lost, remove_some, remove_index, remove_start, remove_few, remove_ready, remove_leaf, remove_back, remove_absent, remove_on_way, remove_stops, remove_done}
 use borrow.Author.Rules.{rules}
 use Rattle.tree.proofs.editor.Tree.removed.Goals as goal
 
@@ -55,8 +55,7 @@ pub remove_on-requires-clause-ready : goal.remove_on-requires-clause-ready
 remove_on-requires-clause-ready c =
     let a = c.args in
     let w = c.way.ensures in
-    let j : length c.in_ok-w.w.steps ≡ 34 = search (rules, c.way.type_inv) in
-    (remove_ready a.image.now a.lent a.self _ _ c.requires.trusts _ c.level_at-level.ensures _ _ _ _ w.answer _ c.in_ok-w.was w.ready, remove_long a.image.now a.lent a.self _ _ c.requires.trusts _ c.level_at-level.ensures _ _ _ _ w.answer _ c.in_ok-w.was j)
+    remove_ready a.image.now a.lent a.self _ _ c.requires.trusts _ c.level_at-level.ensures _ _ _ _ w.answer _ c.in_ok-w.was w.ready
 
 pub remove_on-requires-clause-way : goal.remove_on-requires-clause-way
 remove_on-requires-clause-way c =

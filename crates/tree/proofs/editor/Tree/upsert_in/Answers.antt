@@ -1,14 +1,8 @@
-use Rattle.tree.specs.laws.upsert.Call.{in_refused, in_fits, in_put, upserted_trusts}
+use Rattle.tree.specs.laws.upsert.Call.{in_fits, in_put, upserted_trusts}
 use Rattle.tree.specs.laws.refusal1.EditCalls.{stays_trusts, edited_undone, edited_called}
 use borrow.Author.Rules.{rules}
 use Rattle.std.proofs.Common.{◌∙◌}
 use Rattle.tree.proofs.editor.Tree.upsert_in.Goals as goal
-
-pub returns-in_err-check-clause-answer : goal.returns-in_err-check-clause-answer
-returns-in_err-check-clause-answer c = search (rules, in_refused)
-
-pub undone-requires-clause-callable : goal.undone-requires-clause-callable
-undone-requires-clause-callable c = search (rules, stays_trusts, in_fits)
 
 pub returns-clause-answer : goal.returns-clause-answer
 returns-clause-answer c =

@@ -1,20 +1,9 @@
-use Rattle.tree.specs.laws.base.Refused.{handed_on}
-use Rattle.tree.specs.laws.upsert.Call.{went_few, went_low, went_refused, went_answer, went_gone, went_follows}
-use native.Mathlib.Omega.{arith}
+use Rattle.tree.specs.laws.upsert.Call.{went_low, went_answer, went_gone, went_follows}
 use borrow.Author.Rules.{rules}
 use Rattle.tree.proofs.editor.Tree.upserted.Goals as goal
 
 pub way-requires-clause-level_bound : goal.way-requires-clause-level_bound
 way-requires-clause-level_bound c = went_low _ _ _ _ _ c.requires.trusts _ c.level_at-level.ensures
-
-pub returns-in_err-w-clause-answer : goal.returns-in_err-w-clause-answer
-returns-in_err-w-clause-answer c =
-    rw (handed_on c.from_residual.result _ c.from_residual.ensures.1)
-    (went_refused _ _ _ _ _ c.requires.trusts _ c.level_at-level.ensures _ _ _ _ c.way.ensures.answer _ _ c.in_err-w.was)
-
-pub shared_ref_as_front-upsert_on : goal.shared_ref_as_front-upsert_on
-shared_ref_as_front-upsert_on c =
-    omega (arith, went_few _ _ _ _ _ c.requires.trusts _ c.level_at-level.ensures _ _ _ _ c.way.ensures.answer _ c.in_ok-w.was (search (rules, c.way.type_inv)))
 
 pub upsert_on-requires-clause-gone : goal.upsert_on-requires-clause-gone
 upsert_on-requires-clause-gone c =

@@ -1,4 +1,3 @@
-use Rattle.tree.specs.laws.base.Refused.{handed_on}
 use mathlib.Core.Path.{◌≡◌, ◌∙◌}
 use Prim.Native.Nat.{ℕ, ◌+◌, ◌-◌, ◌<◌}
 use lib.ListN.{length-set}
@@ -16,33 +15,6 @@ pub loop-k-init : goal.loop-k-init
 loop-k-init c =
     let e : c.args.level - 0 ≡ c.args.level = omega arith in
     (search laws, search laws, search laws, search laws, search laws, rw e (way_start _ _ _ _ _ _), search laws, follows_same _ _ _ _ _)
-
-pub way_index-i-requires : goal.way_index-i-requires
-way_index-i-requires c = search laws
-
-pub child_bounds-inner-requires : goal.child_bounds-inner-requires
-child_bounds-inner-requires c = search laws
-
-pub offset_bounds-steps-k : goal.offset_bounds-steps-k
-offset_bounds-steps-k c = search laws
-
-pub bounds-steps-k : goal.bounds-steps-k
-bounds-steps-k c = search laws
-
-pub offset_bounds-steps-last : goal.offset_bounds-steps-last
-offset_bounds-steps-last c = search laws
-
-pub bounds-steps-last : goal.bounds-steps-last
-bounds-steps-last c = search laws
-
-pub overflow_add-result : goal.overflow_add-result
-overflow_add-result c = search laws
-
-pub shape_of-heads : goal.shape_of-heads
-shape_of-heads c = search laws
-
-pub shape_of-bytes : goal.shape_of-bytes
-shape_of-bytes c = search laws
 
 pub returns : goal.returns
 returns c =
@@ -73,13 +45,6 @@ loop-k-preserved c =
       omega (arith, o.6, turn_more _ _ _ _ _ _ c.child_bounds-inner.result _ _ d _ _ _ _ hd c.way_index-i.ensures o.5 _ _ _ c.load_child.ensures.answer _ _ x),
       follows_on _ _ _ _ _ _ _ _ _ _ o.7 c.load_child.ensures.follows o.6,
     )
-
-pub returns-in_err-u-clause-answer : goal.returns-in_err-u-clause-answer
-returns-in_err-u-clause-answer c =
-    let o = c.loop-k.invariant in
-    let d : ℕ = c.args.level - c.loop-k.k in
-    let hd : 0 < d = omega (arith, c.loop-k-test.true) in
-    rw (handed_on c.from_residual.result _ c.from_residual.ensures.1) (turn_refused _ _ _ _ _ _ c.child_bounds-inner.result _ _ d _ _ _ _ hd c.way_index-i.ensures o.5 _ _ _ c.load_child.ensures.answer _ c.in_err-u.was)
 
 pub returns-in_err-u-clause-follows : goal.returns-in_err-u-clause-follows
 returns-in_err-u-clause-follows c =

@@ -8,6 +8,9 @@ ruleset laws = (rules, ready_part, ready_most, ready_few, slot_room, slot_used, 
 pub fits-requires : goal.fits-requires
 fits-requires c = search laws
 
+pub invariant_of-fits : goal.invariant_of-fits
+invariant_of-fits c = record { small = search laws }
+
 pub returns : goal.returns
 returns c = search laws
 

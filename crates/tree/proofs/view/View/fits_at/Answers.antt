@@ -11,6 +11,9 @@ returns-then-h-eq1 c = search laws
 pub fits-requires : goal.fits-requires
 fits-requires c = search laws
 
+pub invariant_of-fits : goal.invariant_of-fits
+invariant_of-fits c = record { small = search laws }
+
 pub returns : goal.returns
 returns c = search laws
 

@@ -1,8 +1,5 @@
-use Rattle.tree.specs.laws.slots.Records.{key_past, key_found}
+use Rattle.tree.specs.laws.slots.Records.{key_found}
 use Rattle.tree.proofs.view.View.key_at.Goals as goal
-
-pub returns-then-records-i : goal.returns-then-records-i
-returns-then-records-i c = key_past _ _ _ c.records-records.ensures.entries _ c.if-records-i.true
 
 pub returns : goal.returns
 returns c =

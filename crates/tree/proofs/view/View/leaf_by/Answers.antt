@@ -1,4 +1,3 @@
-use Rattle.std.proofs.Common.{arith}
 use Rattle.tree.specs.laws.load.LoadedWay.{leading_turn, led_end}
 use Rattle.tree.proofs.view.View.leaf_by.Goals as goal
 
@@ -8,4 +7,4 @@ loop-i-preserved g c =
 
 pub returns : goal.returns
 returns g c =
-    led_end _ _ c.args.self.tree _ _ _ _ c.keyed.ensures c.if-not-keyed.false _ c.level_at-level.ensures _ _ c.loop-i-test.false c.loop-i.invariant (omega (arith, c.if-self-n.false))
+    led_end _ _ c.args.self.tree _ _ _ _ c.keyed.ensures c.if-not-keyed.false _ c.level_at-level.ensures _ _ c.loop-i-test.false c.loop-i.invariant _ c.then_some.ensures

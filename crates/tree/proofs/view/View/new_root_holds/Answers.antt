@@ -4,11 +4,5 @@ use Rattle.tree.proofs.view.View.new_root_holds.Goals as goal
 
 ruleset laws = (rules, root_deep, left_small, right_small, root_sums)
 
-pub returns-then-level-ge-MOST_LEVEL : goal.returns-then-level-ge-MOST_LEVEL
-returns-then-level-ge-MOST_LEVEL c = search laws
-
 pub fits_two-requires : goal.fits_two-requires
 fits_two-requires c = search laws
-
-pub returns : goal.returns
-returns c = search laws

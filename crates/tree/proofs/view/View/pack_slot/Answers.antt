@@ -5,20 +5,8 @@ use Rattle.tree.proofs.view.View.pack_slot.Goals as goal
 
 ruleset laws = (rules, block_small, block_room, block_fits, block_packed, ready_part, ready_most, ready_few)
 
-pub live_at-h-requires : goal.live_at-h-requires
-live_at-h-requires c = search laws
-
-pub slot_of-part-requires : goal.slot_of-part-requires
-slot_of-part-requires c = search laws
-
-pub pack-requires : goal.pack-requires
-pack-requires c = record { tree = search laws; block = search laws; small = search laws; fit = search laws }
-
-pub shape_of-dst : goal.shape_of-dst
-shape_of-dst c = search laws
-
-pub returns : goal.returns
-returns c = search laws
+pub pack-requires-clause-small : goal.pack-requires-clause-small
+pack-requires-clause-small c = search laws
 
 pub invariant_of-records : goal.invariant_of-records
 invariant_of-records c = record { within = search laws }

@@ -11,8 +11,8 @@ live_at-h-requires c = search laws
 pub slot_of-part-requires : goal.slot_of-part-requires
 slot_of-part-requires c = search laws
 
-pub packed_length-requires : goal.packed_length-requires
-packed_length-requires c = search laws
+pub invariant_of-packed_length : goal.invariant_of-packed_length
+invariant_of-packed_length c = record { small = search laws }
 
 pub returns : goal.returns
 returns c = search laws

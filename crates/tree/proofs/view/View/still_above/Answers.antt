@@ -1,20 +1,18 @@
-use Rattle.tree.specs.laws.remove.LeafAloneSteps.{above_not, above_is}
-use borrow.Author.Rules.{rules}
+use Rattle.std.proofs.Common.{rules, tests, ◌∙◌, sym}
+use Rattle.tree.specs.laws.remove.LeafAloneSteps.{above_is}
+use Rattle.tree.proofs.view.View.still_above.Goals.{then-i-ne0, else-i-ne0, then-dirty_at, else-dirty_at, then-dirty_at-2, else-dirty_at-2}
 use Rattle.tree.proofs.view.View.still_above.Goals as goal
 
-ruleset laws = (rules, above_not, above_is)
-
-pub returns-then-i-eq0 : goal.returns-then-i-eq0
-returns-then-i-eq0 c = λ q. search laws
-
-pub returns-then-not-dirty_at : goal.returns-then-not-dirty_at
-returns-then-not-dirty_at c = λ q. search laws
-
-pub returns-then-not-dirty_at-2 : goal.returns-then-not-dirty_at-2
-returns-then-not-dirty_at-2 c = λ q. search laws
-
-pub returns-then-self-eq0 : goal.returns-then-self-eq0
-returns-then-self-eq0 c = λ q. search laws
-
-pub returns : goal.returns
-returns c = λ q. search laws
+pub returns-then-self-ne0 : goal.returns-then-self-ne0
+returns-then-self-ne0 c = λ q. elim c.if-dirty_at-2.branch [
+  | then-dirty_at-2 z ↦ elim c.if-dirty_at.branch [
+    | then-dirty_at y ↦ elim c.if-i-ne0.branch [
+      | then-i-ne0 x ↦
+          above_is _ _ _ _ _ _ c.requires.0 c.requires.1 x.if-i-ne0.true _ _ x.dirty_at.ensures (sym x.value-is ∙ y.if-dirty_at.true)
+          y.dirty_at-then-dirty_at.ensures (sym y.value-is ∙ z.if-dirty_at-2.true) _ z.value-is c.if-self-ne0.true _ c.has_only_child.ensures q
+      | else-i-ne0 x ↦ search (rules, tests)
+    ]
+    | else-dirty_at y ↦ search (rules, tests)
+  ]
+  | else-dirty_at-2 z ↦ search (rules, tests)
+]

@@ -5,24 +5,6 @@ use Rattle.tree.proofs.view.View.way_loaded.Goals as goal
 
 ruleset laws = (rules, onward_start, onward_turn, walked_end, walked_not)
 
-pub loop-k-init : goal.loop-k-init
-loop-k-init c = search laws
-
-pub offset_bounds-steps-k : goal.offset_bounds-steps-k
-offset_bounds-steps-k c = search laws
-
-pub bounds-steps-k : goal.bounds-steps-k
-bounds-steps-k c = search laws
-
-pub offset_bounds-steps-last : goal.offset_bounds-steps-last
-offset_bounds-steps-last c = search laws
-
-pub bounds-steps-last : goal.bounds-steps-last
-bounds-steps-last c = search laws
-
-pub overflow_add-result : goal.overflow_add-result
-overflow_add-result c = search laws
-
 pub returns : goal.returns
 returns c =
     let o = c.loop-k.invariant in
@@ -35,5 +17,5 @@ loop-k-preserved c =
     let p = c.requires.level_bound in
     let d = c.loop-k-test.true in (
       search laws,
-      onward_turn _ _ _ _ _ _ _ _ _ o.1 (omega (arith, d, p, o.0)) d _ c.taken.ensures _ c.in-Some.is,
+      onward_turn _ _ _ _ _ _ _ _ _ o.1 (omega (arith, d, p, o.0)) d _ c.taken.ensures _ c.in_ok-t.was,
     )
