@@ -19,17 +19,10 @@ use crate::space::Chunks;
 use tree::editor::Tree;
 use tree::head::Head;
 use tree::lent::Lent;
-use tree::record::Record;
+use tree::obj::{OBJ_PHYSICAL, OBJ_VIRTUAL, OBJECT_TYPE_BTREE, OBJECT_TYPE_BTREE_NODE};
 use tree::refusal::Refusal;
 use tree::view::View;
 use tree::{bank, block, kids, lent, pack};
-
-// B-tree root and node, and the storage class of a physical one.
-const BTREE: u64 = 2;
-
-const BTREE_NODE: u64 = 3;
-
-const PHYSICAL: u64 = 0x40000000;
 
 // How far a flush has come: the next id, and how much stands in each list.
 #[derive(Clone, Copy)]
@@ -83,6 +76,7 @@ struct Reports<'r> {
 
 impl<'r> Reports<'r> {
     // Dead nodes, in slot order: address to freed, id (virtual) to removed.
+    #[tactic(auto, using(crate::specs::laws::StepLaws::starting))]
     fn list_dead(&mut self, t: Tree, heads: &[u64])
         requires { (t.used * 9 ≤ length heads.now) × (t.used ≤ length self.old.freed.now) × (t.used ≤ length self.old.removed.now) }
         ensures listed { Reported t.by_id t.used self.old.done.next heads.now self.old.freed.now self.old.removed.now
@@ -142,6 +136,7 @@ fn wanted_at(by_id: bool, head: Head, s: Wanted) -> Wanted
 }
 
 // The sums over the nodes reached from slot n, d levels down; they stop above a limit.
+#[tactic(auto, using(crate::specs::laws::TallyLaws::tallying))]
 fn count_from(v: View<'_, '_>, n: usize, d: u64, limit: u64, s: Wanted) -> Wanted
     requires { (s.dirty ≤ limit + 1) × (s.ids ≤ s.dirty) × (limit < 2 ^ 32) }
     ensures { Counted limit (sum_from dirty_one d (seen v.entry) n) (sum_from (id_one v.entry.tree.by_id) d (seen v.entry) n) s result 0 0 }
@@ -157,13 +152,9 @@ fn count_from(v: View<'_, '_>, n: usize, d: u64, limit: u64, s: Wanted) -> Wante
     if d == 0 {
         return sum;
     }
-    let part = bank::slot_of(v.bytes, v.lent.size, n);
-    let mut at = 0;
-    for _i in 0..h.count {
-        let r = Record { slot: part, at };
-        let kid = kids::kid_of(r);
-        at = r.next();
-        let Some(slot) = kid else {
+    let records = v.records(n);
+    for (_, r) in records.walk() {
+        let Some(slot) = kids::kid_of(r) else {
             continue;
         };
         sum = count_from(v, slot, d - 1, limit, sum);
@@ -181,20 +172,18 @@ fn fill(v: View<'_, '_>) -> u64
     n * 100 / v.tree.root_space()
 }
 
-#[tactic(auto, using(crate::specs::laws::WriteLaws::typing))]
+// The type of a node's block, with its storage class.
+#[tactic(auto, unfolding(crate::specs::Flush::type_of))]
 fn type_of(by_id: bool, root: bool) -> u64
     ensures { result ≡ type_of by_id root }
 {
-    if by_id {
-        if root {
-            return BTREE;
-        }
-        return BTREE_NODE;
-    }
-    if root {
-        return PHYSICAL + BTREE;
-    }
-    PHYSICAL + BTREE_NODE
+    let storage = if by_id { OBJ_VIRTUAL } else { OBJ_PHYSICAL };
+    let kind = if root {
+        OBJECT_TYPE_BTREE
+    } else {
+        OBJECT_TYPE_BTREE_NODE
+    };
+    storage | kind
 }
 
 // The id of a node that is written: the next where it takes one, else its own.
@@ -224,6 +213,7 @@ struct Source<'s> {
 
 impl<'s> Source<'s> {
     // A node packed and sealed into the block that it is given.
+    #[tactic(auto, using(crate::specs::laws::BlockLaws::start_small))]
     fn pack_at(self, image: &mut [u8], heads: &[u64], n: usize, a: usize, oid: u64)
         requires standing { StandsIn self heads.now }
         requires dirty { DirtyIn self heads.now n }
@@ -242,6 +232,7 @@ impl<'s> Source<'s> {
     }
 
     // A dirty node in the block chosen for it: its old one freed, packed and sealed, clean.
+    #[tactic(auto, using(crate::specs::laws::TallyLaws::words_room))]
     fn write_at(
         self,
         image: &mut [u8],
@@ -283,6 +274,7 @@ impl<'s> Source<'s> {
     }
 
     // A node after its children: a clean one stays; a dirty one takes the block chosen.
+    #[tactic(auto, using(crate::specs::laws::StepLaws::spaced_held, crate::specs::laws::TallyLaws::words_room))]
     fn write_node(
         self,
         image: &mut [u8],
@@ -340,14 +332,15 @@ impl<'s> Source<'s> {
             self.write_node(image, bitmap, free, heads, lists, n);
             return;
         }
-        let h = bank::live_at(heads, n);
-        let part = bank::slot_of(self.bytes, self.lent.size, n);
-        let mut at = 0;
-        for _i in 0..h.count {
-            let r = Record { slot: part, at };
-            let kid = kids::kid_of(r);
-            at = r.next();
-            let Some(slot) = kid else {
+        let view = View {
+            tree: self.tree,
+            heads,
+            bytes: self.bytes,
+            lent: self.lent,
+        };
+        let records = view.records(n);
+        for (_, r) in records.walk() {
+            let Some(slot) = kids::kid_of(r) else {
                 continue;
             };
             self.write_from(image, bitmap, free, heads, lists, slot, d - 1);
@@ -382,6 +375,7 @@ fn lists_hold(
 }
 
 // 16 fewer usable blocks than dirty nodes reached, 17 too few ids left.
+#[tactic(auto, using(crate::specs::laws::AllLaws::usable_few))]
 fn short_of(v: View<'_, '_>, chunks: Chunks<'_>, next: u64) -> Result<(), Refusal>
     ensures { result ≡ short_of (seen v.entry)
         (usable chunks.entry.size (space_of chunks.entry.bitmap.now chunks.entry.counts.now chunks.entry.free.now)) next }
@@ -443,6 +437,7 @@ impl<'s> Source<'s> {
 }
 
 // Flush on slots that are trusted: 1 of chunks and lists; 16; 17. It refuses before it writes.
+#[tactic(auto, using(crate::specs::laws::CallLaws::refusing))]
 pub fn flush_in(
     t: Tree,
     image: &mut [u8],
@@ -517,6 +512,7 @@ pub fn flush_in(
 }
 
 // What was changed is written, and the lists are filled: 1; 16; 17.
+#[tactic(auto, using(crate::specs::laws::CallLaws::unlent))]
 pub fn flush(
     t: Tree,
     image: &mut [u8],

@@ -1,6 +1,6 @@
 // Blocks: the bitmap's bits, the choice of a block, the usable blocks (`alloc` of write/space.rs).
 // A chunk's block count and free count are u32, as they are lent (RULES: lent).
-ghost use Rattle.std.specs.Prelude.{◌≡◌, [], cond, ◌+◌, ◌*◌, ◌/◌, ◌%◌, ◌≤◌, ◌<◌, ◌^◌, length, get_or, eqb, option_to_list};
+ghost use Rattle.std.specs.Prelude.{◌≡◌, [], cond, ◌&&◌, leb, ◌+◌, ◌*◌, ◌/◌, ◌%◌, ◌≤◌, ◌<◌, ◌^◌, length, get_or, eqb, option_to_list};
 ghost use Rattle.flush.specs.Space.{chunk_blocks, is_used, mark_used, first_zero, first_free, zeros_below, zeros, choose, choice_means, space_of, allocated, lesser, usable, chunks_hold, space_holds, Held};
 
 // The block that an allocation takes, and its chunk.
@@ -37,6 +37,7 @@ pub fn mark_used(bitmap: &mut [u8], a: usize)
 }
 
 // The lowest of n blocks from a on that is free, a whole byte at a time: a chunk's bits start at a byte.
+#[tactic(auto, using(crate::specs::laws::SpaceSteps::first))]
 pub fn first_free(bitmap: &[u8], a: usize, n: usize) -> Option<usize>
     requires { (a % 8 ≡ 0) × (a + n ≤ 8 * length bitmap.now) × (length bitmap.now ≤ 2 ^ 25) }
     ensures { option_to_list result ≡ first_free bitmap.now n a }
@@ -68,11 +69,9 @@ pub fn zeros(bitmap: &[u8], a: usize, n: usize) -> usize
     requires { (a % 8 ≡ 0) × (a + n ≤ 8 * length bitmap.now) × (length bitmap.now ≤ 2 ^ 25) }
     ensures { (result ≡ zeros bitmap.now n a) × (result ≤ n) }
 {
-    let mut sum = 0;
-    for i in (0..n).step_by(8) {
-        sum += zeros_in(bitmap[(a + i) / 8], (n - i).min(8));
-    }
-    sum
+    (0..n.div_ceil(8))
+        .map(|k| zeros_in(bitmap[a / 8 + k], (n - 8 * k).min(8)))
+        .sum()
 }
 
 // The chunks that are lent: a block of the bitmap for each, and its two counts. They hold.
@@ -101,6 +100,7 @@ impl<'a> Chunks<'a> {
     }
 
     // The block to take: the lowest free one of the first chunk that has one and a free count.
+    #[tactic(auto, using(crate::specs::laws::SpaceSteps::choosing))]
     pub fn choose(self) -> Option<Choice>
         ensures { choice_means result ≡ choose self.entry.size (space_of self.entry.bitmap.now self.entry.counts.now self.entry.free.now) }
     {
@@ -128,15 +128,13 @@ impl<'a> Chunks<'a> {
     pub fn usable(self) -> u64
         ensures { result ≡ usable self.entry.size (space_of self.entry.bitmap.now self.entry.counts.now self.entry.free.now) }
     {
-        let mut sum = 0;
-        for c in 0..self.counts.len() {
-            sum += self.usable_in(c);
-        }
+        let sum: usize = (0..self.counts.len()).map(|c| self.usable_in(c)).sum();
         sum as u64
     }
 }
 
 // Takes the block chosen: its bit set, its chunk's free count less one.
+#[tactic(auto, using(crate::specs::laws::SpaceSteps::taking))]
 pub fn alloc(bitmap: &mut [u8], counts: &[u32], free: &mut [u32], size: usize) -> Option<Choice>
     requires { Held size (space_of bitmap.old counts.now free.old) }
     ensures answer { choice_means result ≡ choose size (space_of bitmap.old counts.now free.old) }
@@ -155,29 +153,23 @@ pub fn alloc(bitmap: &mut [u8], counts: &[u32], free: &mut [u32], size: usize) -
     Some(choice)
 }
 
-// Whether each chunk's block count is at most a chunk's blocks, and its blocks lie in the image. `left` is how many blocks the image
-// has from the chunk's first on. No product is made before it is known to fit, so nothing is asked of size and blocks.
+// Whether a chunk's block count is at most a chunk's blocks, and its blocks lie in the image. Nothing is asked of size and blocks,
+// so the chunk's first block is no product: that may not fit.
+#[tactic(auto, using(crate::specs::laws::SpaceSteps::chunking))]
+fn chunk_holds(c: usize, n: usize, size: usize, blocks: usize) -> bool
+    ensures { result ≡ leb n (chunk_blocks size) && leb (c * chunk_blocks size + n) blocks }
+{
+    n.div_ceil(8) <= size && n <= blocks && (size == 0 || c <= (blocks - n) / 8 / size)
+}
+
+// The same of each chunk.
 pub fn chunks_hold(counts: &[u32], size: usize, blocks: usize) -> bool
     ensures { result ≡ chunks_hold size blocks 0 counts.now }
 {
-    let mut left = blocks;
-    for (c, &count) in counts.iter().enumerate() {
-        let n = count as usize;
-        if size < n.div_ceil(8) {
-            return false;
-        }
-        if left < n {
-            return false;
-        }
-        if c + 1 == counts.len() {
-            return true;
-        }
-        if left / 8 < size {
-            return false;
-        }
-        left -= 8 * size;
-    }
-    true
+    counts
+        .iter()
+        .enumerate()
+        .all(|(c, &n)| chunk_holds(c, n as usize, size, blocks))
 }
 
 // Whether the bitmap has a block, and there are two counts, for each chunk, and the chunks hold. The chunks come first: the product fits then.

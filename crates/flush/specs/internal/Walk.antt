@@ -1,6 +1,6 @@
 -- The walk of flush as its code goes: the lent words and lists as a `Flushing`, what a step asks, and what it leaves.
 use Rattle.std.specs.Prelude.{◌≡◌, List, [], map, true, false, cond, ◌&&◌, ℕ, ◌+◌, ◌-◌, ◌*◌, ◌/◌, ◌^◌, ◌≤◌, ◌<◌, length, get_or, drop, eqb}
-use Rattle.tree.specs.Format.{splice, records_length, entries_of, mem, val_at, Sized, fits, pack_node, numbered}
+use Rattle.tree.specs.Format.{splice, entries_of, mem, val_at, Sized, fits, pack_node, numbered}
 use Rattle.tree.specs.Lent.{is_size}
 use Rattle.tree.specs.State.{State, no_node, node_at}
 use Rattle.tree.specs.Workspace.{nodes_of, state_of}
@@ -101,10 +101,8 @@ pub record WroteAt (size : ℕ) (t : Tree) (xid n a : ℕ) (image image' heads h
       ≡ write_at (state_of size t heads bytes) xid n (record { chunk = c; block = a }) (flushing_of size t image p heads bytes freed ids places w)
 
 -- a walk over the children of a node: i of so many records are passed; what is left of the walk gives what the whole gives
-pub record Going (size slots blocks : ℕ) (t : Tree) (xid d count i at : ℕ) (part cs bytes : List ℕ) (image₀ bm₀ fr₀ heads₀ fs₀ is₀ ps₀ : List ℕ)
+pub record Going (size slots blocks : ℕ) (t : Tree) (xid d count i : ℕ) (part cs bytes : List ℕ) (image₀ bm₀ fr₀ heads₀ fs₀ is₀ ps₀ : List ℕ)
     (w : code.Flushing) (image bm fr heads fs is ps : List ℕ) (v : code.Flushing) : Type 0 where
-  pub passed : i ≤ count
-  pub place : at ≡ records_length i part
   pub rest : write_kids (write_from (d - 1) (state_of size t heads₀ bytes) xid) (drop i (entries_of count part))
       (flushing_of size t image (space_of bm cs fr) heads bytes fs is ps v)
       ≡ write_kids (write_from (d - 1) (state_of size t heads₀ bytes) xid) (entries_of count part)

@@ -274,3 +274,7 @@ module _ (l : lending.Lent) (t : Tree) (image heads bytes : List ℕ) (k : Bool)
       roomy_holds l.size l.slots t heads' bytes h.1 (alike_roomy (2 * l.size) (state_of l.size t heads bytes)
           (state_of l.size t heads' bytes) h.2 (holds_roomy l.size l.slots t heads bytes r held)),
     )
+
+pub ruleset refusing = (slots_some, in_lent, untouched)
+
+pub ruleset unlent = (untouched, flush_refused)

@@ -6,14 +6,12 @@ use mathlib.Core.List.{List, [], ◌∷◌}
 use Prim.Native.Nat.{ℕ, suc, ◌+◌, ◌-◌, ◌≤◌, ◌<◌}
 use native.Mathlib.Omega.{arith}
 use Rattle.std.proofs.Math.ListN.{length, get_or}
-use Rattle.tree.specs.Format.{Entry, Val, ghost, leaf, disk, mem, val_at, MemNode, Head, head_at, record_length, records_length, entry_of, entries_of}
+use Rattle.tree.specs.Format.{Entry, Val, ghost, leaf, disk, mem, val_at, MemNode, records_length, entry_of, entries_of}
 use Rattle.tree.specs.State.{State, node_at}
-use Rattle.tree.specs.Workspace.{slot_bytes, state_of}
-use Rattle.tree.specs.internal.Bank.{node_in, live, Ready}
+use Rattle.tree.specs.Workspace.{state_of}
+use Rattle.tree.specs.internal.Bank.{node_in}
 use Rattle.tree.specs.internal.Kids.{slots_of, kid_means}
-use Rattle.tree.specs.laws.base.NodeSlots.{at_next, entries_head, length_entries}
-use Rattle.tree.specs.laws.slots.Bank.{live_entries}
-use Rattle.tree.specs.laws.slots.OneSlot.{slot_room}
+use Rattle.tree.specs.laws.base.NodeSlots.{entries_head, length_entries}
 use Rattle.tree.specs.laws.state.State.{by_val}
 use Rattle.tree.specs.laws.slots.Tree.{node_in_lem}
 use Rattle.tree.specs.declared.editor.Tree.{Tree}
@@ -72,25 +70,12 @@ leaf_wrote d s xid n w e x q = q ∙ leaf_is d s xid n w e
 
 -- ---- the records of a node that is no leaf
 
-pub kids_count : (h w : Head) → h ≡ w → h.count ≡ w.count
-kids_count h w e = ap (λ (x : Head). x.count) e
-
-module _ (size slots n d : ℕ) (t : Tree) (heads bytes part : List ℕ) (count : ℕ) (nz : d ≡ 0 → ⊥) (ec : count ≡ (live (head_at heads n)).count)
-    (is : part ≡ slot_bytes size bytes n) (r : Ready size slots t.used heads bytes) (hn : n < t.used) where
-  pub kids_room : records_length count part ≤ length part
-  unfolding live
-  kids_room = rw ec (slot_room size slots t.used n heads bytes r hn part is (live (head_at heads n)) refl)
-
-  node_records : (node_at (state_of size t heads bytes) n).entries ≡ entries_of count part
-  unfolding node_in live
-  node_records =
-      ap (λ (m : MemNode). m.entries) (node_in_lem size t heads bytes n hn) ∙ live_entries (head_at heads n) (slot_bytes size bytes n)
-      ∙ rw (ec, is)
-
+module _ (size n d : ℕ) (t : Tree) (heads bytes part : List ℕ) (count : ℕ) (nz : d ≡ 0 → ⊥)
+    (en : (node_at (state_of size t heads bytes) n).entries ≡ entries_of count part) where
   whole_deep : (xid : ℕ) (w : Flushing) (e : ℕ) → d ≡ suc e → write_node (state_of size t heads bytes) xid n (write_kids
       (write_from (d - 1) (state_of size t heads bytes) xid) (entries_of count part) w) ≡ write_from d (state_of size t heads bytes) xid n w
   unfolding write_from
-  whole_deep xid w e z = let k : suc e - 1 ≡ e = omega arith in rw (← node_records, z, k)
+  whole_deep xid w e z = let k : suc e - 1 ≡ e = omega arith in rw (← en, z, k)
 
   -- children first, then the node
   whole_is : (xid : ℕ) (w : Flushing) → write_node (state_of size t heads bytes) xid n
@@ -108,36 +93,28 @@ module _ (size slots blocks xid n d : ℕ) (t : Tree) (part cs bytes image₀ bm
   start = flushing_of size t image₀ (space_of bm₀ cs fr₀) heads₀ bytes fs₀ is₀ ps₀ w
 
   pub go_start : Standing size slots t heads₀ bytes → Spaced size blocks (space_of bm₀ cs fr₀)
-      → Going size slots blocks t xid d count 0 0 part cs bytes image₀ bm₀ fr₀ heads₀ fs₀ is₀ ps₀ w image₀ bm₀ fr₀ heads₀ fs₀ is₀ ps₀ w
-  unfolding records_length
+      → Going size slots blocks t xid d count 0 part cs bytes image₀ bm₀ fr₀ heads₀ fs₀ is₀ ps₀ w image₀ bm₀ fr₀ heads₀ fs₀ is₀ ps₀ w
   go_start st sp = record {
-    passed = omega arith;
-    place = refl;
     rest = refl;
     left = left_same size slots t heads₀ bytes fs₀ is₀ ps₀ w st;
     spaced = sp;
   }
 
-  module _ (i at : ℕ) (image bm fr heads fs is ps : List ℕ) (v : code.Flushing)
-      (g : Going size slots blocks t xid d count i at part cs bytes image₀ bm₀ fr₀ heads₀ fs₀ is₀ ps₀ w image bm fr heads fs is ps v) where
+  module _ (i : ℕ) (image bm fr heads fs is ps : List ℕ) (v : code.Flushing)
+      (g : Going size slots blocks t xid d count i part cs bytes image₀ bm₀ fr₀ heads₀ fs₀ is₀ ps₀ w image bm fr heads fs is ps v) where
     abbrev now : Flushing
     now = flushing_of size t image (space_of bm cs fr) heads bytes fs is ps v
 
-    module _ (hi : i < count) (k : Option ℕ) (next : ℕ) (ek : kid_means k ≡ slots_of (entry_of (drop at part)).value) (en : next
-        ≡ at + record_length (drop at part)) where
+    module _ (hi : i < count) (at : ℕ) (ea : at ≡ records_length i part) (k : Option ℕ)
+        (ek : kid_means k ≡ slots_of (entry_of (drop at part)).value) where
       next_is : drop i (entries_of count part) ≡ entry_of (drop at part) ∷ drop (i + 1) (entries_of count part)
-      next_is = entries_head i count at part hi g.place
-
-      place_is : next ≡ records_length (i + 1) part
-      place_is = at_next part i at next g.place en
+      next_is = entries_head i count at part hi ea
 
       pub go_skip : k ≡ None
-          → Going size slots blocks t xid d count (i + 1) next part cs bytes image₀ bm₀ fr₀ heads₀ fs₀ is₀ ps₀ w image bm fr heads fs is ps v
+          → Going size slots blocks t xid d count (i + 1) part cs bytes image₀ bm₀ fr₀ heads₀ fs₀ is₀ ps₀ w image bm fr heads fs is ps v
       go_skip h =
           let z = kid_out k (entry_of (drop at part)).value ek h in
           record {
-            passed = omega arith;
-            place = place_is;
             rest = sym (ap (λ (es : List Entry). write_kids (write_from (d - 1) s₀ xid) es now) next_is
                 ∙ kids_out (write_from (d - 1) s₀ xid) (entry_of (drop at part)) (drop (i + 1) (entries_of count part)) now z) ∙ g.rest;
             left = g.left;
@@ -163,21 +140,17 @@ module _ (size slots blocks xid n d : ℕ) (t : Tree) (part cs bytes image₀ bm
             ≡ write_from (d - 1) (state_of size t heads bytes) xid kid (flushing_of size t image (space_of bm cs fr) heads bytes fs is ps v)
             → Left size slots t heads heads' bytes fs fs' is is' ps ps' v v' → Spaced size blocks (space_of bm' cs fr')
             → Going size slots blocks t xid d count (i + 1)
-            next part cs bytes image₀ bm₀ fr₀ heads₀ fs₀ is₀ ps₀ w image' bm' fr' heads' fs' is' ps' v'
+            part cs bytes image₀ bm₀ fr₀ heads₀ fs₀ is₀ ps₀ w image' bm' fr' heads' fs' is' ps' v'
         go_turn image' bm' fr' heads' fs' is' ps' v' e l sp = record {
-          passed = omega arith;
-          place = place_is;
           rest = ap (write_kids (write_from (d - 1) s₀ xid) (drop (i + 1) (entries_of count part))) (e ∙ child_is) ∙ on_is;
           left = left_on size slots t heads₀ heads heads' bytes fs₀ fs fs' is₀ is is' ps₀ ps ps' w v v' g.left l;
           spaced = sp;
         }
 
-        module _ (nz : d ≡ 0 → ⊥) (ec : count ≡ (live (head_at heads₀ n)).count) (ep : part ≡ slot_bytes size bytes n)
-            (r : Ready size slots t.used heads₀ bytes) (hn : n < t.used) where
+        module _ (nz : d ≡ 0 → ⊥) (en : (node_at (state_of size t heads₀ bytes) n).entries ≡ entries_of count part) (hn : n < t.used) where
           entries_are : (node_in size heads bytes n).entries ≡ entries_of count part
           entries_are =
-              sym (ap (λ (m : MemNode). m.entries) (node_in_lem size t heads bytes n hn)) ∙ g.left.alike.entries n
-              ∙ node_records size slots n d t heads₀ bytes part count nz ec ep r hn
+              sym (ap (λ (m : MemNode). m.entries) (node_in_lem size t heads bytes n hn)) ∙ g.left.alike.entries n ∙ en
 
           pub go_alive : Alive size t heads bytes kid
           unfolding val_at
@@ -202,12 +175,12 @@ module _ (size slots blocks xid n d : ℕ) (t : Tree) (part cs bytes image₀ bm
               grows_kids (write_from (d - 1) s₀ xid) (grows_from (d - 1) s₀ xid) (drop (i + 1) (entries_of count part)) u in
               let p' : Grows u x = rw on_is at p in
               let o : Grows u (write_node s₀ xid n x) = grows_on u x (write_node s₀ xid n x) p' (grows_node s₀ xid n x) in
-              let f' : Fitting a b c (write_node s₀ xid n x) = rw (whole_is size slots n d t heads₀ bytes part count nz ec ep r hn xid start) f in
+              let f' : Fitting a b c (write_node s₀ xid n x) = rw (whole_is size n d t heads₀ bytes part count nz en xid start) f in
               rw child_is (fitting_less a b c u (write_node s₀ xid n x) o f')
 
     -- the end of the loop, and the node
-    module _ (nz : d ≡ 0 → ⊥) (ec : count ≡ (live (head_at heads₀ n)).count) (ep : part ≡ slot_bytes size bytes n)
-        (r : Ready size slots t.used heads₀ bytes) (al : Alive size t heads₀ bytes n) (hi : count ≤ i) where
+    module _ (nz : d ≡ 0 → ⊥) (en : (node_at (state_of size t heads₀ bytes) n).entries ≡ entries_of count part)
+        (al : Alive size t heads₀ bytes n) (hi : count ≤ i) where
       kids_are : now ≡ write_kids (write_from (d - 1) s₀ xid) (entries_of count part) start
       unfolding write_kids
       kids_are =
@@ -216,7 +189,7 @@ module _ (size slots blocks xid n d : ℕ) (t : Tree) (part cs bytes image₀ bm
 
       end_is : write_node (state_of size t heads bytes) xid n now ≡ write_from d s₀ xid n start
       end_is = node_alike size t heads₀ heads bytes xid n now ∙ ap (write_node s₀ xid n) kids_are
-          ∙ whole_is size slots n d t heads₀ bytes part count nz ec ep r al.used xid start
+          ∙ whole_is size n d t heads₀ bytes part count nz en xid start
 
       pub end_alive : Alive size t heads bytes n
       end_alive = record {

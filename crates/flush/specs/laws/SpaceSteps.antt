@@ -4,12 +4,13 @@ use Rattle.std.proofs.Math.Path.{refl, sym, ap}
 use Rattle.std.proofs.Common.{ap₂, ◌∙◌, pow-suc, mul-le-mul_right, mul_left_comm, add-zero, add-one, length-set, drop_of_length-le, pow_pos, shl_exact}
 use mathlib.Core.List.{List, [], ◌∷◌}
 use Rattle.std.proofs.Math.Bool.{true, false, cond}
-use Rattle.std.proofs.Math.Nat.{div-div-eq-div-mul, zero-add, mul-mod_right}
+use Rattle.std.proofs.Math.Nat.{div-div-eq-div-mul, div-mul-le_self, lt-div-mul-add, zero-add, mul-mod_right}
 use native.Mathlib.Omega.{arith}
 use Rattle.std.proofs.Math.ListN.{length, get_or}
 use Rattle.std.proofs.lemmas.List.{set-get_or}
 use Rattle.std.proofs.Math.Seq.{drop-cons}
 use Rattle.std.proofs.Math.Dec.{leb}
+use Rattle.std.specs.List.{fold, sum_by, range_with_len, enumerate_from, list_all}
 use Rattle.std.specs.Int.Bits.{bit_and, bit_or, or_add_and}
 use Rattle.std.proofs.lemmas.Nat.{and_mask, mod-pow-add}
 use Rattle.std.proofs.lemmas.Nat.Bits.{and_high}
@@ -232,7 +233,7 @@ unfolding lesser
 lesser_is a b = by_test (leb a b) (λ t. let h : a ≤ b = leb-true a b t in rw t (omega arith))
     (λ t. let h : b < a = leb-false a b t in rw t (omega arith))
 
--- ---- zeros: i bits are passed
+-- ---- zeros
 
 zeros_split : (bm : List ℕ) (k m a : ℕ) → zeros bm (k + m) a ≡ zeros bm k a + zeros bm m (a + k)
 unfolding zeros
@@ -260,22 +261,16 @@ zeros_first bm a k e h =
     let i : zeros bm k (a + 0) ≡ zeros_below k (get_or bm (a / 8) 0 / 2 ^ 0) = zeros_byte bm a k 0 e (omega arith) in
     rw (o, s) at i
 
-zeros_most : (bm : List ℕ) (n a : ℕ) → zeros bm n a ≤ n
+pub zeros_most : (bm : List ℕ) (n a : ℕ) → zeros bm n a ≤ n
 unfolding zeros
 zeros_most bm zero a = omega arith
 zeros_most bm (suc n) a = let i = zeros_most bm n (suc a) in by_test (is_used bm a) (λ t. rw t (omega arith)) (λ t. rw t (omega arith))
-
-zeros_bound : (bm : List ℕ) (n a r : ℕ) → r ≡ zeros bm n a → r ≤ n
-zeros_bound bm n a r e = let i = zeros_most bm n a in omega arith
-
-pub zeros_start : (bm : List ℕ) (n a : ℕ) → 0 + zeros bm (n - 0) (a + 0) ≡ zeros bm n a
-zeros_start bm n a = let p : n - 0 ≡ n = omega arith in rw (p, add-zero a) (omega arith)
 
 none_zeros : (bm : List ℕ) (m a : ℕ) → m ≡ 0 → zeros bm m a ≡ 0
 unfolding zeros
 none_zeros bm m a e = rw e
 
-pub zeros_next : (bm : List ℕ) (n a i m r sum : ℕ) → a % 8 ≡ 0 → i % 8 ≡ 0 → m ≡ min (n - i) 8 → r ≡ zeros_below m (get_or bm ((a + i) / 8) 0)
+zeros_next : (bm : List ℕ) (n a i m r sum : ℕ) → a % 8 ≡ 0 → i % 8 ≡ 0 → m ≡ min (n - i) 8 → r ≡ zeros_below m (get_or bm ((a + i) / 8) 0)
     → sum + zeros bm (n - i) (a + i) ≡ zeros bm n a → sum + r + zeros bm (n - (i + 8)) (a + (i + 8)) ≡ zeros bm n a
 zeros_next bm n a i m r sum e f p q v =
     by_test (leb (n - i) 8)
@@ -297,20 +292,27 @@ zeros_next bm n a i m r sum e f p q v =
     let w' : zeros bm 8 (a + i) ≡ r = ap (λ (y : ℕ). zeros bm y (a + i)) (sym u) ∙ w ∙ sym q in
     omega arith)
 
-pub zeros_end : (bm : List ℕ) (n a i sum : ℕ) → n ≤ i → sum + zeros bm (n - i) (a + i) ≡ zeros bm n a → sum ≡ zeros bm n a
-zeros_end bm n a i sum h v = let z = none_zeros bm (n - i) (a + i) (omega arith) in omega arith
+module _ (bm : List ℕ) (n a : ℕ) where
+  -- what byte k adds
+  abbrev pub zeros_of : ℕ → ℕ
+  zeros_of k = zeros_below (min (n - 8 * k) 8) (get_or bm (a / 8 + k) 0)
 
-pub zeros_end_most : (bm : List ℕ) (n a i sum : ℕ) → n ≤ i → sum + zeros bm (n - i) (a + i) ≡ zeros bm n a → sum ≤ n
-zeros_end_most bm n a i sum h v = zeros_bound bm n a sum (zeros_end bm n a i sum h v)
+  module _ (e : a % 8 ≡ 0) where
+    -- a sum over m bytes from byte k on, the last m
+    zeros_rest : (s m k : ℕ) → k + m ≡ div_ceil n 8 → s + zeros bm (n - 8 * k) (a + 8 * k) ≡ zeros bm n a
+        → fold (λ (b x : ℕ). b + zeros_of x) s (range_with_len k m) ≡ zeros bm n a
+    zeros_rest s zero k q v = let z = none_zeros bm (n - 8 * k) (a + 8 * k) (omega arith) in omega arith
+    zeros_rest s (suc m) k q v =
+        let b : (a + 8 * k) / 8 ≡ a / 8 + k = omega arith in
+        let o : 8 * k + 8 ≡ 8 * (k + 1) = omega arith in
+        let i = zeros_next bm n a (8 * k) (min (n - 8 * k) 8) (zeros_of k) s e (omega arith) refl (rw b) v in
+        zeros_rest (s + zeros_of k) m (k + 1) (omega arith) (rw o at i)
 
--- the last byte
-pub zeros_last : (bm : List ℕ) (n a i m r sum : ℕ) → a % 8 ≡ 0 → i % 8 ≡ 0 → m ≡ min (n - i) 8 → r ≡ zeros_below m (get_or bm ((a + i) / 8) 0)
-    → n - i ≤ 8 → sum + zeros bm (n - i) (a + i) ≡ zeros bm n a → sum + r ≡ zeros bm n a
-zeros_last bm n a i m r sum e f p q k v = zeros_end bm n a (i + 8) (sum + r) (omega arith) (zeros_next bm n a i m r sum e f p q v)
-
-pub zeros_last_most : (bm : List ℕ) (n a i m r sum : ℕ) → a % 8 ≡ 0 → i % 8 ≡ 0 → m ≡ min (n - i) 8
-    → r ≡ zeros_below m (get_or bm ((a + i) / 8) 0) → n - i ≤ 8 → sum + zeros bm (n - i) (a + i) ≡ zeros bm n a → sum + r ≤ n
-zeros_last_most bm n a i m r sum e f p q k v = zeros_bound bm n a (sum + r) (zeros_last bm n a i m r sum e f p q k v)
+    pub zeros_all : sum_by zeros_of (range_with_len 0 (div_ceil n 8)) ≡ zeros bm n a
+    zeros_all =
+        let p : n - 8 * 0 ≡ n = omega arith in
+        let q : a + 8 * 0 ≡ a = omega arith in
+        zeros_rest 0 (div_ceil n 8) 0 (omega arith) (rw (p, q) (omega arith))
 
 -- ---- chunks
 
@@ -438,95 +440,92 @@ unfolding chunk_blocks
 usable_is size bm n f c z r p q = let m : min z f ≡ min f z = omega arith in q ∙ m ∙ lesser_is f z ∙ ap (lesser f) p
 
 module _ (size : ℕ) (bm cs fs : List ℕ) where
-  pub usable_start : 0 + usable_from bm size 0 (drop 0 cs) (drop 0 fs) ≡ usable size (space_of bm cs fs)
-  unfolding usable
-  usable_start = zero-add (usable_from bm size 0 cs fs)
+  -- what chunk c adds
+  abbrev pub usable_of : ℕ → ℕ
+  usable_of c = lesser (get_or fs c 0) (zeros bm (get_or cs c 0) (c * chunk_blocks size))
 
-  pub usable_next : (c r sum : ℕ) → Held size (space_of bm cs fs) → c < length cs
-      → r ≡ lesser (get_or fs c 0) (zeros bm (get_or cs c 0) (c * chunk_blocks size))
-      → sum + usable_from bm size c (drop c cs) (drop c fs) ≡ usable size (space_of bm cs fs)
-      → sum + r + usable_from bm size (c + 1) (drop (c + 1) cs) (drop (c + 1) fs) ≡ usable size (space_of bm cs fs)
+  module _ (h : Held size (space_of bm cs fs)) where
+    -- a sum over n chunks from chunk c on, the last n
+    usable_rest : (a n c : ℕ) → c + n ≡ length cs
+        → fold (λ (b x : ℕ). b + usable_of x) a (range_with_len c n) ≡ a + usable_from bm size c (drop c cs) (drop c fs)
+    unfolding usable_from
+    usable_rest a zero c e = let k : length cs ≤ c = omega arith in rw (drop_of_length-le cs k) (omega arith)
+    usable_rest a (suc n) c e =
+        let k : c < length cs = omega arith in
+        let u : ℕ = usable_of c in
+        let rest : ℕ → ℕ = λ j. usable_from bm size j (drop j cs) (drop j fs) in
+        let i : fold (λ (b x : ℕ). b + usable_of x) (a + u) (range_with_len (c + 1) n) ≡ a + u + rest (suc c) =
+        usable_rest (a + u) n (c + 1) (omega arith) ∙ ap (λ (j : ℕ). a + u + rest j) (add-one c) in
+        let o : a + u + rest (suc c) ≡ a + (u + rest (suc c)) = omega arith in
+        rw (drop-cons cs c 0 k, drop-cons fs c 0 (chunk_free size bm cs fs h c k)) (i ∙ o)
+
+    pub usable_all : sum_by usable_of (range_with_len 0 (length cs)) ≡ usable size (space_of bm cs fs)
+    unfolding usable
+    usable_all = usable_rest 0 (length cs) 0 (omega arith) ∙ zero-add (usable_from bm size 0 cs fs)
+
+  usable_most_from : (c : ℕ) (ns gs : List ℕ) → ((i : ℕ) → get_or ns i 0 ≤ 8 * size) → usable_from bm size c ns gs ≤ 8 * size * length ns
   unfolding usable_from
-  usable_next c r sum h k p v =
-      let w : sum + (lesser (get_or fs c 0) (zeros bm (get_or cs c 0) (c * chunk_blocks size)) + usable_from bm size (suc c) (drop (suc c) cs)
-      (drop (suc c) fs)) ≡ usable size (space_of bm cs fs) =
-      rw (drop-cons cs c 0 k, drop-cons fs c 0 (chunk_free size bm cs fs h c k)) at v in
-      rw (add-one c) (omega arith)
+  usable_most_from c [] gs q = omega arith
+  usable_most_from c (n ∷ ns) [] q = omega arith
+  usable_most_from c (n ∷ ns) (g ∷ gs) q =
+      let e : 8 * size * suc (length ns) ≡ 8 * size + 8 * size * length ns = omega arith in
+      let z = zeros bm n (c * chunk_blocks size) in
+      omega (arith, usable_most_from (suc c) ns gs (λ j. q (suc j)), zeros_most bm n (c * chunk_blocks size), q 0, lesser_is g z)
 
-  pub usable_end : (c sum : ℕ) → length cs ≤ c → sum + usable_from bm size c (drop c cs) (drop c fs) ≡ usable size (space_of bm cs fs)
-      → sum ≡ usable size (space_of bm cs fs)
-  unfolding usable_from
-  usable_end c sum k v = let w : sum + 0 ≡ usable size (space_of bm cs fs) = rw (drop_of_length-le cs k) at v in omega arith
+  pub usable_fits : Held size (space_of bm cs fs) → usable size (space_of bm cs fs) < 2 ^ 64
+  unfolding usable chunk_blocks
+  usable_fits h =
+      let e : 8 * size * length cs ≡ 8 * (length cs * size) = omega arith in
+      omega (arith, usable_most_from 0 cs fs h.counted, h.mapped, h.few)
 
-  pub usable_sum : (c r sum : ℕ) → sum ≤ c * (8 * size) → r ≤ 8 * size → sum + r ≤ (c + 1) * (8 * size)
-  usable_sum c r sum p q = omega arith
+-- ---- chunks_hold
 
-  pub usable_small : (c r sum : ℕ) → Held size (space_of bm cs fs) → c < length cs → sum ≤ c * (8 * size) → r ≤ 8 * size → sum + r < 2 ^ 64
-  usable_small c r sum h k p q = let m = chunk_room size bm cs fs h c k in let n : length bm ≤ 2 ^ 25 = h.few in omega arith
+-- the same test of each chunk with its number
+pub chunks_all : (size blocks c : ℕ) (ns : List ℕ)
+    → list_all (λ (p : ℕ × ℕ). leb p.1 (chunk_blocks size) && leb (p.0 * chunk_blocks size + p.1) blocks) (enumerate_from c ns)
+    ≡ chunks_hold size blocks c ns
+unfolding chunks_hold
+chunks_all size blocks c [] = refl
+chunks_all size blocks c (n ∷ ns) =
+    by_test (leb n (chunk_blocks size))
+    (λ q. rw (q, chunks_all size blocks (c + 1) ns, add-one c))
+    (λ q. rw q)
 
--- ---- chunks_hold: c chunks are passed
-
-module _ (size blocks : ℕ) (cs : List ℕ) where
-  chunks_head : (c : ℕ) → c < length cs
-      → chunks_hold size blocks c (drop c cs) ≡ leb (get_or cs c 0) (chunk_blocks size) && leb (c * chunk_blocks size + get_or cs c 0) blocks
-      && chunks_hold size blocks (suc c) (drop (suc c) cs)
-  unfolding chunks_hold
-  chunks_head c k = rw (drop-cons cs c 0 k)
-
-  pub chunks_start : chunks_hold size blocks 0 (drop 0 cs) ≡ chunks_hold size blocks 0 cs
-  chunks_start = refl
-
-  pub chunks_large : (c d : ℕ) → c < length cs → d ≡ div_ceil (get_or cs c 0) 8 → size < d
-      → chunks_hold size blocks c (drop c cs) ≡ chunks_hold size blocks 0 cs
-      → false ≡ chunks_hold size blocks 0 cs
+-- the ways out of one chunk's test
+module _ (c n size blocks d : ℕ) (e : d ≡ div_ceil n 8) where
+  pub count_large : size < d → leb d size ≡ leb n (chunk_blocks size) && leb (c * chunk_blocks size + n) blocks
   unfolding chunk_blocks
-  chunks_large c d k e l v = sym (chunks_head c k ∙ rw (lt-leb (get_or cs c 0) (8 * size) (omega arith))) ∙ v
+  count_large h = rw (lt-leb d size h, lt-leb n (8 * size) (omega arith))
 
-  pub chunks_outside : (c left : ℕ) → c < length cs → left + c * (8 * size) ≡ blocks → left < get_or cs c 0
-      → chunks_hold size blocks c (drop c cs) ≡ chunks_hold size blocks 0 cs → false ≡ chunks_hold size blocks 0 cs
-  unfolding chunk_blocks
-  chunks_outside c left k e o v =
-      let f : leb (c * (8 * size) + get_or cs c 0) blocks ≡ false = lt-leb (c * (8 * size) + get_or cs c 0) blocks (omega arith) in
-      sym (chunks_head c k ∙ rw (f, and-false (leb (get_or cs c 0) (8 * size)))) ∙ v
+  module _ (h : d ≤ size) where
+    within : leb n (8 * size) ≡ true
+    within = le-leb n (8 * size) (omega arith)
 
-  chunks_on : (c d left : ℕ) → c < length cs → d ≡ div_ceil (get_or cs c 0) 8 → d ≤ size → left + c * (8 * size) ≡ blocks → get_or cs c 0 ≤ left
-      → chunks_hold size blocks c (drop c cs) ≡ chunks_hold size blocks 0 cs → chunks_hold size blocks (c + 1) (drop (c + 1) cs)
-      ≡ chunks_hold size blocks 0 cs
-  unfolding chunk_blocks
-  chunks_on c d left k u l e o v =
-      let f : leb (get_or cs c 0) (8 * size) ≡ true = le-leb (get_or cs c 0) (8 * size) (omega arith) in
-      let g : leb (c * (8 * size) + get_or cs c 0) blocks ≡ true = le-leb (c * (8 * size) + get_or cs c 0) blocks (omega arith) in
-      rw (add-one c) (sym (chunks_head c k ∙ rw (f, g)) ∙ v)
+    pub count_long : blocks < n → leb n blocks ≡ leb n (chunk_blocks size) && leb (c * chunk_blocks size + n) blocks
+    unfolding chunk_blocks
+    count_long k = rw (within, lt-leb n blocks k, lt-leb (c * (8 * size) + n) blocks (omega arith))
 
-  pub chunks_last : (c d left : ℕ) → c < length cs → d ≡ div_ceil (get_or cs c 0) 8 → d ≤ size → left + c * (8 * size) ≡ blocks → get_or cs c 0 ≤ left
-      → chunks_hold size blocks c (drop c cs) ≡ chunks_hold size blocks 0 cs → c + 1 ≡ length cs → true ≡ chunks_hold size blocks 0 cs
-  unfolding chunks_hold
-  chunks_last c d left k u l e o v q =
-      let h : length cs ≤ c + 1 = omega arith in
-      let w = chunks_on c d left k u l e o v in
-      rw (drop_of_length-le cs h) at w
+    pub count_none : size ≡ 0 → eqb size 0 ≡ leb n (chunk_blocks size) && leb (c * chunk_blocks size + n) blocks
+    unfolding chunk_blocks
+    count_none z =
+        let o : c * (8 * size) ≡ 8 * (c * size) = mul_left_comm c 8 size in
+        let p : c * size ≡ 0 = rw z (omega arith) in
+        rw (within, eq-eqb size 0 z, le-leb (c * (8 * size) + n) blocks (omega arith))
 
-  pub chunks_past : (c d left : ℕ) → c < length cs → d ≡ div_ceil (get_or cs c 0) 8 → d ≤ size → left + c * (8 * size) ≡ blocks → get_or cs c 0 ≤ left
-      → chunks_hold size blocks c (drop c cs) ≡ chunks_hold size blocks 0 cs → (c + 1 ≡ length cs → ⊥) → left / 8 < size
-      → false ≡ chunks_hold size blocks 0 cs
-  unfolding chunk_blocks
-  chunks_past c d left k u l e o v q f =
-      let g : leb ((c + 1) * (8 * size) + get_or cs (c + 1) 0) blocks ≡ false = lt-leb ((c + 1) * (8 * size) + get_or cs (c + 1) 0) blocks
-      (omega arith) in
-      sym (chunks_head (c + 1) (omega arith) ∙ rw (g, and-false (leb (get_or cs (c + 1) 0) (8 * size)))) ∙ chunks_on c d left k u l e o v
-
-  pub chunks_next : (c d left : ℕ) → c < length cs → d ≡ div_ceil (get_or cs c 0) 8 → d ≤ size → left + c * (8 * size) ≡ blocks → get_or cs c 0 ≤ left
-      → chunks_hold size blocks c (drop c cs) ≡ chunks_hold size blocks 0 cs → size ≤ left / 8 → chunks_hold size blocks (c + 1) (drop (c + 1) cs)
-      ≡ chunks_hold size blocks 0 cs
-  chunks_next c d left k u l e o v f = chunks_on c d left k u l e o v
-
-  pub chunks_end : (c : ℕ) → length cs ≤ c → chunks_hold size blocks c (drop c cs) ≡ chunks_hold size blocks 0 cs
-      → true ≡ chunks_hold size blocks 0 cs
-  unfolding chunks_hold
-  chunks_end c k v = rw (drop_of_length-le cs k) at v
-
-pub chunks_left : (size blocks c left : ℕ) → left + c * (8 * size) ≡ blocks → size ≤ left / 8 → left - 8 * size + (c + 1) * (8 * size) ≡ blocks
-chunks_left size blocks c left e d = omega arith
+    pub count_some : (size ≡ 0 → ⊥) → n ≤ blocks
+        → leb c ((blocks - n) / 8 / size) ≡ leb n (chunk_blocks size) && leb (c * chunk_blocks size + n) blocks
+    unfolding chunk_blocks
+    count_some z k =
+        let m : ℕ = (blocks - n) / 8 in
+        let o : c * (8 * size) ≡ 8 * (c * size) = mul_left_comm c 8 size in
+        let f : m / size * size ≤ m = div-mul-le_self m size in
+        let g : m < m / size * size + size = lt-div-mul-add (omega arith) in
+        by_test (leb c (m / size))
+        (λ q. let i : c * size ≤ m / size * size = mul-le-mul_right size (leb-true c (m / size) q) in
+        rw (within, q, le-leb (c * (8 * size) + n) blocks (omega arith)))
+        (λ q. let i : (m / size + 1) * size ≤ c * size = mul-le-mul_right size (omega (arith, leb-false c (m / size) q)) in
+        let i' : (m / size + 1) * size ≡ m / size * size + size = omega arith in
+        rw (within, q, lt-leb (c * (8 * size) + n) blocks (omega arith)))
 
 -- ---- a space that holds
 
@@ -655,3 +654,11 @@ pub ruleset finding = (chunk_aligned, chunk_mapped, chunk_small, chunk_free, fre
 pub ruleset using_up = (chunk_aligned, chunk_mapped, chunk_small, chunk_free, usable_most, usable_is)
 
 pub ruleset holding = (bitmap_fits, space_chunks, space_counts, space_map)
+
+pub ruleset first = (first_start, first_found, first_past, first_next, first_last, first_end)
+
+pub ruleset choosing = (choose_start, choose_found, choose_next, choose_end)
+
+pub ruleset taking = (block_mapped, chunk_in, chunk_some, alloc_block, alloc_taken, alloc_none)
+
+pub ruleset chunking = (count_large, count_long, count_none, count_some)

@@ -23,7 +23,7 @@ use Rattle.flush.specs.internal.Lists.{numbers_of}
 use Rattle.flush.specs.internal.Walk.{flushing_of, Alive, Dirty, Standing, Spaced, Alike, Fitting, Room, Left, WroteAt, Same, SameLists, Listed, Kept}
 use Rattle.flush.specs.declared.flush.Reports.{Reports}
 use Rattle.std.specs.Borrow.{MutBor}
-use Rattle.flush.specs.laws.ListLaws.{numbers_length, pairs_length, past_refl, past_on}
+use Rattle.flush.specs.laws.ListLaws.{numbers_length, pairs_length, past_refl, past_on, places_start, names_start}
 use Rattle.std.specs.Prelude.{Option, Some, None}
 use Rattle.flush.specs.declared.space.Choice as chosen_by
 
@@ -237,3 +237,5 @@ module _ (size xid n : ℕ) (t : Tree) (image heads bytes fs is ps : List ℕ) (
               places = room_moved (length ps) g.places;
               allocated = room_allocated g;
             }
+
+pub ruleset starting = (past_refl, places_start, names_start, same_refl)

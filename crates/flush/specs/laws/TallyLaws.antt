@@ -11,9 +11,7 @@ use Rattle.tree.specs.internal.Bank.{node_in, live, Ready}
 use Rattle.tree.specs.internal.Kids.{slots_of, kid_means}
 use Rattle.tree.specs.laws.base.Node.{by_test}
 use Rattle.tree.specs.laws.base.NodeSlots.{entries_head, length_entries}
-use Rattle.tree.specs.laws.slots.Bank.{live_entries}
 use Rattle.tree.specs.laws.slots.Block.{bool_number}
-use Rattle.tree.specs.laws.slots.OneSlot.{slot_room}
 use Rattle.tree.specs.laws.state.State.{by_val}
 use Rattle.tree.specs.laws.slots.Tree.{node_in_lem, node_out}
 use Rattle.tree.specs.declared.editor.Tree.{Tree}
@@ -117,12 +115,6 @@ loaded_none k v e h = sym e ∙ rw h
 pub words_room : (size slots used n : ℕ) (heads bytes : List ℕ) → Ready size slots used heads bytes → n < used → (n + 1) * 9 ≤ length heads
 words_room size slots used n heads bytes r h = omega (arith, r.words, r.within)
 
-pub records_room : (size slots used n : ℕ) (heads bytes part : List ℕ) (h : Head) → Ready size slots used heads bytes → n < used
-    → part ≡ slot_bytes size bytes n → h ≡ live (head_at heads n) → records_length h.count part ≤ length part
-unfolding live
-records_room size slots used n heads bytes part h r hn is eh =
-    rw eh (slot_room size slots used n heads bytes r hn part is (live (head_at heads n)) refl)
-
 -- ---- count_from
 
 module _ (limit size n : ℕ) (t : Tree) (heads bytes : List ℕ) where
@@ -184,20 +176,16 @@ module _ (limit size n : ℕ) (t : Tree) (heads bytes : List ℕ) where
     count_leaf d z = rw z (counted_own (dirty_one (node_at s₀ n)) (id_one t.by_id (node_at s₀ n)) 0 0 (omega (arith, own_dirty)) (omega
         (arith, own_id)))
 
-    module _ (part : List ℕ) (is : part ≡ slot_bytes size bytes n) (d : ℕ) (dn : d ≡ 0 → ⊥) (r : Wanted) where
-      node_records : (node_at (state_of size t heads bytes) n).entries ≡ entries_of h.count part
-      unfolding node_in live
-      node_records = ap (λ (m : MemNode). m.entries) (node_in_lem size t heads bytes n hn)
-          ∙ live_entries (head_at heads n) (slot_bytes size bytes n) ∙ rw (eh, is)
-
+    module _ (count : ℕ) (part : List ℕ) (en : (node_at (state_of size t heads bytes) n).entries ≡ entries_of count part) (d : ℕ) (dn : d ≡ 0 → ⊥)
+        (r : Wanted) where
       sum_deep : (f : MemNode → ℕ) (e : ℕ) → d ≡ suc e
-          → sum_from f d s₀ n ≡ f (node_at s₀ n) + sum_kids (sum_from f (d - 1) s₀) (entries_of h.count part)
+          → sum_from f d s₀ n ≡ f (node_at s₀ n) + sum_kids (sum_from f (d - 1) s₀) (entries_of count part)
       unfolding sum_from
-      sum_deep f e z = let k : suc e - 1 ≡ e = omega arith in rw (← node_records, z, k)
+      sum_deep f e z = let k : suc e - 1 ≡ e = omega arith in rw (← en, z, k)
 
       -- the node, then its children
-      pub count_whole : Counted limit (sum_kids (sum_from dirty_one (d - 1) (state_of size t heads bytes)) (entries_of h.count part))
-          (sum_kids (sum_from (id_one t.by_id) (d - 1) (state_of size t heads bytes)) (entries_of h.count part)) u r 0 0 → Sums d s r 0 0
+      pub count_whole : Counted limit (sum_kids (sum_from dirty_one (d - 1) (state_of size t heads bytes)) (entries_of count part))
+          (sum_kids (sum_from (id_one t.by_id) (d - 1) (state_of size t heads bytes)) (entries_of count part)) u r 0 0 → Sums d s r 0 0
       count_whole c =
           let z : d ≡ suc (d - 1) = omega arith in
           let a = sum_deep dirty_one (d - 1) z in
@@ -272,3 +260,5 @@ unfolding fill state_of
 fill_is size t heads bytes n space e f = rw (e, f)
 
 pub ruleset wanting = (wanted_clean, wanted_none, wanted_dirty, wanted_ids, wanted_fits)
+
+pub ruleset tallying = (words_room, count_out, count_full, count_leaf)

@@ -13,26 +13,10 @@ use Rattle.tree.specs.laws.slots.Bank.{live_words, node_at_lem, put_ready}
 use Rattle.tree.specs.laws.state.State.{by_val}
 use Rattle.tree.specs.laws.slots.Tree.{node_in_lem, node_out}
 use Rattle.tree.specs.declared.editor.Tree.{Tree}
-use Rattle.flush.specs.Flush.{slot_number, type_of, rewritten}
+use Rattle.flush.specs.Flush.{slot_number, rewritten}
 use Rattle.flush.specs.internal.Walk.{Standing, Alike}
 
 -- ---- leaf functions
-
-pub type_root : (b r : Bool) → b ≡ true → r ≡ true → 2 ≡ type_of b r
-unfolding type_of
-type_root b r e f = rw (e, f)
-
-pub type_node : (b r : Bool) → b ≡ true → r ≡ false → 3 ≡ type_of b r
-unfolding type_of
-type_node b r e f = rw (e, f)
-
-pub type_physical : (b r : Bool) → b ≡ false → r ≡ true → 0x40000002 ≡ type_of b r
-unfolding type_of
-type_physical b r e f = rw (e, f)
-
-pub type_lower : (b r : Bool) → b ≡ false → r ≡ false → 0x40000003 ≡ type_of b r
-unfolding type_of
-type_lower b r e f = rw (e, f)
 
 pub only_or : (o : Option ℕ) → unwrap_or o 0 ≡ only (option_to_list o)
 unfolding only
@@ -153,5 +137,3 @@ pub kids_numbered : (size slots n : ℕ) (t : Tree) (heads bytes : List ℕ) →
 kids_numbered size slots n t heads bytes st hn =
     numbered_same (child_number heads t.by_id) (slot_number t.by_id (nodes_of size heads bytes t.used)) (node_in size heads bytes n).entries
     (λ j c q. number_same size t.used c heads bytes t.by_id (st.kids n j c hn q).used)
-
-pub ruleset typing = (type_root, type_node, type_physical, type_lower)

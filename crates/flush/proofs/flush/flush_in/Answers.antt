@@ -1,39 +1,9 @@
 use Rattle.tree.specs.laws.base.Refused.{handed_on}
-use Rattle.flush.specs.laws.CallLaws.{slots_some, root_alive, standing_is, in_lent, spaced_is, long_are, in_short, all_fits, in_done, untouched, finished_beyond}
+use Rattle.flush.specs.laws.CallLaws.{root_alive, standing_is, spaced_is, long_are, in_short, all_fits, in_done, untouched, finished_beyond}
 use Rattle.flush.specs.laws.StepLaws.{spaced_held}
-use borrow.Author.Rules.{rules}
 use Rattle.std.proofs.Common.{ap, sym}
 use mathlib.Core.Bool.{not}
 use Rattle.flush.proofs.flush.flush_in.Goals as goal
-
-ruleset laws = (rules, slots_some, root_alive, standing_is, in_lent, spaced_is, long_are, in_short, all_fits, in_done, untouched, finished_beyond, spaced_held)
-
-pub nonzero_div-blocks : goal.nonzero_div-blocks
-nonzero_div-blocks c = search laws
-
-pub lists_hold-requires : goal.lists_hold-requires
-lists_hold-requires c = search laws
-
-pub shape_of-bitmap-then-not-lists_hold : goal.shape_of-bitmap-then-not-lists_hold
-shape_of-bitmap-then-not-lists_hold c = search laws
-
-pub shape_of-free-then-not-lists_hold : goal.shape_of-free-then-not-lists_hold
-shape_of-free-then-not-lists_hold c = search laws
-
-pub shape_of-freed-then-not-lists_hold : goal.shape_of-freed-then-not-lists_hold
-shape_of-freed-then-not-lists_hold c = search laws
-
-pub shape_of-removed-then-not-lists_hold : goal.shape_of-removed-then-not-lists_hold
-shape_of-removed-then-not-lists_hold c = search laws
-
-pub shape_of-ids-then-not-lists_hold : goal.shape_of-ids-then-not-lists_hold
-shape_of-ids-then-not-lists_hold c = search laws
-
-pub shape_of-places-then-not-lists_hold : goal.shape_of-places-then-not-lists_hold
-shape_of-places-then-not-lists_hold c = search laws
-
-pub returns-then-not-lists_hold : goal.returns-then-not-lists_hold
-returns-then-not-lists_hold c = search laws
 
 pub invariant_of-v : goal.invariant_of-v
 invariant_of-v c = record { ready = c.requires.ready }
@@ -62,30 +32,6 @@ write_all-requires c =
     let e = c.lists_hold.ensures in
     let q = ap not c.if-not-lists_hold.false in
     record { standing = standing_is a.lent a.t _ _ _ p.ready p.bytes_value; alive = root_alive a.lent a.t _ _ _ p.ready p.bytes_value; chunks = spaced_is a.lent a.t _ _ _ p.ready p.bytes_value _ _ _ _ _ _ e q; long = long_are a.lent a.t _ _ _ p.ready p.bytes_value _ _ _ _ _ _ e q; fitting = all_fits a.lent a.t _ _ _ p.ready p.bytes_value _ _ _ _ _ _ e q _ _ _ c.short_of.ensures _ c.in_ok-short_of.was }
-
-pub shape_of-image : goal.shape_of-image
-shape_of-image c = search laws
-
-pub shape_of-bitmap : goal.shape_of-bitmap
-shape_of-bitmap c = search laws
-
-pub shape_of-free : goal.shape_of-free
-shape_of-free c = search laws
-
-pub shape_of-heads : goal.shape_of-heads
-shape_of-heads c = search laws
-
-pub shape_of-freed : goal.shape_of-freed
-shape_of-freed c = search laws
-
-pub shape_of-removed : goal.shape_of-removed
-shape_of-removed c = search laws
-
-pub shape_of-ids : goal.shape_of-ids
-shape_of-ids c = search laws
-
-pub shape_of-places : goal.shape_of-places
-shape_of-places c = search laws
 
 pub returns : goal.returns
 returns c =

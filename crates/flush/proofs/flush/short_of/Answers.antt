@@ -2,16 +2,8 @@ use Rattle.flush.specs.laws.AllLaws.{usable_few, short_full, short_count, short_
 use borrow.Author.Rules.{rules}
 use Rattle.flush.proofs.flush.short_of.Goals as goal
 
-ruleset laws = (rules, usable_few, short_full, short_count, short_none)
-
-pub level_at-level-requires : goal.level_at-level-requires
-level_at-level-requires c = search laws
-
-pub usable-most-requires : goal.usable-most-requires
-usable-most-requires c = search laws
-
 pub count_from-wanted-requires : goal.count_from-wanted-requires
-count_from-wanted-requires c = search laws
+count_from-wanted-requires c = search (rules, usable_few)
 
 pub returns-then-most-wanted : goal.returns-then-most-wanted
 returns-then-most-wanted c =

@@ -1,12 +1,6 @@
 use borrow.Author.Rules.{rules}
-use Rattle.flush.specs.laws.SpaceSteps.{block_mapped, chunk_in, chunk_some, alloc_block, alloc_taken, alloc_none}
+use Rattle.flush.specs.laws.SpaceSteps.{block_mapped, chunk_in, chunk_some, alloc_taken}
 use Rattle.flush.proofs.space.alloc.Goals as goal
-
-pub choose-requires : goal.choose-requires
-choose-requires c = search rules
-
-pub returns-in_err-choice-clause-after : goal.returns-in_err-choice-clause-after
-returns-in_err-choice-clause-after c = alloc_none _ _ _ c.choose.ensures c.in_err-choice.was
 
 pub mark_used-requires : goal.mark_used-requires
 mark_used-requires c = block_mapped _ _ _ _ _ _ _ c.requires c.choose.ensures c.in_ok-choice.was
@@ -25,12 +19,5 @@ overflow_sub-free c =
 pub bounds-free-choice-2 : goal.bounds-free-choice-2
 bounds-free-choice-2 c = chunk_in _ _ _ _ _ _ _ c.requires c.choose.ensures c.in_ok-choice.was
 
-pub shape_of-bitmap : goal.shape_of-bitmap
-shape_of-bitmap c = search rules
-
-pub shape_of-free : goal.shape_of-free
-shape_of-free c = search rules
-
-pub returns : goal.returns
-returns c =
-    record { answer = alloc_block _ _ _ _ _ _ _ c.requires c.choose.ensures c.in_ok-choice.was; after = alloc_taken _ _ _ _ _ _ _ c.requires c.choose.ensures c.in_ok-choice.was _ c.mark_used.ensures }
+pub returns-clause-after : goal.returns-clause-after
+returns-clause-after c = alloc_taken _ _ _ _ _ _ _ c.requires c.choose.ensures c.in_ok-choice.was _ c.mark_used.ensures

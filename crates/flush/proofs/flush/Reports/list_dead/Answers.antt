@@ -6,12 +6,6 @@ use Rattle.flush.proofs.flush.Reports.list_dead.Goals as goal
 
 ruleset laws = (rules, past_refl, dead_room, push_most, past_push, places_start, names_start, same_refl)
 
-pub loop-n-init : goal.loop-n-init
-loop-n-init c = search laws
-
-pub live_at-h-requires : goal.live_at-h-requires
-live_at-h-requires c = search laws
-
 pub loop-n-preserved-then-h-ne1 : goal.loop-n-preserved-then-h-ne1
 loop-n-preserved-then-h-ne1 c =
     let i = c.loop-n.invariant in (

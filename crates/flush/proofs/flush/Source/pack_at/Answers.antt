@@ -1,26 +1,9 @@
-use Rattle.flush.specs.laws.BlockLaws.{start_small, lent_long, packed_image}
+use Rattle.flush.specs.laws.BlockLaws.{lent_long, packed_image}
 use borrow.Author.Rules.{rules}
 use mathlib.Core.Path.{refl}
 use lib.ListN.{length}
 use Prim.Native.Nat.{◌-◌, ◌*◌}
 use Rattle.flush.proofs.flush.Source.pack_at.Goals as goal
-
-ruleset laws = (rules, start_small, lent_long, packed_image)
-
-pub type_of-otype-requires : goal.type_of-otype-requires
-type_of-otype-requires c = search laws
-
-pub overflow_mul-start : goal.overflow_mul-start
-overflow_mul-start c = search laws
-
-pub slice_bounds-pack_slot-count : goal.slice_bounds-pack_slot-count
-slice_bounds-pack_slot-count c = search laws
-
-pub slice_bounds-pack_slot-start : goal.slice_bounds-pack_slot-start
-slice_bounds-pack_slot-start c = search laws
-
-pub slice_bounds-pack_slot-end : goal.slice_bounds-pack_slot-end
-slice_bounds-pack_slot-end c = search laws
 
 pub pack_slot-requires : goal.pack_slot-requires
 pack_slot-requires c =
@@ -30,9 +13,6 @@ pack_slot-requires c =
 
 pub invariant_of-view : goal.invariant_of-view
 invariant_of-view c = record { ready = c.requires.standing.ready }
-
-pub shape_of-image : goal.shape_of-image
-shape_of-image c = search laws
 
 pub returns : goal.returns
 returns c =

@@ -5,22 +5,10 @@ use lib.ListN.{length}
 use Rattle.std.specs.Borrow.{MutBor}
 use Rattle.flush.specs.laws.AllLaws.{walk_fits, all_flushed_lem, all_left}
 use Rattle.flush.specs.laws.StepLaws.{fitting_same, lists_same}
-use borrow.Author.Rules.{rules}
 use Rattle.flush.proofs.flush.Source.write_all.Goals as goal
-
-ruleset laws = (rules, walk_fits, all_flushed_lem, all_left)
 
 pub invariant_of-v : goal.invariant_of-v
 invariant_of-v c = record { ready = c.requires.standing.ready }
-
-pub level_at-level-requires : goal.level_at-level-requires
-level_at-level-requires c = search laws
-
-pub fill-filled-requires : goal.fill-filled-requires
-fill-filled-requires c = search laws
-
-pub list_dead-requires : goal.list_dead-requires
-list_dead-requires c = search laws
 
 pub write_from-requires : goal.write_from-requires
 write_from-requires c =
@@ -35,24 +23,6 @@ write_from-requires c =
           (ap (λ (x : MutBor (List ℕ)). length x.now) d.kept.places ∙ p.long.3)
           (walk_fits _ a.self.lent.slots a.self.xid a.lists.now.done.next _ a.self.tree _ _ _ _ _ _ _ _ _ _ _ c.level_at-level.ensures d.listed p.fitting);
     }
-
-pub child_number-requires : goal.child_number-requires
-child_number-requires c = search laws
-
-pub key_count-requires : goal.key_count-requires
-key_count-requires c = search laws
-
-pub shape_of-image : goal.shape_of-image
-shape_of-image c = search laws
-
-pub shape_of-bitmap : goal.shape_of-bitmap
-shape_of-bitmap c = search laws
-
-pub shape_of-free : goal.shape_of-free
-shape_of-free c = search laws
-
-pub shape_of-heads : goal.shape_of-heads
-shape_of-heads c = search laws
 
 pub returns : goal.returns
 returns c =

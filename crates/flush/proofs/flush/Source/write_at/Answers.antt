@@ -4,11 +4,6 @@ use Rattle.flush.specs.laws.TallyLaws.{words_room}
 use borrow.Author.Rules.{rules}
 use Rattle.flush.proofs.flush.Source.write_at.Goals as goal
 
-ruleset laws = (rules, words_room)
-
-pub live_at-h-requires : goal.live_at-h-requires
-live_at-h-requires c = search laws
-
 pub push-freed-requires : goal.push-freed-requires
 push-freed-requires c = room_freed _ _ _ _ _ _ _ _ _ c.requires.room _ c.live_at-h.ensures _ c.block-old.ensures
 
@@ -33,12 +28,6 @@ overflow_add-lists c =
 pub overflow_add-lists-2 : goal.overflow_add-lists-2
 overflow_add-lists-2 c =
     let m = room_allocated _ _ _ _ _ _ _ _ _ c.requires.room _ c.live_at-h.ensures in search (rules, m)
-
-pub shape_of-image : goal.shape_of-image
-shape_of-image c = search laws
-
-pub shape_of-heads : goal.shape_of-heads
-shape_of-heads c = search laws
 
 pub returns : goal.returns
 returns c =

@@ -1,33 +1,11 @@
-use Rattle.flush.specs.laws.StepLaws.{kept_refl, left_same, spaced_held, spaced_after, block_few, block_inside, node_clean, node_dirty, node_full, node_wrote, node_room}
-use Rattle.flush.specs.laws.TallyLaws.{words_room}
-use borrow.Author.Rules.{rules}
+use Rattle.flush.specs.laws.StepLaws.{kept_refl, left_same, spaced_after, block_few, block_inside, node_clean, node_dirty, node_full, node_wrote, node_room}
 use Rattle.flush.proofs.flush.Source.write_node.Goals as goal
-
-ruleset laws = (rules, left_same, spaced_held, spaced_after, block_few, block_inside, node_clean, node_dirty, node_full, node_wrote, node_room, words_room)
-
-pub live_at-h-requires : goal.live_at-h-requires
-live_at-h-requires c = search laws
-
-pub shape_of-heads-then-h-ne1 : goal.shape_of-heads-then-h-ne1
-shape_of-heads-then-h-ne1 c = search laws
 
 pub returns-then-h-ne1 : goal.returns-then-h-ne1
 returns-then-h-ne1 c =
     let a = c.args in
     let p = c.requires in
     record { wrote = node_clean _ _ _ a.self.tree _ _ _ _ _ _ _ a.lists.now.done p.alive _ c.live_at-h.ensures c.if-h-ne1.true; left = left_same _ _ _ _ _ _ _ _ _ p.standing; spaced = p.chunks; kept = kept_refl _ }
-
-pub alloc-requires : goal.alloc-requires
-alloc-requires c = search laws
-
-pub shape_of-bitmap-in_default : goal.shape_of-bitmap-in_default
-shape_of-bitmap-in_default c = search laws
-
-pub shape_of-free-in_default : goal.shape_of-free-in_default
-shape_of-free-in_default c = search laws
-
-pub shape_of-heads-in_default : goal.shape_of-heads-in_default
-shape_of-heads-in_default c = search laws
 
 pub returns-in_default : goal.returns-in_default
 returns-in_default c =
@@ -44,18 +22,6 @@ write_at-requires c =
     let i = c.in-Some.is in
     let d = c.if-h-ne1.false in
     record { standing = p.standing; dirty = node_dirty _ _ _ _ _ p.alive _ c.live_at-h.ensures d; inside = (block_inside _ _ _ p.chunks _ _ _ x.answer i, block_few _ _ _ p.chunks _ _ _ x.answer i); room = node_room _ _ _ a.self.tree _ _ _ _ _ _ _ a.lists.now.done p.alive _ c.live_at-h.ensures d _ x.answer p.standing.same _ _ i p.fitting }
-
-pub shape_of-image : goal.shape_of-image
-shape_of-image c = search laws
-
-pub shape_of-bitmap : goal.shape_of-bitmap
-shape_of-bitmap c = search laws
-
-pub shape_of-free : goal.shape_of-free
-shape_of-free c = search laws
-
-pub shape_of-heads : goal.shape_of-heads
-shape_of-heads c = search laws
 
 pub returns : goal.returns
 returns c =

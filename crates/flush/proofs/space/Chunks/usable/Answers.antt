@@ -1,20 +1,22 @@
-use borrow.Author.Rules.{rules}
-use Rattle.flush.specs.laws.SpaceSteps.{usable_start, usable_next, usable_end, usable_sum, usable_small}
+use Rattle.std.proofs.Common.{rules, arith, refl, length, ◌^◌, ◌∙◌}
+use Rattle.std.specs.List.{range_with_len}
+use Rattle.std.proofs.lemmas.Iterator.{YieldsList-from_range, YieldsList-from_map}
+use Rattle.std.proofs.lemmas.Iterator.Consumers.{YieldsList-at, sum_by_from_yields_List, fits_by_from_yields_list}
+use Rattle.flush.specs.laws.SpaceSteps.{usable_of, usable_all, usable_fits}
 use Rattle.flush.proofs.space.Chunks.usable.Goals as goal
 
-ruleset laws = (rules, usable_start, usable_next, usable_end, usable_sum, usable_small)
-
-pub loop-c-init : goal.loop-c-init
-loop-c-init c = search laws
-
-pub usable_in-sum-requires : goal.usable_in-sum-requires
-usable_in-sum-requires c = search laws
-
-pub overflow_add-sum : goal.overflow_add-sum
-overflow_add-sum c = search laws
-
-pub loop-c-preserved : goal.loop-c-preserved
-loop-c-preserved c = search laws
+pub sum-sum-requires-clause-fits : goal.sum-sum-requires-clause-fits
+sum-sum-requires-clause-fits c =
+    let s = c.args.self in
+    let u = usable_of s.size s.bitmap.now s.counts.now s.free.now in
+    fits_by_from_yields_list u (range_with_len 0 (length s.counts.now)) _ (2 ^ 64)
+    (YieldsList-from_map _ u (YieldsList-at c.map.ensures.source (YieldsList-from_range 0 (length s.counts.now) (length s.counts.now) refl (omega arith))) c.map.ensures.closure (λ x r q k. search rules))
+    (rw (usable_all _ _ _ _ s.held) (usable_fits _ _ _ _ s.held))
 
 pub returns : goal.returns
-returns c = search laws
+returns c =
+    let s = c.args.self in
+    let u = usable_of s.size s.bitmap.now s.counts.now s.free.now in
+    sum_by_from_yields_List u (range_with_len 0 (length s.counts.now)) _ _ c.sum-sum.ensures.ran
+    (YieldsList-from_map _ u (YieldsList-at c.map.ensures.source (YieldsList-from_range 0 (length s.counts.now) (length s.counts.now) refl (omega arith))) c.map.ensures.closure (λ x r q k. search rules))
+    ∙ usable_all _ _ _ _ s.held
