@@ -24,9 +24,9 @@ const SLOTS: usize = 64;
 // Words of the slots, bytes of the slots and of the scratch.
 const HEADS: usize = SLOTS * lent::WORDS_EACH;
 
-const BYTES: usize = 2 * SLOTS * (4 * SIZE);
+const BYTES: usize = SLOTS * lent::BLOCKS_EACH * SIZE;
 
-const SCRATCH: usize = (2 * SLOTS + 2) * SIZE;
+const SCRATCH: usize = (SLOTS + 1) * lent::SCRATCH_EACH * SIZE;
 
 const LENT: Lent = Lent {
     size: SIZE,
@@ -87,17 +87,17 @@ impl Desk {
 
     // A new tree: physical, empty, of variable lengths in byte order.
     pub fn byte_tree(&mut self) -> Result<Tree, Refusal> {
-        self.begin(empty(0), Order::BYTE)
+        self.begin(empty(0), Order::BYTE_ORDER)
     }
 
     // The same of fixed lengths in pair order.
     pub fn pair_tree(&mut self) -> Result<Tree, Refusal> {
-        self.begin(empty(16), Order::PAIR)
+        self.begin(empty(16), Order::PAIR_ORDER)
     }
 
     // An empty root leaf at block 0, opened.
     #[tactic(auto, using(node::specs::laws::fit::Fit::fits_none), unfolding(node::specs::Records::entries_of, node::specs::Records::records_length))]
-    fn begin(&mut self, info: BTreeInfo, order: u64) -> Result<Tree, Refusal>
+    fn begin(&mut self, info: BTreeInfo, order: Order) -> Result<Tree, Refusal>
         requires size { info.node_size ≡ 512 }
         requires tree { Sized info }
     {

@@ -24,9 +24,9 @@ const SLOTS: usize = 64;
 // Words of the slots, bytes of the slots and of the scratch.
 const HEADS: usize = SLOTS * lent::WORDS_EACH;
 
-const BYTES: usize = 2 * SLOTS * (4 * SIZE);
+const BYTES: usize = SLOTS * lent::BLOCKS_EACH * SIZE;
 
-const SCRATCH: usize = (2 * SLOTS + 2) * SIZE;
+const SCRATCH: usize = (SLOTS + 1) * lent::SCRATCH_EACH * SIZE;
 
 const LENT: Lent = Lent {
     size: SIZE,
@@ -132,7 +132,7 @@ impl Desk {
             &mut self.bytes,
             LENT,
             root,
-            Order::PAIR,
+            Order::PAIR_ORDER,
             xid,
         );
         self.tree = opened.ok();

@@ -110,7 +110,7 @@ mapped = record { size = 512; slots = 1; map = Some 0 }
 
 -- the leaf opened: its tree in an order, its words with a shadow's and a mark, its bytes with a shadow's
 unfoldable pub tree : ℕ → Tree
-tree order = record { root = 0; used = 1; info = loose; by_id = false; subtype = 11; order = order; xid = 2 }
+tree order = record { root = 0; used = 1; info = loose; by_id = false; subtype = 11; order = record { code = order }; xid = 2 }
 
 unfoldable pub heads : List ℕ
 heads = 0 ∷ 2 ∷ 12 ∷ 1 ∷ 7 ∷ 0 ∷ 0 ∷ 0 ∷ 0 ∷ replicate 10 0
@@ -153,7 +153,7 @@ got room k = got_in (lent_of image lent) (tree byte) heads bytes room k
 
 -- the same tree with its two entries counted
 unfoldable pub counted : Tree
-counted = record { root = 0; used = 1; info = with_counts loose 2 1; by_id = false; subtype = 11; order = byte; xid = 2 }
+counted = record { root = 0; used = 1; info = with_counts loose 2 1; by_id = false; subtype = 11; order = record { code = byte }; xid = 2 }
 
 -- what floor and range find: a refusal; or 0, and the records of what was found
 unfoldable pub found_as : Result (Got Entry) → List ℕ

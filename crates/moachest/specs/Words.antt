@@ -38,7 +38,7 @@ tree_of w =
       info = info_of w;
       by_id = yes (get_or w 10 0);
       subtype = get_or w 11 0;
-      order = get_or w 12 0;
+      order = record { code = get_or w 12 0 };
       xid = get_or w 13 0;
     }
 
@@ -57,7 +57,7 @@ words_of t =
     ∷ t.info.node_count
     ∷ mark t.by_id
     ∷ t.subtype
-    ∷ t.order
+    ∷ t.order.code
     ∷ t.xid
     ∷ []
 

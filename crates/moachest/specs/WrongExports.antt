@@ -69,7 +69,7 @@ state_numbers s =
       info = s.info;
       by_id = s.virtual;
       subtype = s.subtype;
-      order = s.order;
+      order = record { code = s.order };
       xid = s.xid;
     })
     ++ node_numbers s.nodes

@@ -9,6 +9,7 @@ ghost use Rattle.moachest.specs.Words.{tree_of, on_tree, on_words};
 ghost use Rattle.moachest.specs.Answers.{returned, opened_tree, opened_back, got_tree, got_answer, got_back, floored_tree, floored_answer, floored_back, ranged_tree, ranged_answer, ranged_back};
 
 use crate::{answers, words};
+use node::order::Order;
 use tree::lent::Lent;
 use tree::lookup;
 use tree::refusal::Refusal;
@@ -35,7 +36,7 @@ pub fn open(
 {
     // Open needs nothing of the words but that they are enough.
     words::load(tree)?;
-    let opened = lookup::open(image, heads, bytes, lent, root, order, xid)?;
+    let opened = lookup::open(image, heads, bytes, lent, root, Order { code: order }, xid)?;
     words::store(tree, opened);
     Ok(())
 }

@@ -4,6 +4,7 @@ ghost use Rattle.seal.specs.Bytes.{splice};
 ghost use Rattle.moachest.specs.Words.{tree_of, stored, tree_holds, answer_holds};
 
 use node::info::BTreeInfo;
+use node::order::Order;
 use tree::editor::Tree;
 use tree::refusal::{Refusal, check};
 
@@ -59,7 +60,7 @@ pub fn load(tree: &[u64]) -> Result<Tree, Refusal>
         },
         by_id: by_id != 0,
         subtype,
-        order,
+        order: Order { code: order },
         xid,
     })
 }
@@ -104,7 +105,7 @@ pub fn store(tree: &mut [u64], t: Tree)
             info.node_count,
             t.by_id as u64,
             t.subtype,
-            t.order,
+            t.order.code,
             t.xid,
         ],
     );

@@ -13,7 +13,7 @@ pub const SLOTS: usize = 512;
 // Words and bytes of the workspace for so many slots, and of the scratch.
 pub const HEADS: usize = SLOTS * lent::WORDS_EACH;
 
-pub const WORK: usize = 8 * ROOM;
+pub const WORK: usize = lent::BLOCKS_EACH * ROOM;
 
 pub const SCRATCH: usize = 655360;
 

@@ -26,7 +26,7 @@ impl State<'_> {
             scratch: _,
             lent,
         } = self.memory.workspace(place.map)?;
-        let tree = lookup::open(image, heads, bytes, lent, root, order.code, xid)?;
+        let tree = lookup::open(image, heads, bytes, lent, root, order, xid)?;
         self.walked = Some(place);
         self.accept(Opened { tree, place }, b"open 0");
         Ok(())

@@ -27,8 +27,9 @@ impl Visitor for Out {
     // Its entries shown.
     fn leaf(&mut self, read: ReadNode) {
         for i in 0..read.node.nkeys as usize {
-            self.bytes(read.key_at(i));
-            match read.value_at(i) {
+            let entry = read.entry(i);
+            self.bytes(entry.key());
+            match entry.value() {
                 Val::Ghost => self.text(b" -"),
                 Val::Leaf(value) => self.bytes(value),
                 Val::Child(child) => self.bytes(&number_of(child).to_le_bytes()),

@@ -71,13 +71,16 @@ impl Sizes {
     pub fn slot_bytes(self) -> usize
         ensures { result ≡ product self.slots (product 8 self.size) }
     {
-        number::times(self.slots, number::times(8, self.size))
+        number::times(self.slots, number::times(lent::BLOCKS_EACH, self.size))
     }
 
     // Bytes of the scratch.
     pub fn scratch_bytes(self) -> usize
         ensures { result ≡ product (min (product 2 self.slots + 2) most) self.size }
     {
-        number::times(number::times(2, self.slots).saturating_add(2), self.size)
+        number::times(
+            number::times(lent::SCRATCH_EACH, self.slots).saturating_add(lent::SCRATCH_EACH),
+            self.size,
+        )
     }
 }

@@ -5,7 +5,7 @@ use crate::fault::Fault;
 use crate::memory::{Memory, first_mut};
 use crate::state::{Place, State};
 use node::read;
-use node::read::ReadNode;
+use node::read::{ReadEntry, ReadNode};
 use node::val::{Child, Val};
 use tree::editor::Bounds;
 use tree::lent::Lent;
@@ -54,30 +54,27 @@ impl<'a> Walk<'a> {
         Ok(map::load_block(self.image, self.lent, order, place, a)?)
     }
 
-    // The bounds of child i: its index key, and the next one, or where there is none its parent's.
-    fn bounds(self, read: ReadNode<'a>, b: Bounds<&'a [u8]>, i: usize) -> Bounds<&'a [u8]>
-        requires { i < read.node.nkeys }
-    {
-        let upper = if i + 1 < read.node.nkeys as usize {
-            Some(read.key_at(i + 1))
+    // The bounds of an entry's child: its key, and the next one, or where there is none its parent's.
+    fn bounds(self, entry: ReadEntry<'a>, b: Bounds<&'a [u8]>) -> Bounds<&'a [u8]> {
+        let next = entry.index + 1;
+        let upper = if next < entry.read.node.nkeys as usize {
+            Some(entry.read.entry(next).key())
         } else {
             b.upper
         };
         Bounds {
-            lower: Some(read.key_at(i)),
+            lower: Some(entry.key()),
             upper,
         }
     }
 
-    // Child i of a node, within its bounds.
-    fn child(self, read: ReadNode<'a>, b: Bounds<&'a [u8]>, i: usize) -> Result<ReadNode<'a>, Fault>
-        requires { i < read.node.nkeys }
-    {
-        let r = match read.value_at(i) {
+    // The child of an entry, within its bounds.
+    fn child(self, entry: ReadEntry<'a>, b: Bounds<&'a [u8]>) -> Result<ReadNode<'a>, Fault> {
+        let r = match entry.value() {
             Val::Child(Child::Disk(r)) => r,
             _ => 0,
         };
-        let v = read.node;
+        let v = entry.read.node;
         let Bounds { lower, upper } = b;
         let place = read::Place {
             root: false,
@@ -124,8 +121,9 @@ impl<'a> Walk<'a> {
             return Ok(());
         }
         for i in 0..read.node.nkeys as usize {
-            let inner = self.bounds(read, b, i);
-            let child = self.child(read, inner, i)?;
+            let entry = read.entry(i);
+            let inner = self.bounds(entry, b);
+            let child = self.child(entry, inner)?;
             self.below(child, inner, d - 1, to)?;
         }
         Ok(())

@@ -6,6 +6,7 @@ ghost use Rattle.node.specs.Refusals.{number_of};
 ghost use Rattle.speed.specs.OneNode.{answered, answer_of, read_into, root_place, build_like, lent, sizes_hold, records_fit, packable, pack_into};
 
 use node::build::NodeBuild;
+use node::fit::SlotNode;
 use node::info::BTreeInfo;
 use node::order::Order;
 use node::read::{Node, Place};
@@ -106,7 +107,7 @@ fn fitting(b: NodeBuild, slot: &[u8], n: usize, used: u64) -> Option<Records<'_>
         root: b.root,
         level: b.level,
     };
-    records.fits(used, shape).then_some(records)
+    SlotNode { records, shape }.fits(used).then_some(records)
 }
 
 // Packs the n records of a slot, `used` bytes, as a root with the numbers of the root block `like`: false where they are not n records, or do
