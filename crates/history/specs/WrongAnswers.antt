@@ -321,8 +321,8 @@ seal_rows =
       wrong = 9 ∷ replicate 7 0 ++ 7 ∷ replicate 7 0 ++ 2 ∷ replicate 7 0;
       wrong' = 2 ∷ replicate 7 0 ++ 7 ∷ replicate 7 0 ++ 3 ∷ replicate 3 0 ++ 11 ∷ replicate 3 0;
     }
-    ∷ record { contract = "ObjHeader::kind"; gives = kind_of 0x40010002 ∷ []; right = 2 ∷ []; wrong = 0x10002 ∷ []; wrong' = 1 ∷ [] }
-    ∷ record { contract = "ObjHeader::storage"; gives = storage_of 0x40000002 ∷ []; right = 0x40000000 ∷ []; wrong = 2 ∷ []; wrong' = 1 ∷ [] }
+    ∷ record { contract = "obj::kind_of"; gives = kind_of 0x40010002 ∷ []; right = 2 ∷ []; wrong = 0x10002 ∷ []; wrong' = 1 ∷ [] }
+    ∷ record { contract = "obj::storage_of"; gives = storage_of 0x40000002 ∷ []; right = 0x40000000 ∷ []; wrong = 2 ∷ []; wrong' = 1 ∷ [] }
     ∷ []
 
 -- ---- node: orders and heads

@@ -143,7 +143,7 @@ impl SlotNode<'_> {
         check(Refusal::Single, 1 < self.records.count)?;
         let whole = Whole {
             node: self,
-            lengths: self.lengths(),
+            lengths: self.records.lengths(self.shape.info),
         };
         let left = whole.left();
         let parts = Parts { whole, left };

@@ -45,24 +45,27 @@ pub struct SlotNode<'s> {
     ghost small: { length records.slot.now ≤ 2 ^ 20 },
 }
 
-impl SlotNode<'_> {
-    // What the records take.
+impl Records<'_> {
+    // What they take.
     #[tactic(auto, using(crate::specs::laws::fit::Fit::lengths))]
-    pub fn lengths(self) -> Lengths
-        ensures { (result ≡ lengths_of self.entry.shape.info self.entry.records.count self.entry.records.slot.now)
+    pub fn lengths(self, info: BTreeInfo) -> Lengths
+        requires { length self.slot.now ≤ 2 ^ 20 }
+        ensures { (result ≡ lengths_of info self.entry.count self.entry.slot.now)
             × (result.keys + result.values < 2 ^ 24) }
     {
         let mut s = Lengths::default();
-        for _ in 0..self.records.count {
+        for _ in 0..self.count {
             let r = Record {
-                slot: self.records.slot,
+                slot: self.slot,
                 at: s.at,
             };
-            s = s.longer(r, self.shape.info);
+            s = s.longer(r, info);
         }
         s
     }
+}
 
+impl SlotNode<'_> {
     // Whether the entries fit, which take `used` bytes in the slot. Padding adds at most 7 bytes to a key and 7 to a
     // value, and a record's head has 4: where there is room for so much, their lengths need not be looked at.
     #[tactic(auto, using(crate::specs::laws::fit::Fit::fitting))]
@@ -75,7 +78,7 @@ impl SlotNode<'_> {
         if self.shape.fits_sums(n, used + 10 * n) {
             return true;
         }
-        let s = self.lengths();
+        let s = self.records.lengths(self.shape.info);
         self.shape.fits_sums(n, s.keys + s.values)
     }
 
@@ -85,7 +88,7 @@ impl SlotNode<'_> {
         ensures { (result ≡ packed_length self.entry.shape.info self.entry.shape.root self.entry.shape.level
             (entries_of self.entry.records.count self.entry.records.slot.now)) × (result < 2 ^ 40) }
     {
-        let s = self.lengths();
+        let s = self.records.lengths(self.shape.info);
         let toc = self.shape.toc_length(self.records.count);
         toc + (s.keys + s.values)
     }

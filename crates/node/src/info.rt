@@ -37,7 +37,7 @@ impl BTreeInfo {
     {
         let i = block.len() - layout::BTREE_INFO_SIZE;
         BTreeInfo {
-            flags: bytes::field_at::<4>(block, i),
+            flags: bytes::field_at::<4>(block, i + layout::BT_FLAGS),
             node_size: bytes::field_at::<4>(block, i + layout::BT_NODE_SIZE),
             key_size: bytes::field_at::<4>(block, i + layout::BT_KEY_SIZE),
             val_size: bytes::field_at::<4>(block, i + layout::BT_VAL_SIZE),

@@ -11,6 +11,7 @@ use crate::sought::Sought;
 // The leading records that are seen to be below the key, as far as `rest` says of each mark what its value adds to the `bare` bytes of a record.
 // `after` is where the next record would start if this one had `bare` bytes; it is reckoned a turn early, so that where the next record starts
 // waits for one load and two sums.
+#[tactic(auto, using(crate::specs::laws::slot::Passed::passed_lies))]
 fn run_while<S: Sought, M: Fn(u64) -> Option<u64>>(
     records: Records<'_>,
     s: &S,

@@ -1,6 +1,5 @@
 // Orders of keys: what the Rust passes as a `cmp` pointer (`omap_cmp`) is a code with associated constants.
-ghost use Rattle.std.specs.Prelude.{◌≡◌, ◌≤◌, length};
-ghost use Rattle.seal.specs.Bytes.{splice};
+ghost use Rattle.std.specs.Prelude.{◌≡◌, length};
 ghost use Rattle.node.specs.Order.{pair, byte, known, keyed_length, less, pair_key};
 ghost use Rattle.node.specs.internal.Sought.{compared};
 
@@ -62,14 +61,15 @@ impl Order {
         byte_less(a, b)
     }
 
-    // The key of an object id and a transaction (`omap_key`), stored where `out` starts.
+    // The key of an object id and a transaction (`omap_key`).
     #[tactic(auto, using(crate::specs::laws::order::OrderSteps::pair_put))]
-    pub fn pair_key(out: &mut [u8], id: u64, xid: u64)
-        requires { 16 ≤ length out.old }
-        ensures { out.new ≡ splice out.old 0 (pair_key id xid) }
+    pub fn pair_key(id: u64, xid: u64) -> [u8; 16]
+        ensures { result ≡ pair_key id xid }
     {
-        bytes::put_field::<8>(out, 0, id);
-        bytes::put_field::<8>(out, 8, xid);
+        let mut key = [0; 16];
+        bytes::put_field::<8>(&mut key, 0, id);
+        bytes::put_field::<8>(&mut key, 8, xid);
+        key
     }
 }
 

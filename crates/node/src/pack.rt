@@ -1,13 +1,13 @@
 // Packing a node that fits (`build` of btree_write.rs): straight into the block that is lent from its start.
-ghost use Rattle.std.specs.Prelude.{◌≡◌, true, map, ◌+◌, ◌*◌, ◌≤◌, ◌<◌, ◌^◌, length, drop};
+ghost use Rattle.std.specs.Prelude.{◌≡◌, [], true, map, ◌+◌, ◌*◌, ◌≤◌, ◌<◌, ◌^◌, length, drop};
 ghost use Rattle.seal.specs.Bytes.{splice};
 ghost use Rattle.seal.specs.Obj.{o_oid};
 ghost use Rattle.node.specs.Obj.{btn_flags, btn_lists, node_header, info_size};
-ghost use Rattle.node.specs.Entry.{value_bytes};
-ghost use Rattle.node.specs.Records.{mark_length, value_of, entries_of, entry_of};
+ghost use Rattle.node.specs.Records.{entries_of, entry_of};
 ghost use Rattle.node.specs.Fit.{Sized, fits, slot_width, keys_length, values_length};
-ghost use Rattle.node.specs.Pack.{child_number, numbered_value, numbered, node_flags, info_bytes, pack_node};
-ghost use Rattle.node.specs.internal.PackSteps.{marked_at, slot_bytes, mark_offset, put_entry, put_entries, spot_after, Room, Rooms, node_bytes, no_lists, head_of, filled, Packs};
+ghost use Rattle.node.specs.Slot.{value_means};
+ghost use Rattle.node.specs.Pack.{child_number, numbered_value, numbered, value_offset, node_flags, info_bytes, pack_node};
+ghost use Rattle.node.specs.internal.PackSteps.{marked_at, slot_bytes, put_entry, put_entries, spot_after, Room, Rooms, node_bytes, no_lists, head_of, filled, Packs};
 
 use crate::build::NodeBuild;
 use crate::head::HEAD_WORDS;
@@ -15,7 +15,8 @@ use crate::info::BTreeInfo;
 use crate::record::Record;
 use crate::room::Shape;
 use crate::slot::Records;
-use crate::{layout, record, room};
+use crate::val::{Child, Val};
+use crate::{layout, room};
 use seal::obj::ObjHeader;
 use seal::{bytes, checksum};
 
@@ -80,15 +81,31 @@ pub fn child_number(heads: &[u64], s: u64, by_id: bool) -> u64
     marked_at(heads, s as usize, mark)
 }
 
+impl<'a> Packed<'a> {
+    // A value as it is packed: a child in a slot by its number.
+    #[tactic(auto, unfolding(crate::specs::Pack::numbered_value, crate::specs::Slot::value_means, crate::specs::Slot::child_means))]
+    fn numbered(self, value: Val<'a>) -> Val<'a>
+        ensures { value_means result
+            ≡ numbered_value (child_number self.entry.heads.now self.entry.by_id) (value_means value.entry) }
+    {
+        match value {
+            Val::Child(Child::Mem(s)) => {
+                let number = child_number(self.heads, s, self.by_id);
+                Val::Child(Child::Disk(number))
+            }
+            Val::Child(Child::Disk(_)) | Val::Leaf(_) | Val::Ghost => value,
+        }
+    }
+}
+
 // The offset that the contents give a value: a ghost has none.
-#[tactic(auto, unfolding(crate::specs::internal::PackSteps::mark_offset))]
-fn value_offset(mark: u64, val: u64) -> u64
-    ensures { result ≡ mark_offset mark val }
+#[tactic(auto, unfolding(crate::specs::Pack::value_offset, crate::specs::Slot::value_means, crate::specs::Slot::child_means))]
+fn value_offset(value: Val<'_>, val: u64) -> u64
+    ensures { result ≡ value_offset (value_means value.entry) val }
 {
-    if mark == record::GHOST {
-        layout::BTOFF_INVALID
-    } else {
-        val
+    match value {
+        Val::Ghost => layout::BTOFF_INVALID,
+        _ => val,
     }
 }
 
@@ -109,26 +126,6 @@ fn put_slot(block: &mut [u8], p: usize, t: BTreeInfo, ko: u64, kl: u64, vo: u64,
     }
 }
 
-// The value of this mark and these bytes, at p; a child in a slot by its number.
-#[tactic(auto, using(crate::specs::laws::pack::Steps::value_laws))]
-fn put_value(block: &mut [u8], p: usize, mark: u64, v: &[u8], heads: &[u64], by_id: bool)
-    requires { (length v.now ≡ mark_length mark) × (p + length v.now ≤ length block.old) }
-    ensures { block.new ≡ splice block.old p
-        (value_bytes (numbered_value (child_number heads.now by_id) (value_of mark v.now))) }
-{
-    if mark <= 0xFFFC {
-        bytes::copy_to(v, block, p);
-    } else if mark != record::GHOST {
-        let x = bytes::field_at::<8>(v, 0);
-        let number = if mark == record::DISK {
-            x
-        } else {
-            child_number(heads, x, by_id)
-        };
-        bytes::put_field::<8>(block, p, number);
-    }
-}
-
 // The record at s.at: its key after the keys, its value before the values, its contents slot.
 #[tactic(auto, using(crate::specs::laws::pack::Steps::sums), unfolding(crate::specs::internal::SlotSteps::parts_at))]
 fn put_entry(block: &mut [u8], from: Packed, areas: Areas, s: Spot) -> Spot
@@ -142,31 +139,20 @@ fn put_entry(block: &mut [u8], from: Packed, areas: Areas, s: Spot) -> Spot
     let r = Record {
         slot: from.records.slot,
         at: s.at,
-    }
-    .parts();
-    let klen = r.klen as u64;
-    let vlen = r.vlen as u64;
+    };
+    let p = r.parts();
+    let klen = p.klen as u64;
+    let vlen = p.vlen as u64;
     let key = s.key + room::padded(t, klen) as usize;
     let val = s.val + room::padded(t, vlen) as usize;
-    bytes::copy_to(
-        &from.records.slot[r.key..r.value],
-        block,
-        areas.keys + s.key,
-    );
-    let value = &from.records.slot[r.value..r.next];
-    put_value(
-        block,
-        areas.vals - val,
-        r.mark,
-        value,
-        from.heads,
-        from.by_id,
-    );
-    let vo = value_offset(r.mark, val as u64);
+    bytes::copy_to(r.key(), block, areas.keys + s.key);
+    let value = from.numbered(r.value());
+    value.store(block, areas.vals - val);
+    let vo = value_offset(value, val as u64);
     put_slot(block, s.toc, t, s.key as u64, klen, vo, vlen);
     Spot {
         toc: s.toc + room::slot_width(t) as usize,
-        at: r.next,
+        at: p.next,
         key,
         val,
     }
@@ -261,7 +247,7 @@ fn put_info(block: &mut [u8], p: usize, t: BTreeInfo)
     requires { p + info_size ≤ length block.old }
     ensures { block.new ≡ splice block.old p (info_bytes t) }
 {
-    bytes::put_field::<4>(block, p, t.flags);
+    bytes::put_field::<4>(block, p + layout::BT_FLAGS, t.flags);
     bytes::put_field::<4>(block, p + layout::BT_NODE_SIZE, t.node_size);
     bytes::put_field::<4>(block, p + layout::BT_KEY_SIZE, t.key_size);
     bytes::put_field::<4>(block, p + layout::BT_VAL_SIZE, t.val_size);
@@ -321,4 +307,18 @@ pub fn pack(dst: &mut [u8], records: Records<'_>, heads: &[u64], by_id: bool, b:
     };
     fill(block, from, b);
     checksum::seal(block);
+}
+
+// Packs a node with no entries, which fits a block of any size that a node has.
+#[tactic(auto, using(crate::specs::laws::fit::Fit::fits_none), unfolding(crate::specs::Records::entries_of, crate::specs::Records::records_length))]
+pub fn pack_empty(dst: &mut [u8], b: NodeBuild)
+    requires tree { Sized b.info }
+    requires block { b.info.node_size ≤ length dst.old }
+    ensures { dst.new ≡ splice dst.old 0 (pack_node b []) }
+{
+    let none = Records {
+        slot: &[0; 8],
+        count: 0,
+    };
+    pack(dst, none, &[0; HEAD_WORDS], false, b);
 }

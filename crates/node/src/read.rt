@@ -14,9 +14,9 @@ use crate::info::BTreeInfo;
 use crate::order::Order;
 use crate::refusal::{Refusal, check};
 use crate::val::{Child, Val};
-use crate::{layout, room};
-use seal::obj::{OBJECT_TYPE_BTREE, OBJECT_TYPE_BTREE_NODE, OBJECT_TYPE_MASK, ObjHeader};
-use seal::{bytes, checksum};
+use crate::{layout, room, stands};
+use seal::obj::{OBJECT_TYPE_BTREE, OBJECT_TYPE_BTREE_NODE, ObjHeader};
+use seal::{bytes, checksum, obj};
 
 // The highest level of a node.
 pub const MAX_DEPTH: u64 = 32;
@@ -344,24 +344,17 @@ impl<'b> ReadNode<'b> {
     }
 
     // Of 9 of the load line: keys that the order can hold, and that rise.
-    #[tactic(auto, using(crate::specs::laws::read::Keys::rise))]
+    #[tactic(auto, using(crate::specs::laws::read::Keys::keys_rise_laws))]
     fn keys_rise(self, order: Order) -> bool
         ensures { result ≡ keys_rise order.code (entries_from self.entry.node self.entry.block.now 0 self.entry.node.nkeys) }
     {
-        let n = self.node.nkeys as usize;
-        if n == 0 {
-            return true;
-        }
-        let mut last = self.entry(0).key();
-        if !order.keyed(last.len()) {
-            return false;
-        }
-        for i in 1..n {
+        let mut last = None;
+        for i in 0..self.node.nkeys as usize {
             let key = self.entry(i).key();
-            if !order.keyed(key.len()) || !order.less(last, key) {
+            if !order.keyed(key.len()) || !stands::rises(order, last, key) {
                 return false;
             }
-            last = key;
+            last = Some(key);
         }
         true
     }
@@ -387,12 +380,11 @@ impl<'b> ReadNode<'b> {
 }
 
 // A root or another node.
-#[tactic(auto, using(seal::specs::laws::ObjLaws::kind_masked))]
 fn is_node(otype: u64) -> bool
     ensures { result ≡ is_node otype }
 {
     matches!(
-        otype & OBJECT_TYPE_MASK,
+        obj::kind_of(otype),
         OBJECT_TYPE_BTREE | OBJECT_TYPE_BTREE_NODE
     )
 }

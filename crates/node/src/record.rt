@@ -169,7 +169,7 @@ impl Child {
 
     // Its block, id or slot.
     #[tactic(auto, using(crate::specs::laws::slot::Stored::number))]
-    fn number(self) -> u64
+    pub fn number(self) -> u64
         ensures { bytes_of 8 result ≡ value_bytes (child_means self) }
     {
         match self {

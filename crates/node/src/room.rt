@@ -1,20 +1,12 @@
 // What keys, values and contents take in a block, as packed (`layout` of btree_write.rs).
 ghost use Rattle.std.specs.Prelude.{◌≡◌, ◌+◌, ◌≤◌, ◌<◌, ◌^◌};
-ghost use Rattle.node.specs.Fit.{Sized, align8, padded, data_space, slot_width, fixed_value, toc_slots, toc_length};
+ghost use Rattle.node.specs.Fit.{Sized, padded, data_space, slot_width, fixed_value, toc_slots, toc_length};
 
 use crate::info::BTreeInfo;
 use crate::layout;
 
-#[tactic(auto, unfolding(crate::specs::Fit::align8))]
-fn align8(n: u64) -> u64
-    requires { n < 2 ^ 32 }
-    ensures { (result ≡ align8 n) × (result ≤ n + 7) }
-{
-    (n + 7) / 8 * 8
-}
-
 // A length as packed (`pad` of `layout`): 0x40 is BTREE_KV_NONALIGNED.
-#[tactic(auto, unfolding(crate::specs::Fit::padded))]
+#[tactic(auto, unfolding(crate::specs::Fit::padded, crate::specs::Fit::align8))]
 pub fn padded(info: BTreeInfo, n: u64) -> u64
     requires { n < 2 ^ 32 }
     ensures { (result ≡ padded info n) × (result ≤ n + 7) }
@@ -22,7 +14,7 @@ pub fn padded(info: BTreeInfo, n: u64) -> u64
     if layout::flag(info.flags, layout::BTREE_KV_NONALIGNED) {
         n
     } else {
-        align8(n)
+        n.next_multiple_of(8)
     }
 }
 
@@ -73,15 +65,15 @@ impl Shape {
     }
 
     // Slots of the contents of n entries.
-    #[tactic(auto, unfolding(crate::specs::Fit::toc_slots, crate::specs::Fit::greater))]
+    #[tactic(auto, unfolding(crate::specs::Fit::toc_slots, crate::specs::Fit::greater, crate::specs::Fit::align8))]
     pub fn toc_slots(self, n: u64) -> u64
         requires { n < 2 ^ 32 }
         ensures { (result ≡ toc_slots self.info self.root self.level n) × (result < 2 ^ 33) }
     {
         if self.info.is_fixed() {
-            align8(self.data_space() / (4 + self.info.key_size + self.fixed_value()))
+            (self.data_space() / (4 + self.info.key_size + self.fixed_value())).next_multiple_of(8)
         } else {
-            align8(n).max(16)
+            n.next_multiple_of(8).max(16)
         }
     }
 

@@ -242,6 +242,7 @@ pub fn set_value(slot: &mut [u8], e: EntryAt, value: Val<'_>) -> usize
 }
 
 // The child of record i is another, on disk or in a slot: its mark and its number change in place, and no record moves.
+#[tactic(auto, using(crate::specs::laws::slot::Records::record_room_2, crate::specs::laws::slot::Slot::at_lies))]
 pub fn relink(slot: &mut [u8], n: u64, i: u64, at: usize, c: Child)
     requires place { (at ≡ records_length i slot.old) × (i < n)
         × (records_length n slot.old ≤ length slot.old) }

@@ -67,22 +67,22 @@ impl ObjHeader {
         put_field::<4>(b, O_TYPE, self.obj_type);
         put_field::<4>(b, O_SUBTYPE, self.subtype);
     }
+}
 
-    // What the object is: the type's bits under OBJECT_TYPE_MASK.
-    // A number and no enum: a type word holds any of 65,536 kinds, few of them have names, and `write` stores each.
-    #[tactic(auto, using(crate::specs::laws::ObjLaws::kind_masked))]
-    pub fn kind(self) -> u64
-        ensures { result ≡ kind_of self.obj_type }
-    {
-        self.obj_type & OBJECT_TYPE_MASK
-    }
+// What an object is, by its type: the bits under OBJECT_TYPE_MASK.
+// A number and no enum: a type word holds any of 65,536 kinds, few of them have names, and a header stores each.
+#[tactic(auto, using(crate::specs::laws::ObjLaws::kind_masked))]
+pub fn kind_of(obj_type: u64) -> u64
+    ensures { result ≡ kind_of obj_type }
+{
+    obj_type & OBJECT_TYPE_MASK
+}
 
-    // How the object is found: the type's bits under OBJ_STORAGETYPE_MASK.
-    // A number and no enum: a type word holds any of four classes, one of them has no name, and `write` stores each.
-    #[tactic(auto, using(crate::specs::laws::ObjLaws::storage_masked))]
-    pub fn storage(self) -> u64
-        ensures { result ≡ storage_of self.obj_type }
-    {
-        self.obj_type & OBJ_STORAGETYPE_MASK
-    }
+// How an object is found, by its type: the bits under OBJ_STORAGETYPE_MASK.
+// A number and no enum: a type word holds any of four classes, one of them has no name, and a header stores each.
+#[tactic(auto, using(crate::specs::laws::ObjLaws::storage_masked))]
+pub fn storage_of(obj_type: u64) -> u64
+    ensures { result ≡ storage_of obj_type }
+{
+    obj_type & OBJ_STORAGETYPE_MASK
 }

@@ -28,10 +28,6 @@ off_bytes ko vo = bytes_of 2 ko ++ bytes_of 2 vo
 unfoldable pub slot_bytes : BTreeInfo → ℕ → ℕ → ℕ → ℕ → List ℕ
 slot_bytes t ko kl vo vl = cond (fixed t) (off_bytes ko vo) (loc_bytes ko kl vo vl)
 
--- a value's offset by its mark
-unfoldable pub mark_offset : ℕ → ℕ → ℕ
-mark_offset m o = cond (eqb m 0xFFFF) 0xFFFF o
-
 -- an entry's key at ko in the key area, its value vo before the values' end, its contents slot at toc
 unfoldable pub put_entry : BTreeInfo → ℕ → ℕ → ℕ → ℕ → ℕ → Entry → List ℕ → List ℕ
 put_entry t keys vals toc ko vo e b =

@@ -5,9 +5,6 @@ use Rattle.node.proofs.led.run_while.Goals as goal
 pub loop-i-init : goal.loop-i-init
 loop-i-init g c = record { passed = passed_none _ _ _ _; ahead = omega arith }
 
-pub invariant_of-r : goal.invariant_of-r
-invariant_of-r g c = record { lies = passed_lies _ _ _ _ _ _ _ c.args.records.within c.loop-i-test.true c.loop-i.invariant.passed }
-
 pub overflow_add-at : goal.overflow_add-at
 overflow_add-at g c =
     let e = bare_next _ _ _ _ _ _ _ c.klen-klen.ensures.0 c.mark.ensures.0 c.loop-i.invariant.ahead (c.requires.adds _ _ c.in-Some.ensures) in

@@ -1,24 +1,13 @@
-use Rattle.std.proofs.Common.{arith, rules}
 use Rattle.node.specs.Slot.{value_means}
-use Rattle.node.specs.laws.slot.Records.{record_room_2}
 use Rattle.node.specs.laws.slot.Relink.{link_room, relink_entries, relink_starts}
-use Rattle.node.specs.laws.slot.Slot.{at_lies}
 use Rattle.node.specs.laws.slot.Stored.{new_child}
 use Rattle.node.proofs.slot.relink.Goals as goal
-
-ruleset laws = (rules, at_lies)
-
-pub invariant_of-parts : goal.invariant_of-parts
-invariant_of-parts c = record { lies = search laws }
 
 pub store-requires : goal.store-requires
 unfolding value_means
 store-requires c =
     let p = c.requires in
     link_room _ _ _ _ _ _ p.place.0 p.place.1 p.place.2 p.old (new_child _) p.new c.parts-v.ensures
-
-pub put_field-requires-clause-room : goal.put_field-requires-clause-room
-put_field-requires-clause-room c = let p = c.requires in omega (arith, record_room_2 _ _ (at_lies _ _ _ _ p.place.2 p.place.1 p.place.0))
 
 pub returns : goal.returns
 unfolding value_means

@@ -1,5 +1,5 @@
-use Rattle.std.proofs.Common.{refl, ◌∙◌}
-use Rattle.node.specs.laws.fit.Pass.{check_start, check_sums, check_at, check_long, check_key, check_out, check_entry, check_fall, check_rise, check_risen, check_turn, check_done}
+use Rattle.std.proofs.Common.{refl}
+use Rattle.node.specs.laws.fit.Pass.{check_start, check_sums, check_at, check_long, check_key, check_out, check_entry, check_fall, check_rise, check_turn}
 use Rattle.node.proofs.stands.check.Goals as goal
 
 pub returns-in_err-r : goal.returns-in_err-r
@@ -33,8 +33,3 @@ pub loop-init : goal.loop-init
 loop-init c =
     let e = c.default-s.ensures in
     (check_start _ _ _ _ _ _ e.0 e.1.0 e.1.1, refl)
-
-pub returns : goal.returns
-returns c =
-    c.then_some.ensures
-    ∙ check_done _ _ _ _ _ _ _ c.loop.invariant.0 _ c.loop-test.false (check_risen _ _ _ _ _ _ _ c.loop.invariant.0 (λ k. k.now) c.loop.last c.loop.invariant.1 c.loop-test.false)

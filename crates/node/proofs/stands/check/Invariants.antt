@@ -1,7 +1,7 @@
 use Rattle.node.specs.Entry.{rising}
 use Rattle.node.specs.Records.{entries_of}
 use Rattle.node.specs.internal.SlotSteps.{Checking}
-use Rattle.node.specs.laws.fit.Pass.{Rises}
+use Rattle.node.specs.laws.order.Rising.{Rises}
 use lib.ListN.{drop}
 use Rattle.node.proofs.stands.check.Given as goal
 

@@ -18,6 +18,7 @@ use Rattle.node.specs.Records.{mark_length, value_of, record_length, entry_of, r
 use Rattle.node.specs.Slot.{records_hold, suit, key_length_holds, value_length_holds, value_holds, entry_holds}
 use Rattle.node.specs.internal.SlotSteps.{mark_holds, records_stand, checked_of, Checking, parts_at, lengths_of, longer_of}
 use Rattle.node.specs.laws.base.Tests.{by_test}
+use Rattle.node.specs.laws.order.Rising.{Rises, rise_step, rise_end}
 use Rattle.node.specs.laws.fit.Fit.{lengths_none, lengths_next, lengths_done, lengths_room}
 use Rattle.node.specs.laws.slot.Records.{at_klen, at_mark, length_entries, entries_head, entry_key_length}
 use Rattle.node.specs.laws.slot.Slot.{at_next}
@@ -82,21 +83,6 @@ third_no : (a b c : Bool) → c ≡ false → false ≡ a && b && c
 third_no true true c h = sym h
 third_no true false c h = refl
 third_no false b c h = refl
-
--- keys that rise after the key before them, if there is one, decide w
-abbrev pub Rises : ℕ → {A : Type 0} → (A → List ℕ) → Option A → List Entry → Bool → Type 0
-Rises o now last es w = MatchOption last (rising o es ≡ w) (λ a. rise_after o (now a) es ≡ w)
-
-rise_step : (o : ℕ) {A : Type 0} (now : A → List ℕ) (last : Option A) (e : Entry) (es : List Entry) (w c : Bool) (k : List ℕ) → k ≡ e.key
-    → Rises o now last (e ∷ es) w → MatchOption last (IsTrue c) (λ a. c ≡ less o (now a) k) → w ≡ c && rise_after o k es
-unfolding rising rise_after
-rise_step o now None e es w c k ek p q = sym p ∙ rw (q, ek)
-rise_step o now (Some a) e es w c k ek p q = sym p ∙ rw (q, ek)
-
-rise_end : (o : ℕ) {A : Type 0} (now : A → List ℕ) (last : Option A) (w : Bool) → Rises o now last [] w → true ≡ w
-unfolding rising rise_after
-rise_end o now None w p = p
-rise_end o now (Some a) w p = p
 
 both : (a : Bool) → a && true && true ≡ a
 both true = refl

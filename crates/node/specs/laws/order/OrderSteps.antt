@@ -1,11 +1,9 @@
 -- Laws of the code that compares keys: one for each way out and each turn of a loop. Assumes nothing.
-use Rattle.std.specs.Prelude.{◌≡◌, refl, List, [], ◌∷◌, Bool, not, ◌&&◌, ◌||◌, ℕ, suc, ◌+◌, ◌-◌, ◌≤◌, ◌<◌, min, length, drop, get_or, ltb, eqb}
+use Rattle.std.specs.Prelude.{◌≡◌, refl, List, [], ◌∷◌, Bool, not, ◌&&◌, ◌||◌, ℕ, suc, ◌+◌, ◌-◌, ◌≤◌, ◌<◌, min, length, drop, replicate, get_or, ltb, eqb}
 use Rattle.std.proofs.Common.{sym, ap, ◌∙◌, add-one, arith, length-drop, drop-cons, lt-ltb, le-ltb, eq-eqb, ne_eqb}
 use Rattle.std.specs.Cmp.Lexicographic.{pointwise}
 use Rattle.std.specs.Prelude.{nat_eq}
 use Rattle.seal.specs.Bytes.{u64_at, bytes_of, splice}
-use Rattle.seal.specs.laws.FieldLaws.{length_bytes_of}
-use Rattle.seal.specs.laws.WindowLaws.{splice_run}
 use Rattle.node.specs.laws.base.Tests.{ltb_same, or-false}
 use Rattle.node.specs.Order.{keyed_length, keyed, pair_key, pair_less, byte_less, less, same_key}
 
@@ -23,13 +21,10 @@ pub pair_id_lem : (a b : List ℕ) (x y : ℕ) → x ≡ u64_at a 0 → y ≡ u6
 unfolding pair_less
 pair_id_lem a b x y p q n = rw (← p, ← q, ne_eqb x y n) (sym (or-false (ltb x y)))
 
-pub pair_put : (l l₁ l₂ : List ℕ) (id xid : ℕ) → 16 ≤ length l → l₁ ≡ splice l 0 (bytes_of 8 id) → l₂ ≡ splice l₁ 8 (bytes_of 8 xid)
-    → l₂ ≡ splice l 0 (pair_key id xid)
-unfolding pair_key
-pair_put l l₁ l₂ id xid h p q =
-    let e : length (bytes_of 8 id) ≡ 8 = length_bytes_of 8 id in
-    let f : length (bytes_of 8 xid) ≡ 8 = length_bytes_of 8 xid in
-    splice_run l l₁ l₂ 0 (bytes_of 8 id) 8 (bytes_of 8 xid) (omega arith) (omega arith) p q
+pub pair_put : (k k' : List ℕ) (id xid : ℕ) → k ≡ splice (replicate 16 0) 0 (bytes_of 8 id) → k' ≡ splice k 8 (bytes_of 8 xid)
+    → k' ≡ pair_key id xid
+unfolding splice pair_key bytes_of
+pair_put k k' id xid p q = q ∙ ap (λ (x : List ℕ). splice x 8 (bytes_of 8 xid)) p
 
 -- ---- bytes: what is left from index i on decides
 

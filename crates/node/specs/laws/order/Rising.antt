@@ -1,5 +1,5 @@
 -- Laws of entries whose keys rise, and of a test that passes on every entry. Assumes nothing.
-use Rattle.std.specs.Prelude.{◌≡◌, Bool, ◌&&◌, not, length, take, drop, get_or}
+use Rattle.std.specs.Prelude.{◌≡◌, Bool, ◌&&◌, not, length, take, drop, get_or, Option, Some, None, MatchOption, IsTrue}
 use Rattle.std.proofs.Math.Path.{refl, ap}
 use Rattle.std.proofs.Common.{sym, ◌∙◌, not-suc-le-zero, le_of_suc-le-suc, arith, take-append-drop}
 use mathlib.Core.List.{List, [], ◌∷◌, ◌++◌}
@@ -58,6 +58,23 @@ every_imp t u [] f h = refl
 every_imp t u (e ∷ es) f h =
     let (p, q) = and_split (t e) (every t es) h in
     and_both (u e) (every u es) (f e p) (every_imp t u es f q)
+
+-- ---- keys that rise, one after another
+
+-- keys that rise after the key before them, if there is one, decide w
+abbrev pub Rises : ℕ → {A : Type 0} → (A → List ℕ) → Option A → List Entry → Bool → Type 0
+Rises o now last es w = MatchOption last (rising o es ≡ w) (λ a. rise_after o (now a) es ≡ w)
+
+pub rise_step : (o : ℕ) {A : Type 0} (now : A → List ℕ) (last : Option A) (e : Entry) (es : List Entry) (w c : Bool) (k : List ℕ) → k ≡ e.key
+    → Rises o now last (e ∷ es) w → MatchOption last (IsTrue c) (λ a. c ≡ less o (now a) k) → w ≡ c && rise_after o k es
+unfolding rising rise_after
+rise_step o now None e es w c k ek p q = sym p ∙ rw (q, ek)
+rise_step o now (Some a) e es w c k ek p q = sym p ∙ rw (q, ek)
+
+pub rise_end : (o : ℕ) {A : Type 0} (now : A → List ℕ) (last : Option A) (w : Bool) → Rises o now last [] w → true ≡ w
+unfolding rising rise_after
+rise_end o now None w p = p
+rise_end o now (Some a) w p = p
 
 -- ---- entries with keys of an order
 

@@ -1,28 +1,26 @@
 -- Laws of the steps of packing: one for each way out. Assumes nothing.
-use Rattle.std.specs.Prelude.{◌≡◌, refl, Bool, true, false, cond, take, leb, eqb}
+use Rattle.std.specs.Prelude.{◌≡◌, refl, Bool, true, false, cond, eqb}
 use Rattle.std.proofs.Math.Path.{sym, ap, ap₂}
-use Rattle.std.proofs.Common.{◌∙◌, zero-add, add-zero, suc-mul, add-one, length-append, length-take, length-drop, take_all, drop-drop}
+use Rattle.std.proofs.Common.{◌∙◌, zero-add, add-zero, suc-mul, add-one, length-append, length-drop, drop-drop}
 use mathlib.Core.List.{List, ◌∷◌, ◌++◌, map}
 use Prim.Native.Nat.{ℕ, suc, ◌+◌, ◌-◌, ◌*◌, ◌≤◌, ◌<◌}
 use Rattle.std.proofs.Math.Nat.{add_assoc, sub-zero}
 use native.Mathlib.Omega.{arith}
 use Rattle.std.proofs.Math.ListN.{length, drop}
-use borrow.Author.Tests.{le-leb, lt-leb, eq-eqb, ne_eqb, leb-true}
-use Rattle.seal.specs.Bytes.{splice, window, le, bytes_of, field_at, u16_at, u64_at}
-use Rattle.seal.specs.laws.WindowLaws.{splice_none, splice_run}
+use Rattle.seal.specs.Bytes.{splice, bytes_of}
+use Rattle.seal.specs.laws.WindowLaws.{splice_run}
 use Rattle.seal.specs.laws.FieldLaws.{length_bytes_of}
 use Rattle.seal.specs.Obj.{header_bytes}
-use Rattle.node.specs.Entry.{Entry, ghost, leaf, disk, mem, value_length, value_bytes}
-use Rattle.node.specs.Records.{mark_length, value_of, record_length, records_length, entry_of, entries_of}
+use Rattle.node.specs.Entry.{Entry, Val, value_length, value_bytes}
+use Rattle.node.specs.Records.{mark_length, record_length, records_length, entry_of, entries_of}
 use Rattle.node.specs.internal.SlotSteps.{parts_at}
 use Rattle.node.specs.Slot.{head_at, node_of, number_of, marked, only}
 use Rattle.node.specs.laws.base.Tests.{by_test}
 use Rattle.node.specs.Fit.{padded, fixed, slot_width, keys_length, values_length}
 use Rattle.node.specs.Pack.{child_number, numbered_value, numbered, value_offset, toc_entry, node_flags, info_bytes}
-use Rattle.node.specs.internal.PackSteps.{marked_at, loc_bytes, off_bytes, slot_bytes, mark_offset, put_entry, put_entries, spot_after, Room, Rooms, node_bytes, no_lists, head_of}
+use Rattle.node.specs.internal.PackSteps.{marked_at, loc_bytes, off_bytes, slot_bytes, put_entry, put_entries, spot_after, Room, Rooms, node_bytes, no_lists, head_of}
 use Rattle.node.specs.laws.pack.Numbered.{length_numbered}
-use Rattle.node.specs.laws.slot.Records.{mark_child, at_key, at_klen, at_mark, at_value, at_length, at_after, value_length_lem, record_sum, entry_key_length, entry_value_length}
-use Rattle.node.specs.laws.slot.Slot.{part_length, key_part}
+use Rattle.node.specs.laws.slot.Records.{at_klen, at_mark, at_length, record_sum, entry_key_length, entry_value_length}
 use Rattle.node.specs.laws.fit.Fit.{padded_least}
 use Rattle.node.specs.declared.info.BTreeInfo.{BTreeInfo}
 use Rattle.node.specs.declared.build.NodeBuild.{NodeBuild}
@@ -121,147 +119,40 @@ info_law t l l₁ l₂ l₃ l₄ l₅ l₆ l₇ l₈ p h q₁ q₂ q₃ q₄ q�
     let r₇ = run_next r₆ l₇ (p + 32) 8 t.key_count (omega arith) (omega arith) q₇ in
     (run_next r₇ l₈ (p + 40) 8 t.node_count (omega arith) h q₈).is
 
--- ---- a value
-
-le_whole : (v : List ℕ) → length v ≡ 8 → le v ≡ u64_at v 0
-unfolding field_at window
-le_whole v e = ap le (sym (take_all 8 v (omega arith)))
-
-pub child_length : (m n : ℕ) → n ≡ mark_length m → 0xFFFC < m → (m ≡ 0xFFFF → ⊥) → n ≡ 8
-child_length m n e h g = e ∙ sym (mark_child m h g)
-
-pub child_read : (m n : ℕ) → n ≡ mark_length m → 0xFFFC < m → (m ≡ 0xFFFF → ⊥) → 0 + 8 ≤ n
-child_read m n e h g = let k = child_length m n e h g in omega arith
-
-pub child_room : (m n p k : ℕ) → n ≡ mark_length m → 0xFFFC < m → (m ≡ 0xFFFF → ⊥) → p + n ≤ k → p + 8 ≤ k
-child_room m n p k e h g r = let q = child_length m n e h g in omega arith
-
-module _ (heads : List ℕ) (by : Bool) (l l₁ : List ℕ) (p m : ℕ) (v : List ℕ) where
-  pub value_leaf : m ≤ 0xFFFC → l₁ ≡ splice l p v → l₁ ≡ splice l p (value_bytes (numbered_value (child_number heads by) (value_of m v)))
-  unfolding value_of numbered_value value_bytes
-  value_leaf h q = rw (le-leb m 0xFFFC h) q
-
-  pub value_ghost : 0xFFFC < m → m ≡ 0xFFFF → l ≡ splice l p (value_bytes (numbered_value (child_number heads by) (value_of m v)))
-  unfolding value_of numbered_value value_bytes
-  value_ghost h e = rw (lt-leb m 0xFFFC h, eq-eqb m 0xFFFF e) (sym (splice_none l p))
-
-  pub value_disk : (x : ℕ) → length v ≡ mark_length m → 0xFFFC < m → (m ≡ 0xFFFF → ⊥) → m ≡ 0xFFFE → x ≡ u64_at v 0 → l₁ ≡ splice l p (bytes_of 8 x)
-      → l₁ ≡ splice l p (value_bytes (numbered_value (child_number heads by) (value_of m v)))
-  unfolding value_of numbered_value value_bytes
-  value_disk x n h g e y q =
-      let w : le v ≡ x = le_whole v (child_length m (length v) n h g) ∙ sym y in
-      rw (lt-leb m 0xFFFC h, ne_eqb m 0xFFFF g, eq-eqb m 0xFFFE e, w) q
-
-  pub value_mem : (x y : ℕ) → length v ≡ mark_length m → 0xFFFC < m → (m ≡ 0xFFFF → ⊥) → (m ≡ 0xFFFE → ⊥) → x ≡ u64_at v 0
-      → y ≡ child_number heads by x
-      → l₁ ≡ splice l p (bytes_of 8 y) → l₁ ≡ splice l p (value_bytes (numbered_value (child_number heads by) (value_of m v)))
-  unfolding value_of numbered_value value_bytes
-  value_mem x y n h g e r s q =
-      let w : le v ≡ x = le_whole v (child_length m (length v) n h g) ∙ sym r in
-      rw (lt-leb m 0xFFFC h, ne_eqb m 0xFFFF g, ne_eqb m 0xFFFE e, w, ← s) q
-
 -- ---- the entry of a record
-
-offset_cases : (heads : List ℕ) (by : Bool) (v : List ℕ) (o : ℕ) (a b c : Bool) → (a ≡ true → b ≡ false)
-    → value_offset (numbered_value (child_number heads by) (cond a (leaf v) (cond b ghost (cond c (disk (le v)) (mem (le v)))))) o ≡ cond b 0xFFFF o
-unfolding value_offset numbered_value
-offset_cases heads by v o true b c h = rw (h refl)
-offset_cases heads by v o false true c h = refl
-offset_cases heads by v o false false true h = refl
-offset_cases heads by v o false false false h = refl
-
-pub offset_of : (heads : List ℕ) (by : Bool) (m o : ℕ) (v : List ℕ) → value_offset (numbered_value (child_number heads by) (value_of m v)) o
-    ≡ mark_offset m o
-unfolding value_of mark_offset
-offset_of heads by m o v = offset_cases heads by v o (leb m 0xFFFC) (eqb m 0xFFFF) (eqb m 0xFFFE)
-    (λ h. ne_eqb m 0xFFFF (λ e. let k = leb-true m 0xFFFC h in omega arith))
-
-pub length_of : (heads : List ℕ) (by : Bool) (m : ℕ) (v : List ℕ) → length v ≡ mark_length m
-    → value_length (numbered_value (child_number heads by) (value_of m v)) ≡ mark_length m
-length_of heads by m v h = length_numbered (child_number heads by) (value_of m v) ∙ value_length_lem m v h
-
--- where the parts of a record lie, and what is known of their lengths
-pub record Parts (t : BTreeInfo) (keys vals : ℕ) (s : Spot) (slot : List ℕ) (r : RecordParts) : Type 0 where
-  pub key : r.key ≡ s.at + 4
-  pub value : r.value ≡ r.key + r.klen
-  pub next : r.next ≡ r.value + r.vlen
-  pub inside : r.next ≤ length slot
-  pub long : r.vlen ≡ mark_length r.mark
-  pub between : keys + (s.key + padded t r.klen) + (s.val + padded t r.vlen) ≤ vals
-  pub klen : r.klen ≤ padded t r.klen
-  pub vlen : r.vlen ≤ padded t r.vlen
-  pub key_part : length (take (r.value - r.key) (drop r.key slot)) ≡ r.klen
-  pub value_part : length (take (r.next - r.value) (drop r.value slot)) ≡ r.vlen
 
 module _ (t : BTreeInfo) (keys vals : ℕ) (s : Spot) (slot block : List ℕ) (r : RecordParts) (room : Room t keys vals s slot block)
     (is : r ≡ parts_at slot s.at) where
-  is_klen : r.klen ≡ u16_at (drop s.at slot) 0
-  is_klen = at_klen slot s.at r is
+  between : keys + (s.key + padded t r.klen) + (s.val + padded t r.vlen) ≤ vals
+  between = rw is room.between
 
-  is_mark : r.mark ≡ u16_at (drop s.at slot) 2
-  is_mark = at_mark slot s.at r is
+  -- its key and its value, as they are packed
+  whole : record_length (drop s.at slot) ≤ length (drop s.at slot)
+  whole = let w = room.whole in rw length-drop (omega arith)
 
-  is_vlen : r.vlen ≡ mark_length r.mark
-  is_vlen = at_length slot s.at r is
+  key_long : (k : List ℕ) → k ≡ (entry_of (drop s.at slot)).key → length k ≡ r.klen
+  key_long k e = ap length e ∙ entry_key_length (drop s.at slot) whole ∙ sym (at_klen slot s.at r is)
 
-  is_value : r.value ≡ r.key + r.klen
-  is_value = omega (arith, at_key slot s.at r is, at_value slot s.at r is, is_klen)
+  value_long : (f : ℕ → ℕ) (w : Val) → w ≡ numbered_value f (entry_of (drop s.at slot)).value → value_length w ≡ r.vlen
+  value_long f w e =
+      ap value_length e ∙ length_numbered f (entry_of (drop s.at slot)).value ∙ entry_value_length (drop s.at slot) whole
+      ∙ ap mark_length (sym (at_mark slot s.at r is)) ∙ sym (at_length slot s.at r is)
 
-  is_length : record_length (drop s.at slot) ≡ 4 + r.klen + r.vlen
-  is_length = part_length s.at r.klen r.mark slot is_klen is_mark ∙ ap (λ (x : ℕ). 4 + r.klen + x) (sym is_vlen)
+  pub key_room : (k : List ℕ) → k ≡ (entry_of (drop s.at slot)).key → keys + s.key + length k ≤ length block
+  key_room k e = let i = room.inside in omega (arith, between, key_long k e, padded_least t r.klen)
 
-  pub parts : Parts t keys vals s slot r
-  parts =
-      let k = at_key slot s.at r is in
-      let v = is_value in
-      let n = at_after slot s.at r is in
-      let l = is_length in
-      let w = room.whole in
-      record {
-        key = at_key slot s.at r is;
-        value = is_value;
-        next = omega arith;
-        inside = omega arith;
-        long = is_vlen;
-        between = rw is room.between;
-        klen = padded_least t r.klen;
-        vlen = padded_least t r.vlen;
-        key_part = simp (length-take, length-drop) (omega arith);
-        value_part = simp (length-take, length-drop) (omega arith);
-      }
+  pub value_room : (f : ℕ → ℕ) (w : Val) (pv n : ℕ) → w ≡ numbered_value f (entry_of (drop s.at slot)).value → pv ≡ padded t r.vlen
+      → n ≡ length block → vals - (s.val + pv) + value_length w ≤ n
+  value_room f w pv n e q h = let i = room.inside in omega (arith, between, value_long f w e, padded_least t r.vlen)
 
-  key_is : take (r.value - r.key) (drop r.key slot) ≡ (entry_of (drop s.at slot)).key
-  key_is = key_part slot s.at r is
-
-  value_is : take (r.next - r.value) (drop r.value slot) ≡ window (4 + u16_at (drop s.at slot) 0) (mark_length (u16_at (drop s.at slot) 2))
-      (drop s.at slot)
-  unfolding window
-  value_is =
-      let p = parts in
-      let d : r.next - r.value ≡ r.vlen = omega arith in
-      let f : r.value ≡ s.at + (4 + r.klen) = omega arith in
-      rw (d, f, is_vlen, is_mark, is_klen, drop-drop)
-
-  pub entry_law : (heads : List ℕ) (by : Bool) (b₁ b₂ b₃ : List ℕ) (pv vo : ℕ)
-      → b₁ ≡ splice block (keys + s.key) (take (r.value - r.key) (drop r.key slot))
-      → b₂ ≡ splice b₁ (vals - (s.val + pv)) (value_bytes
-      (numbered_value (child_number heads by) (value_of r.mark (take (r.next - r.value) (drop r.value slot)))))
-      → vo ≡ mark_offset r.mark (s.val + pv)
+  pub entry_law : (f : ℕ → ℕ) (k : List ℕ) (w : Val) (b₁ b₂ b₃ : List ℕ) (pv vo : ℕ) → k ≡ (entry_of (drop s.at slot)).key
+      → w ≡ numbered_value f (entry_of (drop s.at slot)).value
+      → b₁ ≡ splice block (keys + s.key) k → b₂ ≡ splice b₁ (vals - (s.val + pv)) (value_bytes w) → vo ≡ value_offset w (s.val + pv)
       → b₃ ≡ splice b₂ s.toc (slot_bytes t s.key r.klen vo r.vlen)
-      → b₃ ≡ put_entry t keys vals s.toc s.key (s.val + pv) (numbered (child_number heads by) (entry_of (drop s.at slot))) block
-  unfolding put_entry numbered entry_of toc_entry slot_bytes loc_bytes off_bytes
-  entry_law heads by b₁ b₂ b₃ pv vo q₁ q₂ qo q₃ =
-      let l : List ℕ = drop s.at slot in
-      let v : List ℕ = window (4 + u16_at l 0) (mark_length (u16_at l 2)) l in
-      let x : List ℕ = window 4 (u16_at l 0) l in
-      let kl : r.klen ≡ length x = sym parts.key_part ∙ ap length key_is in
-      let vm : value_of r.mark (take (r.next - r.value) (drop r.value slot)) ≡ value_of (u16_at l 2) v = ap₂ value_of is_mark value_is in
-      let lv : length v ≡ mark_length (u16_at l 2) = sym (ap length value_is) ∙ parts.value_part ∙ is_vlen ∙ ap mark_length is_mark in
-      let vl : r.vlen ≡ value_length (numbered_value (child_number heads by) (value_of (u16_at l 2) v)) = is_vlen ∙ ap mark_length is_mark
-      ∙ sym (length_of heads by (u16_at l 2) v lv) in
-      let ov : vo ≡ value_offset (numbered_value (child_number heads by) (value_of (u16_at l 2) v)) (s.val + pv) =
-      qo ∙ ap (λ (m : ℕ). mark_offset m (s.val + pv)) is_mark ∙ sym (offset_of heads by (u16_at l 2) (s.val + pv) v) in
-      q₃ ∙ rw (q₂, q₁, vm, key_is, kl, vl, ov)
+      → b₃ ≡ put_entry t keys vals s.toc s.key (s.val + pv) (numbered f (entry_of (drop s.at slot))) block
+  unfolding put_entry numbered toc_entry slot_bytes loc_bytes off_bytes
+  entry_law f k w b₁ b₂ b₃ pv vo ek ew q₁ q₂ qo q₃ =
+      q₃ ∙ rw (q₂, q₁, qo, ← key_long k ek, ← value_long f w ew, ew, ek)
 
   pub spot_law : (w pk pv : ℕ) → w ≡ slot_width t → pk ≡ padded t r.klen → pv ≡ padded t r.vlen
       → ◌≡◌ {A = Spot} (record { toc = s.toc + w; at = r.next; key = s.key + pk; val = s.val + pv }) (spot_after t slot s)
@@ -435,8 +326,6 @@ head_law b l l₁ l₂ l₃ f n c k e h q₁ qf q₂ q₃ =
 -- ---- what the code takes of these
 
 pub ruleset slot_laws = (slot_off, slot_loc)
-
-pub ruleset value_laws = (value_leaf, value_ghost, value_disk, value_mem, child_read, child_room)
 
 pub ruleset sums = (padded_least, record_sum)
 

@@ -1,5 +1,5 @@
 -- Laws of a node's keys on disk: entry by entry, in order, within bounds. Assumes nothing.
-use Rattle.std.specs.Prelude.{◌≡◌, refl, Bool, ◌&&◌, ◌||◌, not}
+use Rattle.std.specs.Prelude.{◌≡◌, refl, Bool, ◌&&◌, ◌||◌, not, Option, MatchOption, IsTrue}
 use Rattle.std.specs.List.{range_with_len, list_all}
 use Rattle.std.proofs.Math.Path.{sym, ap, ap₂}
 use Rattle.std.proofs.Common.{◌∙◌, add-zero, zero-add, not-suc-le-zero, le_of_suc-le-suc}
@@ -10,14 +10,14 @@ use Rattle.std.proofs.Math.Numerals.{add-one}
 use native.Mathlib.Omega.{arith}
 use Rattle.std.proofs.Math.ListN.{length, take, drop}
 use Rattle.std.specs.Borrow.{Bor}
-use borrow.Author.Tests.{not-true, not-false, eq-eqb, ne_eqb, eqb-false}
+use borrow.Author.Tests.{eq-eqb, ne_eqb, eqb-false}
 use Rattle.seal.specs.Bytes.{window, u64_at}
 use Rattle.node.specs.laws.base.Tests.{and_left, and_right, and-false}
 use Rattle.node.specs.laws.base.Bytes.{Bytes, bytes_window}
 use Rattle.node.specs.Order.{less, keyed, keyed_length}
 use Rattle.node.specs.laws.order.Order.{key_known}
 use Rattle.node.specs.Entry.{Entry, leaf, disk, rise_after, rising, every}
-use Rattle.node.specs.laws.order.Rising.{every_and, Keys, KeyBytes, keys_known, last_key, rising_lower, rising_upper}
+use Rattle.node.specs.laws.order.Rising.{every_and, Rises, rise_step, rise_end, Keys, KeyBytes, keys_known, last_key, rising_lower, rising_upper}
 use Rattle.node.specs.Slot.{child_means, value_means}
 use Rattle.node.specs.Read.{span_at, is_ghost, span_holds, spans_hold, value_at, entry_at, entries_from, in_bounds, keys_rise, keys_within}
 use Rattle.node.specs.internal.ReadSteps.{Sound}
@@ -74,72 +74,57 @@ key_of v b i s e = ap (λ (q : Span). window q.key q.klen b) e
 
 -- ---- 9: keys that the order can hold, and that rise
 
-pub keys_none : (o : ℕ) (v : Node) (b : List ℕ) → v.nkeys ≡ 0 → true ≡ keys_rise o (entries_from v b 0 v.nkeys)
-unfolding keys_rise entries_from every rising
-keys_none o v b e = rw e
+module _ (o : ℕ) (v : Node) (b : List ℕ) (n : ℕ) where
+  abbrev es : List Entry
+  es = entries_from v b 0 n
 
--- what is left of it at entry i: m entries
-unfoldable pub rest_rise : ℕ → Node → List ℕ → ℕ → ℕ → Bool
-rest_rise o v b i m = every (λ e. keyed o e.key) (entries_from v b i m) && rise_after o (entry_at v b (i - 1)).key (entries_from v b i m)
+  abbrev K : Entry → Bool
+  K e = keyed o e.key
 
-module _ (o : ℕ) (v : Node) (b : List ℕ) (some : v.nkeys ≡ 0 → ⊥) (k : List ℕ) (e : k ≡ (entry_at v b 0).key) (r : Bool)
-    (er : r ≡ keyed_length o (length k)) where
-  first_keyed : r ≡ keyed o (entry_at v b 0).key
-  unfolding keyed
-  first_keyed = er ∙ ap (λ (x : List ℕ). keyed_length o (length x)) e
+  -- at entry i: the keys before it are the order's
+  module _ (i : ℕ) (hold : every K es ≡ every K (entries_from v b i (n - i))) where
+    module _ (lt : i < n) (k : List ℕ) (ek : k ≡ (entry_at v b i).key) where
+      left : entries_from v b i (n - i) ≡ entry_at v b i ∷ entries_from v b (i + 1) (n - (i + 1))
+      unfolding entries_from
+      left =
+          let m : n - i ≡ suc (n - suc i) = omega arith in
+          ap (entries_from v b i) m ∙ rw add-one
 
-  pub rise_none : not r ≡ true → false ≡ keys_rise o (entries_from v b 0 v.nkeys)
-  unfolding keys_rise entries_from every
-  rise_none n =
-      let m : v.nkeys ≡ suc (v.nkeys - 1) = omega arith in
-      let f : keyed o (entry_at v b 0).key ≡ false = sym first_keyed ∙ not-true r n in
-      sym (ap (λ (q : ℕ). keys_rise o (entries_from v b 0 q)) m ∙ rw f)
+      module _ (r : Bool) (er : r ≡ keyed_length o (length k)) where
+        every_is : every K es ≡ r && every K (entries_from v b (i + 1) (n - (i + 1)))
+        unfolding keyed every
+        every_is =
+            let f : K (entry_at v b i) ≡ r = sym (er ∙ ap (λ (x : List ℕ). keyed_length o (length x)) ek) in
+            hold ∙ ap (every K) left ∙ ap (λ (x : Bool). x && every K (entries_from v b (i + 1) (n - (i + 1)))) f
 
-  pub rise_start : not r ≡ false → keys_rise o (entries_from v b 0 v.nkeys) ≡ rest_rise o v b 1 (v.nkeys - 1)
-  unfolding keys_rise rest_rise entries_from every rising
-  rise_start n =
-      let m : v.nkeys ≡ suc (v.nkeys - 1) = omega arith in
-      let f : keyed o (entry_at v b 0).key ≡ true = sym first_keyed ∙ not-false r n in
-      ap (λ (q : ℕ). every (λ (x : Entry). keyed o x.key) (entries_from v b 0 q) && rising o (entries_from v b 0 q)) m ∙ rw f
+        pub rise_unkeyed : r ≡ false → false ≡ keys_rise o es
+        unfolding keys_rise
+        rise_unkeyed h = rw (every_is, h)
 
-module _ (w : Bool) (o : ℕ) (v : Node) (b : List ℕ) (n i : ℕ) (e : w ≡ rest_rise o v b i (n - i)) (lt : i < n)
-    (k : List ℕ) (ek : k ≡ (entry_at v b i).key) (r : Bool) (er : r ≡ keyed_length o (length k)) where
-  next_keyed : r ≡ keyed o (entry_at v b i).key
-  unfolding keyed
-  next_keyed = er ∙ ap (λ (x : List ℕ). keyed_length o (length x)) ek
+        pub rise_keyed : r ≡ true → every K es ≡ every K (entries_from v b (i + 1) (n - (i + 1)))
+        rise_keyed h = every_is ∙ rw h
 
-  pub rise_unkeyed : not r ≡ true → false ≡ w
-  unfolding rest_rise entries_from every
-  rise_unkeyed nr =
-      let m : n - i ≡ suc (n - suc i) = omega arith in
-      let f : keyed o (entry_at v b i).key ≡ false = sym next_keyed ∙ not-true r nr in
-      sym (e ∙ rw (m, f))
+      -- its key is above the one before it, `last`, or not
+      module _ {A : Type 0} (now : A → List ℕ) (last : Option A) (rise : Rises o now last (entries_from v b i (n - i)) (rising o es)) (c : Bool)
+          (ec : MatchOption last (IsTrue c) (λ a. c ≡ less o (now a) k)) where
+        rise_is : rising o es ≡ c && rise_after o k (entries_from v b (i + 1) (n - (i + 1)))
+        rise_is = rise_step o now last (entry_at v b i) (entries_from v b (i + 1) (n - (i + 1))) (rising o es) c k ek (rw (← left) rise) ec
 
-  module _ (last : List ℕ) (el : last ≡ (entry_at v b (i - 1)).key) (q : Bool) (eq : q ≡ less o last k) where
-    less_of : q ≡ less o (entry_at v b (i - 1)).key (entry_at v b i).key
-    less_of = eq ∙ ap₂ (less o) el ek
+        pub rise_falls : c ≡ false → false ≡ keys_rise o es
+        unfolding keys_rise
+        rise_falls h = rw (rise_is, h, and-false)
 
-    pub rise_falls : not q ≡ true → false ≡ w
-    unfolding rest_rise entries_from rise_after
-    rise_falls nq =
-        let m : n - i ≡ suc (n - suc i) = omega arith in
-        let f : less o (entry_at v b (i - 1)).key (entry_at v b i).key ≡ false = sym less_of ∙ not-true q nq in
-        sym (e ∙ rw (m, f, and-false))
+        pub rise_turn : c ≡ true → rise_after o k (entries_from v b (i + 1) (n - (i + 1))) ≡ rising o es
+        rise_turn h = sym (rise_is ∙ rw h)
 
-    pub rise_turn : not r ≡ false → not q ≡ false → w ≡ rest_rise o v b (i + 1) (n - (i + 1))
-    unfolding rest_rise entries_from every rise_after
-    rise_turn nr nq =
-        let m : n - i ≡ suc (n - suc i) = omega arith in
-        let g : keyed o (entry_at v b i).key ≡ true = sym next_keyed ∙ not-false r nr in
-        let f : less o (entry_at v b (i - 1)).key (entry_at v b i).key ≡ true = sym less_of ∙ not-false q nq in
-        let back : suc i - 1 ≡ i = omega arith in
-        e ∙ rw (m, f, g, add-one i, back)
-
-pub rise_done : (w : Bool) (o : ℕ) (v : Node) (b : List ℕ) (n i : ℕ) → w ≡ rest_rise o v b i (n - i) → n ≤ i → true ≡ w
-unfolding rest_rise entries_from every rise_after
-rise_done w o v b n i e h =
-    let m : n - i ≡ 0 = omega arith in
-    sym (e ∙ rw m)
+    pub rise_done : {A : Type 0} (now : A → List ℕ) (last : Option A) → Rises o now last (entries_from v b i (n - i)) (rising o es) → n ≤ i
+        → true ≡ keys_rise o es
+    unfolding keys_rise entries_from every
+    rise_done now last rise h =
+        let m : n - i ≡ 0 = omega arith in
+        let f : every K es ≡ true = hold ∙ rw m in
+        let g : true ≡ rising o es = rise_end o now last (rising o es) (rw m at rise) in
+        rw (f, ← g)
 
 -- ---- 9: keys within the bounds
 
@@ -297,10 +282,10 @@ module _ (v : Node) (b : List ℕ) (i : ℕ) (s : Span) (e : s ≡ span_at v b i
 
 -- ---- what the code takes of these
 
-pub ruleset rise = (keys_none, rise_none, rise_start, rise_unkeyed, rise_falls, rise_turn, rise_done)
-
 pub ruleset bounds = (within_none, within_first, within_ends)
 
 pub ruleset value = (place_ghost, place_leaf, place_child, value_start, value_end, child_room)
 
 pub ruleset child = (disk_of, child_room, child_start, child_there)
+
+pub ruleset keys_rise_laws = (rise_keyed, rise_turn, rise_done)

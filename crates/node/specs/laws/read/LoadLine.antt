@@ -1,4 +1,4 @@
--- Laws of the load line: each refusal as `read_node` reaches it, and what a node that was read keeps. Assumes nothing.
+-- Laws of the load line: what its checks leave, and what a node that was read keeps. Assumes nothing.
 use Rattle.std.specs.Prelude.{◌≡◌, List, Bool, cond, ◌&&◌, ◌||◌, not, ℕ, ◌+◌, ◌-◌, ◌*◌, ◌≤◌, length, leb, eqb}
 use Rattle.std.proofs.Math.Path.{ap}
 use Rattle.std.proofs.Common.{arith}
