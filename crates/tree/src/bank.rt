@@ -49,7 +49,7 @@ pub fn live_at(heads: &[u64], n: usize) -> Head
 }
 
 // The bytes of slot n.
-#[tactic(auto, using(crate::specs::laws::slots::OneSlot::part_is))]
+#[tactic(auto, using(crate::specs::laws::slots::OneSlot::part_is, crate::specs::laws::lookup::RangeOut::slot_known))]
 pub fn slot_of(bytes: &[u8], size: usize, n: usize) -> &[u8]
     requires { (n * (4 * size) + 4 * size ≤ length bytes.now) × (size ≤ 65536) × (n ≤ 4096) }
     ensures slot { result.now ≡ slot_bytes size bytes.now n }
@@ -73,6 +73,7 @@ fn link_part(slot: &mut [u8], count: u64, i: u64, c: u64)
 }
 
 // The child of entry i of slot n is in slot c now. The slot is saved.
+#[tactic(auto, using(crate::specs::laws::slots::OneSlot::ready_part))]
 fn link_in(heads: &[u64], bytes: &mut [u8], lent: Lent, used: usize, n: usize, i: u64, c: u64)
     requires ready { Ready lent.size lent.slots used heads.now bytes.old }
     requires entry { HasEntry used heads.now n i
@@ -88,7 +89,7 @@ fn link_in(heads: &[u64], bytes: &mut [u8], lent: Lent, used: usize, n: usize, i
 }
 
 // The child of entry i of slot n is in slot c now.
-#[tactic(auto, using(crate::specs::laws::slots::Undo::saves))]
+#[tactic(auto, using(crate::specs::laws::slots::Undo::link_laws))]
 pub fn link(heads: &mut [u64], bytes: &mut [u8], lent: Lent, used: usize, n: usize, i: u64, c: u64)
     requires ready { Ready lent.size lent.slots used heads.old bytes.old }
     requires entry { HasEntry used heads.old n i

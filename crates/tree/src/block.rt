@@ -8,14 +8,10 @@ ghost use Rattle.tree.specs.internal.Bank.{node_in};
 ghost use Rattle.tree.specs.internal.Block.{written_head, packed_slot};
 ghost use Rattle.tree.specs.internal.View.{seen};
 
-use crate::bank;
 use crate::editor::Tree;
 use crate::view::View;
 use node::build::NodeBuild;
-use node::fit::SlotNode;
 use node::head::Head;
-use node::room::Shape;
-use node::slot::Records;
 use node::{pack, room};
 
 // The node of slot n was written: its new block, its id, clean.
@@ -39,7 +35,7 @@ pub fn rewrite(heads: &mut [u64], n: usize, a: u64, id: Option<u64>)
 
 impl<'h, 'b> View<'h, 'b> {
     // The node of slot n packed and sealed into the first bytes of a part of the image, children in slots by their numbers.
-    #[tactic(auto, using(crate::specs::laws::slots::Block::pack_slot_laws, crate::specs::laws::slots::OneSlot::ready_slot))]
+    #[tactic(auto, using(crate::specs::laws::slots::Block::block_fits))]
     pub fn pack_slot(self, dst: &mut [u8], n: usize, oid: u64, xid: u64, otype: u64)
         requires sized { Sized self.tree.info × (n < self.tree.used) × (self.tree.info.node_size ≤ length dst.old) }
         requires n_value { fits self.tree.info (eqb n self.tree.root) (node_in self.lent.size self.heads.now self.bytes.now n).level
@@ -47,47 +43,26 @@ impl<'h, 'b> View<'h, 'b> {
         ensures { dst.new
             ≡ splice dst.old 0 (packed_slot self.entry.tree self.entry.lent.size self.entry.heads.now self.entry.bytes.now n oid xid otype) }
     {
-        let h = bank::live_at(self.heads, n);
-        let root = n == self.tree.root;
-        let info = self.tree.info;
         let build = NodeBuild {
-            oid: oid,
-            xid: xid,
-            otype: otype,
+            oid,
+            xid,
+            otype,
             subtype: self.tree.subtype,
-            level: h.level,
-            root: root,
-            info: info,
+            level: self.level_at(n),
+            root: n == self.tree.root,
+            info: self.tree.info,
         };
-        let part = bank::slot_of(self.bytes, self.lent.size, n);
-        let records = Records {
-            slot: part,
-            count: h.count,
-        };
-        pack::pack(dst, records, self.heads, self.tree.by_id, build);
+        pack::pack(dst, self.records(n), self.heads, self.tree.by_id, build);
     }
 
     // What the root takes as packed: contents, keys and values.
-    #[tactic(auto, using(crate::specs::laws::slots::Block::root_length_laws, crate::specs::laws::slots::OneSlot::ready_slot))]
     pub fn root_length(self) -> u64
         requires sized { Sized self.tree.info × (self.tree.root < self.tree.used) }
         ensures { (result ≡ packed_length self.entry.tree.info true
             (node_at (seen self.entry) self.entry.tree.root).level
             (node_at (seen self.entry) self.entry.tree.root).entries) × (result < 2 ^ 40) }
     {
-        let root = self.tree.root;
-        let h = bank::live_at(self.heads, root);
-        let part = bank::slot_of(self.bytes, self.lent.size, root);
-        let records = Records {
-            slot: part,
-            count: h.count,
-        };
-        let shape = Shape {
-            info: self.tree.info,
-            root: true,
-            level: h.level,
-        };
-        SlotNode { records, shape }.packed_length()
+        self.slot_node(self.tree.root, true).packed_length()
     }
 }
 

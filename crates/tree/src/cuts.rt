@@ -22,35 +22,21 @@ use crate::way::Step;
 use crate::writers::DirtyMark;
 use crate::{bank, undo, writers};
 use node::cut::CutAt;
-use node::fit::SlotNode;
 use node::head::Head;
 use node::read::MAX_DEPTH;
 use node::refusal::{Refusal, check};
 use node::room::Shape;
-use node::slot::Records;
 use node::val::{Child, Val};
 
 impl<'h, 'b> View<'h, 'b> {
     // Whether the node of a slot needs no cut: it is dead, or it fits.
-    #[tactic(auto, using(crate::specs::laws::slots::OneSlot::ready_slot, crate::specs::laws::cut::Asked::fits_at_laws))]
+    #[tactic(auto, using(crate::specs::laws::slots::Records::node_used, crate::specs::laws::cut::Asked::fits_at_laws))]
     pub fn fits_at(self, n: usize) -> bool
         requires sized { Sized self.tree.info × (n < self.tree.used) }
         ensures { result ≡ stays_whole (seen self.entry) n }
     {
-        let h = Head::load(self.heads, n);
-        if h.dead == 1 {
-            return true;
-        }
-        let records = Records {
-            slot: bank::slot_of(self.bytes, self.lent.size, n),
-            count: h.count,
-        };
-        let shape = Shape {
-            info: self.tree.info,
-            root: n == self.tree.root,
-            level: h.level,
-        };
-        SlotNode { records, shape }.fits(h.used)
+        let h = bank::live_at(self.heads, n);
+        h.dead == 1 || self.slot_node(n, n == self.tree.root).fits(h.used)
     }
 
     // 15: whether a root above slot n, cut after so many entries, fits and is not at level 33.
@@ -129,6 +115,7 @@ impl Tree {
     }
 
     // The next slot, without entries, one level above slot n, takes its id and block and is the root.
+    #[tactic(auto, using(crate::specs::laws::cut::AddRoot::root_above))]
     fn add_root(mut self, heads: &mut [u64], bytes: &mut [u8], lent: Lent, n: usize) -> Tree
         requires ready_2 { Ready lent.size lent.slots self.used heads.old bytes.old }
         requires used_lt_slots { (self.used < lent.slots) × (n < self.used) × ((node_at (state_of lent.size self heads.old bytes.old) n).level < 32) }
@@ -251,7 +238,7 @@ impl Tree {
     }
 
     // A node that does not fit is cut: 13, 14, at the root 15, 17, 11.
-    #[tactic(auto, using(crate::specs::laws::base::Refused::handed_on, crate::specs::laws::cut::CutNode::node_uncut))]
+    #[tactic(auto, using(crate::specs::laws::base::Refused::handed_on, crate::specs::laws::cut::CutNode::cut_node_laws))]
     fn cut_node(
         self,
         heads: &mut [u64],
@@ -271,17 +258,8 @@ impl Tree {
         if view!(self, heads, bytes, lent).fits_at(n) {
             return Ok(self);
         }
-        let h = Head::load(heads, n);
-        let records = Records {
-            slot: bank::slot_of(bytes, lent.size, n),
-            count: h.count,
-        };
-        let shape = Shape {
-            info: self.info,
-            root: n == self.root,
-            level: h.level,
-        };
-        let found = SlotNode { records, shape }.cut()?;
+        let node = view!(self, heads, bytes, lent).slot_node(n, n == self.root);
+        let found = node.cut()?;
         match up {
             None => self.cut_root(heads, bytes, lent, n, found, scratch),
             Some(up) => self.cut_child(heads, bytes, lent, up, n, found, scratch),
@@ -289,7 +267,7 @@ impl Tree {
     }
 
     // On a way, bottom up, each node that does not fit is cut.
-    #[tactic(auto, using(crate::specs::laws::base::Refused::handed_on, crate::specs::laws::cut::Cuts::from_refused))]
+    #[tactic(auto, using(crate::specs::laws::base::Refused::handed_on, crate::specs::laws::cut::Cuts::cuts_laws))]
     pub fn cuts(
         self,
         heads: &mut [u64],

@@ -78,6 +78,7 @@ impl Tree {
     }
 
     // As `part`, of a slot that is saved.
+    #[tactic(auto, using(crate::specs::laws::cut::Part::part_in_laws))]
     fn part_in(mut self, heads: &mut [u64], bytes: &mut [u8], lent: Lent, spot: Spot) -> Tree
         requires ready_2 { Ready lent.size lent.slots self.used heads.old bytes.old }
         requires fact { saved_at lent.slots heads.old spot.slot ≡ 0 → ⊥ }
@@ -115,6 +116,7 @@ impl Tree {
         self
     }
     // A slot keeps the entries before one of them, the next slot takes the rest; both are dirty.
+    #[tactic(auto, using(crate::specs::laws::slots::CallBounds::saved_state, crate::specs::laws::slots::Undo::part_laws))]
     pub fn part(self, heads: &mut [u64], bytes: &mut [u8], lent: Lent, spot: Spot) -> Tree
         requires ready_2 { Ready lent.size lent.slots self.used heads.old bytes.old }
         requires used_lt_slots { (self.used < lent.slots) × SpotUpto lent.size self.used heads.old bytes.old spot }
@@ -175,7 +177,7 @@ impl Tree {
         }
     }
     // On a way, bottom up: each index key is its child's first key.
-    #[tactic(auto, using(crate::specs::laws::cut::IndexKeys::indexed_none))]
+    #[tactic(auto, using(crate::specs::laws::cut::IndexKeys::index_keys_laws, crate::specs::laws::cut::Pairs::index_keys_laws))]
     pub fn index_keys(
         self,
         heads: &mut [u64],

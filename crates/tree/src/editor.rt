@@ -17,8 +17,9 @@ ghost use Rattle.tree.specs.internal.Tree.{child_of, bound_of, edge_of, BoundIn,
 ghost use Rattle.tree.specs.internal.View.{seen};
 
 use crate::lent::Lent;
+use crate::mapped::Blocks;
 use crate::view::{View, view};
-use crate::{bank, kids, map};
+use crate::{bank, kids};
 use node::head::Head;
 use node::info::BTreeInfo;
 use node::order::Order;
@@ -193,14 +194,14 @@ impl<'h, 'b> View<'h, 'b> {
             lower,
             upper,
         };
-        let order = self.tree.order;
-        map::load_block(image, self.lent, order, place, a)
+        let lent = self.lent;
+        Blocks { image, lent }.load_block(self.tree.order, place, a)
     }
 }
 
 impl Tree {
     // A node that was read, brought into the next slot as child i of slot n.
-    #[tactic(auto, using(crate::specs::laws::slots::Tree::bring_state, crate::specs::laws::slots::Tree::bring_ready))]
+    #[tactic(auto, using(crate::specs::laws::slots::Tree::bring_laws, crate::specs::laws::slots::OneSlot::bring_laws))]
     pub fn bring(
         mut self,
         read: ReadNode<'_>,
@@ -281,7 +282,7 @@ impl Tree {
             Some(Child::Mem(c)) => Ok((self, c as usize)),
             Some(Child::Disk(r)) => {
                 check(Refusal::NoSlot, self.used < lent.slots)?;
-                let a = map::address_of(image, lent, self.xid, r)?;
+                let a = Blocks { image, lent }.address_of(self.xid, r)?;
                 let inner = view!(self, heads, bytes, lent).child_bounds(b, n, i);
                 self.fetch(image, heads, bytes, lent, inner, n, i, r, a)
             }

@@ -36,14 +36,8 @@ impl<'h, 'b> View<'h, 'b> {
         ensures answer { got_last (seen self.entry) result ≡ last_at (seen self.entry) n }
         ensures entry { IfSome result (AtEntry self.entry.lent.size self.entry.lent.slots self.entry.tree self.entry.heads.now self.entry.bytes.now) }
     {
-        let count = self.count_at(n);
-        if count == 0 {
-            return None;
-        }
-        Some(Position {
-            slot: n,
-            index: count - 1,
-        })
+        let index = self.count_at(n).checked_sub(1)?;
+        Some(Position { slot: n, index })
     }
 
     // The last entry of slot n that is not above a key.
@@ -54,13 +48,8 @@ impl<'h, 'b> View<'h, 'b> {
     {
         let order = self.tree.order;
         let last = self.records(n).not_above(order, key);
-        if last.count == 0 {
-            return None;
-        }
-        Some(Position {
-            slot: n,
-            index: last.count - 1,
-        })
+        let index = last.count.checked_sub(1)?;
+        Some(Position { slot: n, index })
     }
 
     // An entry copied out as its record: 20.
@@ -113,12 +102,9 @@ impl<'h, 'b> View<'h, 'b> {
         let leaf = self.leaf_of(key)?;
         let order = self.tree.order;
         let last = self.records(leaf).not_above(order, key);
-        if last.count == 0 {
-            return None;
-        }
         Some(Spot {
             slot: leaf,
-            index: last.count - 1,
+            index: last.count.checked_sub(1)?,
             at: last.at,
         })
     }
@@ -126,7 +112,7 @@ impl<'h, 'b> View<'h, 'b> {
 
 impl Tree {
     // The last entry d levels below slot n.
-    #[tactic(auto, using(crate::specs::laws::base::Refused::handed_on, crate::specs::laws::lookup::FloorDown::last_refused))]
+    #[tactic(auto, using(crate::specs::laws::base::Refused::handed_on, crate::specs::laws::lookup::FloorDown::last_from_laws))]
     fn last_from(
         self,
         image: &[u8],
@@ -160,7 +146,7 @@ impl Tree {
 
     // Left of child i of slot n, where no entry below it answered: the last entry d levels below child i - 1,
     // unless the key is below child i's.
-    #[tactic(auto, using(crate::specs::laws::base::Refused::handed_on, crate::specs::laws::lookup::FloorDown::left_refused))]
+    #[tactic(auto, using(crate::specs::laws::base::Refused::handed_on, crate::specs::laws::lookup::FloorDown::floor_left_laws))]
     fn floor_left(
         self,
         image: &[u8],
@@ -198,7 +184,7 @@ impl Tree {
     }
 
     // The last entry not above a key, d levels below slot n.
-    #[tactic(auto, using(crate::specs::laws::base::Refused::handed_on, crate::specs::laws::lookup::FloorDown::floor_refused))]
+    #[tactic(auto, using(crate::specs::laws::base::Refused::handed_on, crate::specs::laws::lookup::FloorDown::floor_from_laws))]
     fn floor_from(
         self,
         image: &[u8],
@@ -235,7 +221,7 @@ impl Tree {
     }
 
     // Of floor, what follows 12: the lookup, 20. Refused, it may leave slots changed.
-    #[tactic(auto, using(crate::specs::laws::base::Refused::handed_on, crate::specs::laws::lookup::FloorCall::way_refused))]
+    #[tactic(auto, using(crate::specs::laws::base::Refused::handed_on, crate::specs::laws::lookup::FloorCall::floor_way_laws))]
     fn floor_way(
         self,
         image: &[u8],
@@ -265,7 +251,7 @@ impl Tree {
     }
 
     // floor on slots that are trusted, whatever of the way is loaded.
-    #[tactic(auto, using(crate::specs::laws::lookup::FloorCall::in_argument, crate::specs::laws::lookup::FloorCall::in_argument_same))]
+    #[tactic(auto, using(crate::specs::laws::lookup::FloorCall::floor_down_laws))]
     fn floor_down(
         self,
         image: &[u8],

@@ -1,5 +1,6 @@
 // The records of a slot, and where a key stands among them.
 ghost use Rattle.std.specs.Prelude.{◌≡◌, ◌≤◌, ◌<◌, ◌^◌, length};
+ghost use Rattle.node.specs.Fit.{Sized};
 ghost use Rattle.node.specs.Records.{entries_of};
 ghost use Rattle.node.specs.Slot.{head_at};
 ghost use Rattle.node.specs.laws.base.Bytes.{Bytes};
@@ -12,11 +13,14 @@ ghost use Rattle.tree.specs.internal.View.{seen};
 use crate::bank;
 use crate::editor::Tree;
 use crate::view::View;
+use node::fit::SlotNode;
 use node::order::Order;
+use node::room::Shape;
 use node::slot::{Found, Records};
 
 impl<'h, 'b> View<'h, 'b> {
     // The records of slot n; none where there is no such slot.
+    #[tactic(auto, using(crate::specs::laws::slots::Records::entries_here))]
     pub fn records(self, n: usize) -> Records<'b>
         ensures entries { (node_at (seen self.entry) n).entries ≡ entries_of result.count result.slot.now }
         ensures place { n < self.entry.tree.used → (result.count ≡ (live (head_at self.entry.heads.now n)).count)
@@ -34,6 +38,27 @@ impl<'h, 'b> View<'h, 'b> {
         Records {
             slot: bank::slot_of(self.bytes, self.lent.size, n),
             count: h.count,
+        }
+    }
+
+    // The node of slot n, as a root or not.
+    pub fn slot_node(self, n: usize, root: bool) -> SlotNode<'b>
+        requires { Sized self.tree.info }
+        ensures shape { (result.shape.info ≡ self.entry.tree.info) × (result.shape.root ≡ root)
+            × (result.shape.level ≡ (node_at (seen self.entry) n).level) }
+        ensures entries { (node_at (seen self.entry) n).entries
+            ≡ entries_of result.records.count result.records.slot.now }
+        ensures place { n < self.entry.tree.used → (result.records.count ≡ (live (head_at self.entry.heads.now n)).count)
+            × (result.records.slot.now ≡ slot_bytes self.entry.lent.size self.entry.bytes.now n) }
+    {
+        let shape = Shape {
+            info: self.tree.info,
+            root,
+            level: self.level_at(n),
+        };
+        SlotNode {
+            records: self.records(n),
+            shape,
         }
     }
 

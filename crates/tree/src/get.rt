@@ -50,6 +50,7 @@ fn held_in<'s>(records: Records<'s>, order: Order, key: &[u8]) -> Option<Val<'s>
 
 impl<'h, 'b> View<'h, 'b> {
     // What a key holds in the leaf of slot n, copied out. The tree's words stay where they are: of all of them only two are looked at.
+    #[tactic(auto, using(crate::specs::laws::lookup::GetLeaf::copy_out_laws))]
     pub fn copy_out(self, n: usize, key: &[u8], out: &mut [u8]) -> Result<Option<Copied>, Refusal>
         requires n_value { suits true (node_at (seen self) n).entries ≡ true }
         ensures answer { got_means self.entry.lent.size self.entry.heads.now self.entry.bytes.now out.new (got_of self.entry.tree result)
@@ -98,7 +99,7 @@ impl<'h, 'b> View<'h, 'b> {
 
 impl Tree {
     // Of get, what follows 12: the way, 20. Refused, it may leave slots changed.
-    #[tactic(auto, using(crate::specs::laws::base::Refused::handed_on, crate::specs::laws::lookup::GetCall::get_refused))]
+    #[tactic(auto, using(crate::specs::laws::base::Refused::handed_on, crate::specs::laws::lookup::GetCall::get_way_laws))]
     fn get_way(
         self,
         image: &[u8],
@@ -125,7 +126,7 @@ impl Tree {
     }
 
     // get on slots that are trusted, whatever of the way is loaded.
-    #[tactic(auto, using(crate::specs::laws::lookup::GetCall::in_argument, crate::specs::laws::lookup::GetCall::in_argument_same))]
+    #[tactic(auto, using(crate::specs::laws::lookup::GetCall::get_down_laws))]
     fn get_down(
         self,
         image: &[u8],
@@ -155,6 +156,7 @@ impl Tree {
     }
 
     // get on slots that are trusted: 12; the way; 20. Refused, every slot is as it was.
+    #[tactic(auto, using(crate::specs::laws::lookup::LoadedCalls::leaf_suits))]
     pub fn get_in(
         self,
         image: &[u8],

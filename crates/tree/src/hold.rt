@@ -95,6 +95,7 @@ impl<'h, 'b> Slots<'h, 'b> {
     }
 
     // The node of a live slot but for its children: its level, its records in one pass, its place on disk.
+    #[tactic(auto, using(crate::specs::laws::refusal1::Links::body_holds_laws))]
     fn body_holds(self, part: &[u8], h: Head, n: usize) -> bool
         requires { length part.now ≤ 2 ^ 20 }
         ensures { result ≡ body_holds self.entry.tree n h part.now }
@@ -148,6 +149,7 @@ impl<'h, 'b> Slots<'h, 'b> {
     }
 
     // The same of the entries of a slot.
+    #[tactic(auto, using(crate::specs::laws::refusal1::Links::link_entries_laws))]
     fn link_entries(self, records: Records<'_>, level: u64, marks: &mut [u8]) -> bool
         requires { self.tree.used ≤ length marks.old }
         ensures { mark_of result marks.new
@@ -195,6 +197,7 @@ impl<'h, 'b> Slots<'h, 'b> {
     }
 
     // The same of every slot in use.
+    #[tactic(auto, using(crate::specs::laws::refusal1::Pass::hold_slots_laws))]
     fn hold_slots(self, marks: &mut [u8]) -> bool
         requires { self.tree.used ≤ length marks.old }
         ensures { mark_of result marks.new
@@ -211,6 +214,7 @@ impl<'h, 'b> Slots<'h, 'b> {
     }
 
     // 1: the slots in use are nodes, and hold together.
+    #[tactic(auto, using(crate::specs::laws::refusal1::Pass::hold_together_laws))]
     pub fn hold_together(self) -> bool
         ensures { result ≡ slots_hold self.entry.lent.size self.entry.heads.now self.entry.bytes.now self.entry.tree.used 0
             && hold_together (state_of self.entry.lent.size self.entry.tree self.entry.heads.now self.entry.bytes.now) }

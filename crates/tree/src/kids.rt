@@ -9,14 +9,13 @@ use node::record::Record;
 use node::val::{Child, Val};
 
 // The child, if a value is one.
-#[tactic(auto, using(crate::specs::laws::slots::Kids::child_read))]
+#[tactic(auto, unfolding(crate::specs::internal::Tree::child_of, node::specs::Slot::value_means, node::specs::Slot::child_means))]
 pub fn child_of(v: Val<'_>) -> Option<Child>
     ensures { result ≡ child_of (value_means v.entry) }
 {
     match v {
         Val::Child(c) => Some(c),
-        Val::Leaf(_) => None,
-        Val::Ghost => None,
+        _ => None,
     }
 }
 

@@ -5,6 +5,7 @@ pub use node::{head, obj, pack, record, refusal};
 
 pub mod bank;
 pub mod block;
+mod change;
 pub mod cuts;
 pub mod edit;
 pub mod editor;

@@ -8,7 +8,8 @@ ghost use Rattle.tree.specs.internal.Open.{opened_root, ReadyOpened};
 
 use crate::editor::Tree;
 use crate::lent::Lent;
-use crate::{bank, lent, map};
+use crate::mapped::Blocks;
+use crate::{bank, lent};
 use node::info::BTreeInfo;
 use node::order::Order;
 use node::read::Place;
@@ -17,21 +18,20 @@ use node::refusal::{Refusal, check};
 // The tree whose root is r, at an address: the load line from 2, then 10.
 #[tactic(auto, using(crate::specs::laws::load::Open::opening))]
 fn open_at(
-    image: &[u8],
+    blocks: Blocks<'_>,
     heads: &mut [u64],
     bytes: &mut [u8],
-    lent: Lent,
     r: u64,
     order: Order,
     xid: u64,
     a: u64,
 ) -> Result<Tree, Refusal>
-    requires le_size { (512 ≤ lent.size) × (lent.size ≤ 65536) × (1 ≤ lent.slots) × (lent.slots ≤ 4096) }
-    requires heads_len { (length heads.old ≡ lent.slots * 19) × (length bytes.old
-        ≡ (lent.slots + lent.slots) * (4 * lent.size)) }
-    ensures answer { opened_of lent.size heads.new bytes.new result
-        ≡ opened_root (lent_of image.now lent) r order.code xid a }
-    ensures ready { ReadyOpened lent.size lent.slots heads.new bytes.new result }
+    requires le_size { (1 ≤ blocks.lent.slots) × (blocks.lent.slots ≤ 4096) }
+    requires heads_len { (length heads.old ≡ blocks.lent.slots * 19) × (length bytes.old
+        ≡ (blocks.lent.slots + blocks.lent.slots) * (4 * blocks.lent.size)) }
+    ensures answer { opened_of blocks.entry.lent.size heads.new bytes.new result
+        ≡ opened_root (lent_of blocks.entry.image.now blocks.entry.lent) r order.code xid a }
+    ensures ready { ReadyOpened blocks.entry.lent.size blocks.entry.lent.slots heads.new bytes.new result }
 {
     let place = Place {
         root: true,
@@ -42,14 +42,11 @@ fn open_at(
         lower: None,
         upper: None,
     };
-    let read = map::load_block(image, lent, order, place, a)?;
-    let by_id = lent.map.is_some();
-    check(
-        Refusal::Root,
-        map::root_holds(image, lent, a, by_id, read.node),
-    )?;
+    let read = blocks.load_block(order, place, a)?;
+    let by_id = blocks.lent.map.is_some();
+    check(Refusal::Root, blocks.root_holds(a, by_id, read.node))?;
     let info = BTreeInfo::parse(read.block);
-    bank::adopt_into(read, heads, bytes, lent.size, 0, by_id, a);
+    bank::adopt_into(read, heads, bytes, blocks.lent.size, 0, by_id, a);
     Ok(Tree {
         root: 0,
         used: 1,
@@ -80,8 +77,9 @@ pub fn open_in(
 {
     check(Refusal::Lent, lent::sizes_hold(image, lent))?;
     check(Refusal::Lent, order.known())?;
-    let a = map::address_of(image, lent, xid, r)?;
-    open_at(image, heads, bytes, lent, r, order, xid, a)
+    let blocks = Blocks { image, lent };
+    let a = blocks.address_of(xid, r)?;
+    open_at(blocks, heads, bytes, r, order, xid, a)
 }
 
 // The same of any workspace: 1 where it is none for so many slots.

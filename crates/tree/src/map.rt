@@ -11,9 +11,9 @@ ghost use Rattle.tree.specs.internal.Tree.{edge_of, edges_of};
 ghost use Rattle.tree.specs.internal.Map.{load_at, map_read, map_child_at, map_loaded_of, leftward, found_of, spotted_of, address_at, looked_up};
 
 use crate::editor::Bounds;
-use crate::lent::Lent;
 use crate::mapped::{Blocks, MapNode, Mapped};
 use node::info::BTreeInfo;
+use node::obj::OBJ_PHYSICAL;
 use node::order::Order;
 use node::read::{Node, Place, ReadNode};
 use node::refusal::{Refusal, check};
@@ -21,13 +21,10 @@ use node::val::Val;
 use node::{bytes, read};
 
 // Fixed lengths of the map's keys and values (`omap_key_t`, `omap_val_t`).
-const PAIR_SIZE: u64 = 16;
+pub const PAIR_SIZE: u64 = 16;
 
 // A mapping's flag for an encrypted object.
 const OMAP_VAL_ENCRYPTED: u64 = 4;
-
-// What the storage class of an object's type starts at: 0 virtual, 1 physical.
-const STORAGE_CLASS: u64 = 0x40000000;
 
 // The block at an address.
 #[tactic(auto, using(crate::specs::laws::load::MapNode::in_image))]
@@ -40,35 +37,33 @@ pub fn block_of(image: &[u8], size: usize, a: u64) -> &[u8]
     &image[start..end]
 }
 
-// 2 to 9: the node at an address, in its place.
-#[tactic(auto, using(crate::specs::laws::load::MapNode::loads))]
-pub fn load_block<'i>(
-    image: &'i [u8],
-    lent: Lent,
-    order: Order,
-    place: Place<'_>,
-    a: u64,
-) -> Result<ReadNode<'i>, Refusal>
-    requires { (512 ≤ lent.size) × (lent.size ≤ 65536) }
-    ensures answer { read_of (block_at (lent_of image.now lent) a) (map_ok (λ r. r.node) result)
-        ≡ load_at (lent_of image.now lent) order.code (place_of place.entry) (lent_key place.entry.lower)
-        (lent_key place.entry.upper) a }
-    ensures block { IfOk result (λ r. r.block.now ≡ window (a * lent.size) lent.size image.now) }
-    ensures inside { OnOk result (a < length image.now / lent.size) }
-{
-    check(Refusal::Address, a < (image.len() / lent.size) as u64)?;
-    read::read_node(block_of(image, lent.size, a), order, place)
-}
+impl<'i> Blocks<'i> {
+    // 2 to 9: the node at an address, in its place.
+    #[tactic(auto, using(crate::specs::laws::load::MapNode::loads))]
+    pub fn load_block(self, order: Order, place: Place<'_>, a: u64) -> Result<ReadNode<'i>, Refusal>
+        ensures answer { read_of (block_at (lent_of self.entry.image.now self.entry.lent) a) (map_ok (λ r. r.node) result)
+            ≡ load_at (lent_of self.entry.image.now self.entry.lent) order.code (place_of place.entry)
+            (lent_key place.entry.lower) (lent_key place.entry.upper) a }
+        ensures block { IfOk result (λ r. r.block.now ≡ window (a * self.entry.lent.size) self.entry.lent.size self.entry.image.now) }
+        ensures inside { OnOk result (a < length self.entry.image.now / self.entry.lent.size) }
+    {
+        let size = self.lent.size;
+        check(Refusal::Address, a < (self.image.len() / size) as u64)?;
+        read::read_node(block_of(self.image, size, a), order, place)
+    }
 
-// 10: a root's storage class, or its stored node size.
-#[tactic(auto, using(crate::specs::laws::load::MapAddress::roots))]
-pub fn root_holds(image: &[u8], lent: Lent, a: u64, by_id: bool, v: Node) -> bool
-    requires { (a < length image.now / lent.size) × (512 ≤ lent.size) }
-    ensures { result
-        ≡ root_holds (lent_of image.now lent) a by_id (on_disk v (block_at (lent_of image.now lent) a)) }
-{
-    let info = BTreeInfo::parse(block_of(image, lent.size, a));
-    v.otype / STORAGE_CLASS == u64::from(!by_id) && info.node_size == lent.size as u64
+    // 10: a root's storage class, or its stored node size. A class is how often OBJ_PHYSICAL goes into a type: 0 virtual, 1 physical.
+    #[tactic(auto, using(crate::specs::laws::load::MapAddress::roots))]
+    pub fn root_holds(self, a: u64, by_id: bool, v: Node) -> bool
+        requires { a < length self.image.now / self.lent.size }
+        ensures { result
+            ≡ root_holds (lent_of self.entry.image.now self.entry.lent) a by_id
+            (on_disk v (block_at (lent_of self.entry.image.now self.entry.lent) a)) }
+    {
+        let size = self.lent.size;
+        let info = BTreeInfo::parse(block_of(self.image, size, a));
+        v.otype / OBJ_PHYSICAL == u64::from(!by_id) && info.node_size == size as u64
+    }
 }
 
 // The higher of a lower bound and a key.
@@ -122,10 +117,8 @@ impl<'i> MapNode<'i> {
         requires { n ≤ self.read.node.nkeys }
         ensures { found_of result ≡ drop (n - 1) (take n (map_read self.entry).entries) }
     {
-        if n == 0 {
-            return None;
-        }
-        let last = self.read.entry(n as usize - 1);
+        let i = n.checked_sub(1)?;
+        let last = self.read.entry(i as usize);
         Some(Mapped {
             key: last.key(),
             value: last.value(),
@@ -168,7 +161,7 @@ impl<'i> Blocks<'i> {
             lower: b.lower,
             upper: b.upper,
         };
-        let read = load_block(self.image, self.lent, Order::PAIR_ORDER, place, a)?;
+        let read = self.load_block(Order::PAIR_ORDER, place, a)?;
         Ok(MapNode { read })
     }
 
@@ -257,26 +250,26 @@ fn mapping(found: Option<Mapped<'_>>, id: u64) -> Result<u64, Refusal>
     Ok(bytes::field_at::<8>(value, 8))
 }
 
-// 10 of the map's root.
-#[tactic(auto, using(crate::specs::laws::load::MapAddress::map_root), unfolding(crate::specs::Load::map_root_holds))]
-fn map_root_holds(image: &[u8], lent: Lent, a: u64, v: Node) -> bool
-    requires { (a < length image.now / lent.size) × (512 ≤ lent.size) }
-    ensures { result
-        ≡ map_root_holds (lent_of image.now lent) a (on_disk v (block_at (lent_of image.now lent) a)) }
-{
-    let info = BTreeInfo::parse(block_of(image, lent.size, a));
-    root_holds(image, lent, a, false, v) && info.key_size == PAIR_SIZE && info.val_size == PAIR_SIZE
-}
-
 impl<'i> Blocks<'i> {
+    // 10 of the map's root.
+    #[tactic(auto, using(crate::specs::laws::load::MapAddress::map_root), unfolding(crate::specs::Load::map_root_holds))]
+    fn map_root_holds(self, a: u64, v: Node) -> bool
+        requires { a < length self.image.now / self.lent.size }
+        ensures { result
+            ≡ map_root_holds (lent_of self.entry.image.now self.entry.lent) a
+            (on_disk v (block_at (lent_of self.entry.image.now self.entry.lent) a)) }
+    {
+        let info = BTreeInfo::parse(block_of(self.image, self.lent.size, a));
+        self.root_holds(a, false, v) && info.key_size == PAIR_SIZE && info.val_size == PAIR_SIZE
+    }
+
     // The mapping of an id as seen from a transaction, from the map's root on.
     #[tactic(auto, using(crate::specs::laws::load::MapAddress::lookup))]
     fn map_lookup(self, d: MapNode<'i>, xid: u64, id: u64) -> Result<u64, Refusal>
         ensures { address_at result
             ≡ looked_up (lent_of self.entry.image.now self.entry.lent) (map_read d.entry) xid id }
     {
-        let mut key = [0u8; 16];
-        Order::pair_key(&mut key, id, xid);
+        let key = Order::pair_key(id, xid);
         let all = Bounds {
             lower: None,
             upper: None,
@@ -299,23 +292,19 @@ impl<'i> Blocks<'i> {
             lower: None,
             upper: None,
         };
-        let read = load_block(self.image, self.lent, Order::PAIR_ORDER, place, m)?;
-        check(
-            Refusal::Root,
-            map_root_holds(self.image, self.lent, m, read.node),
-        )?;
+        let read = self.load_block(Order::PAIR_ORDER, place, m)?;
+        check(Refusal::Root, self.map_root_holds(m, read.node))?;
         self.map_lookup(MapNode { read }, xid, id)
     }
-}
 
-// The address of a reference: itself, or with a map lent its id's mapping.
-#[tactic(auto, using(crate::specs::laws::load::MapAddress::through))]
-pub fn address_of(image: &[u8], lent: Lent, xid: u64, r: u64) -> Result<u64, Refusal>
-    requires { (512 ≤ lent.size) × (lent.size ≤ 65536) }
-    ensures { address_at result ≡ address_of (lent_of image.now lent) xid r }
-{
-    match lent.map {
-        None => Ok(r),
-        Some(m) => Blocks { image, lent }.map_address(xid, r, m),
+    // The address of a reference: itself, or with a map lent its id's mapping.
+    #[tactic(auto, using(crate::specs::laws::load::MapAddress::through))]
+    pub fn address_of(self, xid: u64, r: u64) -> Result<u64, Refusal>
+        ensures { address_at result ≡ address_of (lent_of self.entry.image.now self.entry.lent) xid r }
+    {
+        match self.lent.map {
+            None => Ok(r),
+            Some(m) => self.map_address(xid, r, m),
+        }
     }
 }

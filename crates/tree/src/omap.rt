@@ -14,6 +14,7 @@ ghost use Rattle.tree.specs.internal.Dropping.{put_anew};
 use crate::editor::{Tree, UNBOUNDED};
 use crate::lent;
 use crate::lent::Lent;
+use crate::map::PAIR_SIZE;
 use crate::range::Asked;
 use crate::view::{View, view};
 use node::bytes;
@@ -21,21 +22,13 @@ use node::order::Order;
 use node::refusal::{Refusal, check};
 use node::slot::Records;
 
-// Keys and values of an object map have so many bytes.
-const OMAP_ENTRY: u64 = 16;
-
-const LAST_ID: u64 = 0xFFFFFFFFFFFFFFFF;
-
 // The end of an id's versions: the next id's first; the last id has none.
 #[tactic(auto, using(crate::specs::laws::omap::Keys::versions_last, crate::specs::laws::omap::Keys::versions_next))]
-fn versions_end(out: &mut [u8], id: u64) -> Option<&[u8]>
-    requires { length out.now ≡ 16 }
+fn versions_end(out: &mut [u8; 16], id: u64) -> Option<&[u8]>
     ensures { end_of result ≡ versions_end id }
 {
-    if id == LAST_ID {
-        return None;
-    }
-    Order::pair_key(out, id + 1, 0);
+    let next = id.checked_add(1)?;
+    *out = Order::pair_key(next, 0);
     Some(out)
 }
 
@@ -46,11 +39,12 @@ impl Tree {
         ensures { (size : ℕ) (heads bytes : List ℕ) → result ≡ is_omap (state_of size self heads bytes) }
     {
         self.order.code == Order::PAIR
-            && self.info.key_size == OMAP_ENTRY
-            && self.info.val_size == OMAP_ENTRY
+            && self.info.key_size == PAIR_SIZE
+            && self.info.val_size == PAIR_SIZE
     }
 
     // Each remove in key order: of the entries whose keys the records have. `keys` is two blocks' worth that a remove takes for keys.
+    #[tactic(auto, using(crate::specs::laws::base::Refused::handed_on, crate::specs::laws::omap::RemoveAll::remove_all_laws))]
     fn remove_all(
         self,
         image: &[u8],
@@ -78,6 +72,7 @@ impl Tree {
     }
 
     // The loads of an id's versions, each remove in key order: they are listed in the scratch, behind what a remove takes for keys.
+    #[tactic(auto, using(crate::specs::laws::base::Refused::handed_on, crate::specs::laws::omap::Drop::dropped_laws))]
     fn dropped(
         self,
         image: &[u8],
@@ -95,8 +90,7 @@ impl Tree {
         ensures follows { Follows lent.size lent.slots self.used heads.old bytes.old
             heads.new bytes.new }
     {
-        let mut lo = [0u8; 16];
-        Order::pair_key(&mut lo, id, 0);
+        let lo = Order::pair_key(id, 0);
         let mut end = [0u8; 16];
         let hi = versions_end(&mut end, id);
         let asked = Asked { lo: &lo, hi };
@@ -114,6 +108,7 @@ impl Tree {
     }
 
     // omap_drop on slots that are trusted.
+    #[tactic(auto, using(crate::specs::laws::refusal1::EditCalls::stays_trusts, crate::specs::laws::omap::Calls::omap_drop_in_laws))]
     pub fn omap_drop_in(
         self,
         image: &[u8],
@@ -140,7 +135,7 @@ impl Tree {
     }
 
     // The drop, then the upsert. Refused, it may leave slots changed.
-    #[tactic(auto, using(crate::specs::laws::base::Refused::handed_on, crate::specs::laws::omap::Put::put_refused))]
+    #[tactic(auto, using(crate::specs::laws::base::Refused::handed_on, crate::specs::laws::omap::Put::put_laws))]
     fn put(
         self,
         image: &[u8],
@@ -198,8 +193,7 @@ impl Tree {
             heads.new bytes.new result }
     {
         check(Refusal::Argument, self.is_omap())?;
-        let mut key = [0u8; 16];
-        Order::pair_key(&mut key, id, xid);
+        let key = Order::pair_key(id, xid);
         let mut value = [0u8; 16];
         bytes::put_field::<4>(&mut value, 4, size);
         bytes::put_field::<8>(&mut value, 8, address);

@@ -89,6 +89,7 @@ impl Asked<'_, '_> {
 impl<'h, 'b> View<'h, 'b> {
     // The first child of slot n from one on that range looks into, if there is one. One walk, so that a node's children are not each
     // looked for anew.
+    #[tactic(auto, using(crate::specs::laws::lookup::RangeFirstChild::next_entered_laws))]
     fn next_entered(self, n: usize, from: u64, asked: Asked<'_, '_>) -> Option<u64>
         ensures { result
             ≡ next_entered self.entry.tree.order.code asked.entry.lo.now (end_of asked.entry.hi)
@@ -109,6 +110,7 @@ impl<'h, 'b> View<'h, 'b> {
     }
 
     // Of the entries of slot n, those between.
+    #[tactic(auto, using(crate::specs::laws::lookup::Between::count_start))]
     fn ranged_at(self, n: usize, asked: Asked<'_, '_>) -> Ranged
         ensures { result
             ≡ found_in self.entry.tree (between self.entry.tree.order.code asked.entry.lo.now
@@ -131,6 +133,7 @@ impl<'h, 'b> View<'h, 'b> {
     }
 
     // The same entries' records written out from a place on. The answer is where they end.
+    #[tactic(auto, using(crate::specs::laws::lookup::Between::length_taken))]
     fn write_between(self, n: usize, asked: Asked<'_, '_>, out: &mut [u8], from: usize) -> usize
         requires room { from + length (records_of (between self.tree.order.code asked.lo.now
             (end_of asked.hi) (node_at (seen self) n).entries)) ≤ length out.old }
@@ -154,6 +157,7 @@ impl<'h, 'b> View<'h, 'b> {
     }
 
     // The records of the range d levels below slot n, all of its nodes loaded, written out from a place on. The answer is where they end.
+    #[tactic(auto, using(crate::specs::laws::lookup::RangeOut::leaf_out))]
     pub fn range_out(
         self,
         n: usize,
@@ -189,6 +193,7 @@ impl<'h, 'b> View<'h, 'b> {
 
 impl Tree {
     // The range d levels below slot n: nodes loaded, entries counted.
+    #[tactic(auto, using(crate::specs::laws::slots::Undo::follows_same, crate::specs::laws::lookup::RangeCountCode::range_from_laws))]
     pub fn range_from(
         self,
         image: &[u8],
@@ -230,7 +235,7 @@ impl Tree {
     }
 
     // Of range, what follows 12: the loads, 20, the records. Refused, it may leave slots changed.
-    #[tactic(auto, using(crate::specs::laws::base::Refused::handed_on, crate::specs::laws::lookup::RangeCall::way_refused))]
+    #[tactic(auto, using(crate::specs::laws::base::Refused::handed_on, crate::specs::laws::lookup::RangeCall::range_way_laws))]
     fn range_way(
         self,
         image: &[u8],

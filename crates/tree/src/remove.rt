@@ -4,7 +4,7 @@ ghost use Rattle.node.specs.Fit.{Sized, fits};
 ghost use Rattle.node.specs.Records.{records_length};
 ghost use Rattle.node.specs.Slot.{head_at, node_of};
 ghost use Rattle.tree.specs.Lent.{lent_of};
-ghost use Rattle.tree.specs.State.{node_at, with_counts};
+ghost use Rattle.tree.specs.State.{node_at};
 ghost use Rattle.tree.specs.Trust.{trusted};
 ghost use Rattle.tree.specs.Remove.{drop_node, drop_emptied, leveled_root, has_only_child, hand_down, removed, remove_in, remove};
 ghost use Rattle.tree.specs.Workspace.{slot_bytes, state_of, edits};
@@ -25,29 +25,14 @@ use crate::view::{View, view};
 use crate::way::Step;
 use crate::writers::DirtyMark;
 use crate::{bank, lent, undo, writers};
-use node::fit::SlotNode;
 use node::head::Head;
-use node::info::BTreeInfo;
 use node::order::Order;
 use node::refusal::{Refusal, check};
-use node::room::Shape;
-use node::slot::{Found, Records};
-
-// A tree's numbers with other counts.
-#[tactic(auto, unfolding(crate::specs::State::with_counts))]
-pub fn recounted(info: BTreeInfo, keys: u64, nodes: u64) -> BTreeInfo
-    ensures { result ≡ with_counts info keys nodes }
-{
-    BTreeInfo {
-        key_count: keys,
-        node_count: nodes,
-        ..info
-    }
-}
+use node::slot::Found;
 
 impl<'h, 'b> View<'h, 'b> {
     // Whether the node of a slot fits as root.
-    #[tactic(auto, using(crate::specs::laws::slots::OneSlot::ready_records, crate::specs::laws::remove::Reads::fits_as_root_laws))]
+    #[tactic(auto, using(crate::specs::laws::slots::Records::node_used))]
     fn fits_as_root(self, n: usize) -> bool
         requires { (n < self.tree.used) × (Sized self.tree.info) }
         ensures { result
@@ -55,16 +40,7 @@ impl<'h, 'b> View<'h, 'b> {
             (node_at (seen self.entry) n).entries }
     {
         let h = bank::live_at(self.heads, n);
-        let records = Records {
-            slot: bank::slot_of(self.bytes, self.lent.size, n),
-            count: h.count,
-        };
-        let shape = Shape {
-            info: self.tree.info,
-            root: true,
-            level: h.level,
-        };
-        SlotNode { records, shape }.fits(h.used)
+        self.slot_node(n, true).fits(h.used)
     }
 
     // An index root with one child.
@@ -107,7 +83,7 @@ impl Tree {
     }
 
     // On a way, bottom up: emptied nodes are dropped, never the root. The answer is how many.
-    #[tactic(auto, using(crate::specs::laws::remove::Drops::emptied_none))]
+    #[tactic(auto, using(crate::specs::laws::remove::Drops::drop_emptied_laws, crate::specs::laws::cut::Pairs::drop_emptied_laws))]
     fn drop_emptied(self, heads: &mut [u64], bytes: &mut [u8], lent: Lent, way: &[Step]) -> u64
         requires ready { (Ready lent.size lent.slots self.used heads.old bytes.old) × (WayIn self.used way.now) }
         requires room { DropRoom (state_of lent.size self heads.old bytes.old) way.now }
@@ -182,6 +158,7 @@ impl Tree {
     }
 
     // Slot c takes the root's place: ids exchanged, blocks not; it is dirty, the old root dead.
+    #[tactic(auto, using(crate::specs::laws::remove::Words::handed_down_laws))]
     fn handed_down(mut self, heads: &mut [u64], bytes: &mut [u8], lent: Lent, c: usize) -> Tree
         requires ready { Ready lent.size lent.slots self.used heads.old bytes.old }
         requires place { (self.root < self.used) × (c < self.used) × (c ≡ self.root → ⊥) × (0 < self.info.node_count) }
@@ -212,6 +189,7 @@ impl Tree {
     }
 
     // While an index root has one child: its load, and the root's place goes down to it, at most n times.
+    #[tactic(auto, using(crate::specs::laws::remove::HandDown::hand_down_laws))]
     fn hand_down(
         self,
         image: &[u8],
@@ -243,7 +221,7 @@ impl Tree {
     }
 
     // The leaf edited, emptied nodes dropped: 17.
-    #[tactic(auto, using(crate::specs::laws::remove::Shrink::shrink_laws, crate::specs::laws::base::Refused::handed_on))]
+    #[tactic(auto, using(crate::specs::laws::base::Refused::handed_on, crate::specs::laws::remove::Shrink::shrink_laws))]
     fn shrink(
         mut self,
         heads: &mut [u64],
@@ -275,10 +253,10 @@ impl Tree {
         };
         writers::remove_at(heads, bytes, lent, self.used, spot, DirtyMark::Kept);
         let dropped = self.drop_emptied(heads, bytes, lent, way);
-        let info = self.info;
-        check(Refusal::Count, 0 < info.key_count)?;
-        check(Refusal::Count, dropped <= info.node_count)?;
-        self.info = recounted(info, info.key_count - 1, info.node_count - dropped);
+        check(Refusal::Count, 0 < self.info.key_count)?;
+        check(Refusal::Count, dropped <= self.info.node_count)?;
+        self.info.key_count -= 1;
+        self.info.node_count -= dropped;
         self.level_root(heads, bytes, lent);
         Ok(self)
     }

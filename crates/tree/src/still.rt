@@ -14,7 +14,7 @@ use crate::lent::Lent;
 use crate::loaded::Taken;
 use crate::view::{View, view};
 use crate::writers::DirtyMark;
-use crate::{kids, remove, writers};
+use crate::{kids, writers};
 use node::head::Head;
 use node::order::Order;
 use node::record::Record;
@@ -126,8 +126,7 @@ impl Tree {
             at: f.at,
         };
         writers::take_at(heads, bytes, lent, self.used, spot, DirtyMark::Kept);
-        let info = self.info;
-        self.info = remove::recounted(info, info.key_count - 1, info.node_count);
+        self.info.key_count -= 1;
         Some(self)
     }
 }

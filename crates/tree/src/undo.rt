@@ -27,7 +27,7 @@ fn clear_words(s: &mut [u64], a: usize, n: usize)
 }
 
 // No slot in use is saved.
-fn clear_marks(heads: &mut [u64], slots: usize, used: usize)
+pub fn clear_marks(heads: &mut [u64], slots: usize, used: usize)
     requires { (used ≤ slots) × (slots ≤ 4096) × (length heads.old ≡ slots * 19) }
     ensures { heads.new ≡ splice heads.old (slots * 18) (replicate used 0) }
 {
@@ -53,7 +53,7 @@ fn copy_slot(heads: &mut [u64], bytes: &mut [u8], size: usize, from: usize, to: 
 }
 
 // Slot n may be changed after this.
-#[tactic(auto, using(crate::specs::laws::slots::Copy::saves))]
+#[tactic(auto, using(crate::specs::laws::slots::Copy::save_laws))]
 pub fn save(heads: &mut [u64], bytes: &mut [u8], lent: Lent, used: usize, n: usize)
     requires ready { Ready lent.size lent.slots used heads.old bytes.old }
     requires n_lt_used { n < used }
@@ -77,13 +77,12 @@ fn bring_back(heads: &mut [u64], bytes: &mut [u8], lent: Lent, used: usize, n: u
     let at = lent.slots * MARKS_AT + n;
     if heads[at] != 0 {
         copy_slot(heads, bytes, lent.size, lent.slots + n, n);
-        return;
     }
 }
 
 // Every slot in use when the call started is what it was then.
 #[tactic(auto, using(crate::specs::laws::slots::Copy::restores))]
-fn restore(heads: &mut [u64], bytes: &mut [u8], lent: Lent, used: usize)
+pub fn restore(heads: &mut [u64], bytes: &mut [u8], lent: Lent, used: usize)
     requires { Shadowed lent.size lent.slots used heads.old bytes.old }
     ensures { Back lent.size lent.slots used used heads.old bytes.old heads.new bytes.new }
 {
@@ -94,6 +93,7 @@ fn restore(heads: &mut [u64], bytes: &mut [u8], lent: Lent, used: usize)
 
 impl Tree {
     // A call on slots of which none is saved yet. Refused, the tree is as it was.
+    #[tactic(auto, using(crate::specs::laws::slots::CallBounds::undone_laws))]
     pub fn undone<T, F: FnMut(&mut [u64], &mut [u8]) -> Result<T, Refusal>>(
         self,
         heads: &mut [u64],

@@ -41,17 +41,6 @@ struct Storable<'k, 'v> {
     ghost held: { Held (value_means value) } by { held_once (value_means value) },
 }
 
-// What is put: a ghost where there are no bytes.
-#[tactic(auto, using(crate::specs::laws::upsert::PutInLeaf::lent))]
-fn val_of(value: Option<&[u8]>) -> Val<'_>
-    ensures { value_means result ≡ lent_value value.entry }
-{
-    match value {
-        Some(bytes) => Val::Leaf(bytes),
-        None => Val::Ghost,
-    }
-}
-
 // One key more, and longest lengths that only grow.
 #[tactic(auto, using(crate::specs::laws::upsert::PutInLeaf::grown_new_is))]
 fn grown_new(info: BTreeInfo, key: usize, value: usize) -> BTreeInfo
@@ -121,6 +110,7 @@ impl Tree {
     }
 
     // The leaf edited, and the tree's numbers.
+    #[tactic(auto, using(crate::specs::laws::upsert::PutInLeaf::put_in_leaf_laws))]
     fn put_in_leaf(
         mut self,
         heads: &mut [u64],
@@ -166,6 +156,7 @@ impl Tree {
     }
 
     // The entry put in slot n, the leaf of a way that is loaded: dirty marks, the leaf, index keys, cuts.
+    #[tactic(auto, using(crate::specs::laws::upsert::Parts::follows_four, crate::specs::laws::upsert::Steps::on_done))]
     fn put_on(
         self,
         heads: &mut [u64],
@@ -199,7 +190,7 @@ impl Tree {
 
     // The edit on a way that is loaded: 17; then cuts. What is too large for any node is refused before it is stored: the cut of its
     // leaf would refuse it.
-    #[tactic(auto, using(crate::specs::laws::slots::Undo::handed_back, crate::specs::laws::upsert::Steps::on_count))]
+    #[tactic(auto, using(crate::specs::laws::base::Refused::handed_on, crate::specs::laws::upsert::Steps::upsert_on_laws))]
     fn upsert_on(
         self,
         heads: &mut [u64],
@@ -221,7 +212,7 @@ impl Tree {
         let n = way[way.len() - 1].slot;
         let f = view!(self, heads, bytes, lent).found_at(n, key);
         check(Refusal::Count, count_holds(f.found, self.info.key_count))?;
-        let value = val_of(value);
+        let value = value.map_or(Val::Ghost, Val::Leaf);
         if too_large(lent.size, key.len(), value.len()) {
             let h = bank::live_at(heads, n);
             return Err(large_refusal(h.count, f.found));
@@ -257,7 +248,7 @@ impl Tree {
     }
 
     // upsert on slots that are trusted: 12; the edit. Refused, every slot is as it was.
-    #[tactic(auto, using(crate::specs::laws::upsert::Call::upsert_in_laws, crate::specs::laws::refusal1::EditCalls::stays_trusts))]
+    #[tactic(auto, using(crate::specs::laws::upsert::Call::upsert_in_laws, crate::specs::laws::refusal1::EditCalls::upsert_in_laws))]
     pub fn upsert_in(
         self,
         image: &[u8],

@@ -11,13 +11,11 @@ ghost use Rattle.tree.specs.internal.Undo.{Follows};
 ghost use Rattle.tree.specs.internal.Way.{way_of, WayReady};
 ghost use Rattle.tree.specs.internal.View.{seen};
 
-use crate::bank;
 use crate::editor::{Tree, UNBOUNDED};
 use crate::lent::Lent;
 use crate::view::{View, view};
 use node::order::Order;
 use node::refusal::Refusal;
-use node::slot::Records;
 
 // The most nodes on a way: levels 32 to 0, and one more.
 pub const STEPS: usize = 34;
@@ -41,21 +39,13 @@ pub struct Way {
 }
 
 impl<'h, 'b> View<'h, 'b> {
-    #[tactic(auto, using(crate::specs::laws::load::Way::way_index_laws, crate::specs::laws::slots::OneSlot::ready_room))]
+    #[tactic(auto, using(crate::specs::laws::load::Way::index_of))]
     pub fn way_index(self, n: usize, key: &[u8]) -> u64
         ensures { result
             ≡ way_index self.entry.tree.order.code key.now (node_at (seen self.entry) n).entries }
     {
-        if self.tree.used <= n {
-            return 0;
-        }
-        let h = bank::live_at(self.heads, n);
         let order = self.tree.order;
-        let records = Records {
-            slot: bank::slot_of(self.bytes, self.lent.size, n),
-            count: h.count,
-        };
-        let last = records.not_above(order, key);
+        let last = self.records(n).not_above(order, key);
         last.count.saturating_sub(1)
     }
 }

@@ -9,15 +9,15 @@ ghost use Rattle.tree.specs.Workspace.{slot_bytes};
 ghost use Rattle.tree.specs.Trusts.{live, Ready};
 ghost use Rattle.tree.specs.internal.Bank.{node_in, Wrote, Put};
 ghost use Rattle.tree.specs.internal.Undo.{Follows};
-ghost use Rattle.tree.specs.internal.Writers.{dirty_word, recounted, edited, entry_at, SpotIn, SpotUpto};
+ghost use Rattle.tree.specs.internal.Writers.{dirty_word, recounted, edited, entry_at, SpotIn, SpotUpto, SpotAlive};
 
+use crate::change::{Change, Insert, Rekey, Remove, Revalue};
 use crate::floor::Spot;
 use crate::lent::Lent;
 use crate::view::View;
 use crate::{bank, undo};
 use node::head::Head;
-use node::slot;
-use node::slot::{EntryAt, Records};
+use node::slot::EntryAt;
 use node::val::Val;
 
 // What an edit of a slot's records does to the slot's dirty mark.
@@ -71,8 +71,56 @@ fn recount(heads: &mut [u64], n: usize, count: u64, used: u64, mark: DirtyMark)
     r.store(heads, n);
 }
 
+// The records of a slot changed at an entry. The slot is saved, or need not be.
+fn change_at<C: Change>(
+    heads: &mut [u64],
+    bytes: &mut [u8],
+    lent: Lent,
+    used: usize,
+    spot: Spot,
+    change: C,
+    mark: DirtyMark,
+)
+    requires ready { Ready lent.size lent.slots used heads.old bytes.old }
+    requires place { SpotAlive lent.size used heads.old bytes.old spot }
+    requires fits { C.fits change spot.index (live (head_at heads.old spot.slot)).count }
+    requires room { (live (head_at heads.old spot.slot)).used + C.most change ≤ 4 * lent.size }
+    ensures { Wrote lent.size heads.old bytes.old heads.new bytes.new spot.slot
+        (edited mark (node_in lent.size heads.old bytes.old spot.slot)
+        (C.leaves change spot.index (node_in lent.size heads.old bytes.old spot.slot).entries)) }
+{
+    let h = bank::live_at(heads, spot.slot);
+    let a = spot.slot * (bank::SLOT_BLOCKS * lent.size);
+    let e = a + bank::SLOT_BLOCKS * lent.size;
+    let extent = change.make(&mut bytes[a..e], spot.among(h));
+    recount(heads, spot.slot, extent.count, extent.used as u64, mark);
+}
+
+// The same; the slot is saved first.
+#[tactic(auto, using(crate::specs::laws::slots::Writers::changes))]
+fn save_and_change<C: Change>(
+    heads: &mut [u64],
+    bytes: &mut [u8],
+    lent: Lent,
+    used: usize,
+    spot: Spot,
+    change: C,
+    mark: DirtyMark,
+)
+    requires ready { Ready lent.size lent.slots used heads.old bytes.old }
+    requires place { SpotAlive lent.size used heads.old bytes.old spot }
+    requires fits { C.fits change spot.index (live (head_at heads.old spot.slot)).count }
+    requires room { (live (head_at heads.old spot.slot)).used + C.most change ≤ 4 * lent.size }
+    ensures put { Put lent.size lent.slots heads.old bytes.old heads.new bytes.new spot.slot
+        (edited mark (node_in lent.size heads.old bytes.old spot.slot)
+        (C.leaves change spot.index (node_in lent.size heads.old bytes.old spot.slot).entries)) }
+    ensures follows { Follows lent.size lent.slots used heads.old bytes.old heads.new bytes.new }
+{
+    undo::save(heads, bytes, lent, used, spot.slot);
+    change_at(heads, bytes, lent, used, spot, change, mark);
+}
+
 // An entry put before another of a slot, or after the last.
-#[tactic(auto, using(crate::specs::laws::slots::Writers::writes))]
 pub fn insert_at(
     heads: &mut [u64],
     bytes: &mut [u8],
@@ -93,15 +141,11 @@ pub fn insert_at(
         (node_in lent.size heads.old bytes.old spot.slot).entries)) }
     ensures follows { Follows lent.size lent.slots used heads.old bytes.old heads.new bytes.new }
 {
-    undo::save(heads, bytes, lent, used, spot.slot);
-    let h = bank::live_at(heads, spot.slot);
-    let a = spot.slot * (bank::SLOT_BLOCKS * lent.size);
-    let e = a + bank::SLOT_BLOCKS * lent.size;
-    let more = slot::insert(&mut bytes[a..e], spot.among(h), key, value);
-    recount(heads, spot.slot, h.count + 1, more as u64, mark);
+    save_and_change(heads, bytes, lent, used, spot, Insert { key, value }, mark);
 }
 
 // An entry of a slot taken out. The slot is saved, or need not be.
+#[tactic(auto, using(crate::specs::laws::slots::Writers::stands))]
 pub fn take_at(
     heads: &mut [u64],
     bytes: &mut [u8],
@@ -116,15 +160,11 @@ pub fn take_at(
         (edited mark (node_in lent.size heads.old bytes.old spot.slot)
         (remove_at spot.index (node_in lent.size heads.old bytes.old spot.slot).entries)) }
 {
-    let h = bank::live_at(heads, spot.slot);
-    let a = spot.slot * (bank::SLOT_BLOCKS * lent.size);
-    let e = a + bank::SLOT_BLOCKS * lent.size;
-    let more = slot::remove(&mut bytes[a..e], spot.among(h));
-    recount(heads, spot.slot, h.count - 1, more as u64, mark);
+    change_at(heads, bytes, lent, used, spot, Remove, mark);
 }
 
 // An entry of a slot taken out; the slot is saved first.
-#[tactic(auto, using(crate::specs::laws::slots::Writers::removes))]
+#[tactic(auto, using(crate::specs::laws::slots::Writers::stands))]
 pub fn remove_at(
     heads: &mut [u64],
     bytes: &mut [u8],
@@ -140,12 +180,11 @@ pub fn remove_at(
         (remove_at spot.index (node_in lent.size heads.old bytes.old spot.slot).entries)) }
     ensures follows { Follows lent.size lent.slots used heads.old bytes.old heads.new bytes.new }
 {
-    undo::save(heads, bytes, lent, used, spot.slot);
-    take_at(heads, bytes, lent, used, spot, mark);
+    save_and_change(heads, bytes, lent, used, spot, Remove, mark);
 }
 
 // An entry of a slot with another key.
-#[tactic(auto, using(crate::specs::laws::slots::Writers::writes))]
+#[tactic(auto, using(crate::specs::laws::slots::Writers::stands))]
 pub fn rekey_at(
     heads: &mut [u64],
     bytes: &mut [u8],
@@ -163,16 +202,11 @@ pub fn rekey_at(
         (with_key spot.index key.now (node_in lent.size heads.old bytes.old spot.slot).entries)) }
     ensures follows { Follows lent.size lent.slots used heads.old bytes.old heads.new bytes.new }
 {
-    undo::save(heads, bytes, lent, used, spot.slot);
-    let h = bank::live_at(heads, spot.slot);
-    let a = spot.slot * (bank::SLOT_BLOCKS * lent.size);
-    let e = a + bank::SLOT_BLOCKS * lent.size;
-    let more = slot::set_key(&mut bytes[a..e], spot.among(h), key);
-    recount(heads, spot.slot, h.count, more as u64, mark);
+    save_and_change(heads, bytes, lent, used, spot, Rekey { key }, mark);
 }
 
 // An entry of a slot with another value.
-#[tactic(auto, using(crate::specs::laws::slots::Writers::writes))]
+#[tactic(auto, using(crate::specs::laws::slots::Writers::stands))]
 pub fn revalue_at(
     heads: &mut [u64],
     bytes: &mut [u8],
@@ -191,27 +225,15 @@ pub fn revalue_at(
         (with_value spot.index (value_means value.entry) (node_in lent.size heads.old bytes.old spot.slot).entries)) }
     ensures follows { Follows lent.size lent.slots used heads.old bytes.old heads.new bytes.new }
 {
-    undo::save(heads, bytes, lent, used, spot.slot);
-    let h = bank::live_at(heads, spot.slot);
-    let a = spot.slot * (bank::SLOT_BLOCKS * lent.size);
-    let e = a + bank::SLOT_BLOCKS * lent.size;
-    let more = slot::set_value(&mut bytes[a..e], spot.among(h), value);
-    recount(heads, spot.slot, h.count, more as u64, mark);
+    save_and_change(heads, bytes, lent, used, spot, Revalue { value }, mark);
 }
 
 impl<'h, 'b> View<'h, 'b> {
     // Where entry i of slot n starts, or the bytes after its last entry.
-    #[tactic(auto, using(crate::specs::laws::slots::Writers::offsets))]
     pub fn offset_at(self, n: usize, i: u64) -> usize
         requires n_lt_used { (n < self.tree.used) × (i ≤ (live (head_at self.heads.now n)).count) }
         ensures { result ≡ records_length i (slot_bytes self.entry.lent.size self.entry.bytes.now n) }
     {
-        let h = bank::live_at(self.heads, n);
-        let part = bank::slot_of(self.bytes, self.lent.size, n);
-        Records {
-            slot: part,
-            count: h.count,
-        }
-        .offset_of(i)
+        self.records(n).offset_of(i)
     }
 }

@@ -1,5 +1,5 @@
 -- What the writers of one slot leave: its words, its node.
-use Rattle.std.specs.Prelude.{◌≡◌, List, ℕ, ◌≤◌, ◌<◌}
+use Rattle.std.specs.Prelude.{◌≡◌, List, false, ℕ, ◌≤◌, ◌<◌}
 use Rattle.node.specs.Entry.{Entry}
 use Rattle.node.specs.Records.{records_length}
 use Rattle.node.specs.Slot.{MemNode, head_at}
@@ -8,6 +8,7 @@ use Rattle.node.specs.declared.head.Head.{Head}
 use Rattle.tree.specs.State.{with_entries, changed}
 use Rattle.tree.specs.Trusts.{live}
 use Rattle.tree.specs.Workspace.{slot_bytes}
+use Rattle.tree.specs.internal.Bank.{node_in}
 use Rattle.tree.specs.declared.floor.Spot.{Spot}
 use Rattle.tree.specs.declared.writers.DirtyMark.{DirtyMark}
 use Rattle.tree.specs.declared.writers.DirtyMark.TheVariants.{Set, Kept}
@@ -23,6 +24,11 @@ pub record SpotIn (size used : ℕ) (heads bytes : List ℕ) (s : Spot) : Type 0
   pub slot : s.slot < used
   pub index : s.index < (live (head_at heads s.slot)).count
   pub start : s.at ≡ records_length s.index (slot_bytes size bytes s.slot)
+
+-- where an entry stands, or where one is put, in a slot whose node is not dead
+pub record SpotAlive (size used : ℕ) (heads bytes : List ℕ) (s : Spot) : Type 0 where
+  pub spot : SpotUpto size used heads bytes s
+  pub alive : (node_in size heads bytes s.slot).dead ≡ false
 
 -- an entry's place among the records that a slot's words speak of
 abbrev pub entry_at : Spot → Head → EntryAt

@@ -1,18 +1,9 @@
 use mathlib.Core.Path.{◌≡◌, refl, sym, ◌∙◌}
 use Prim.Native.Nat.{◌+◌, ◌-◌, ◌*◌}
 use native.Mathlib.Omega.{arith}
-use Rattle.tree.specs.laws.slots.OneSlot.{ready_part, slot_room, slot_used, slot_index, slot_child, part_is, link_put}
+use Rattle.tree.specs.laws.slots.OneSlot.{slot_room, slot_used, slot_index, slot_child, part_is, link_put}
 use borrow.Author.Rules.{rules}
 use Rattle.tree.proofs.bank.link_in.Goals as goal
-
-pub overflow_mul-a-2 : goal.overflow_mul-a-2
-overflow_mul-a-2 c = omega (arith, ready_part _ _ _ _ _ _ c.requires.ready c.requires.entry.0.0)
-
-pub overflow_add-e : goal.overflow_add-e
-overflow_add-e c = omega (arith, ready_part _ _ _ _ _ _ c.requires.ready c.requires.entry.0.0)
-
-pub slice_bounds-link_part-end : goal.slice_bounds-link_part-end
-slice_bounds-link_part-end c = omega (arith, ready_part _ _ _ _ _ _ c.requires.ready c.requires.entry.0.0)
 
 pub link_part-requires : goal.link_part-requires
 link_part-requires c =

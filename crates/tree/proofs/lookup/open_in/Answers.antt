@@ -3,14 +3,8 @@ use Rattle.tree.specs.laws.load.Open.{open_sizes, open_least, open_most, open_so
 use borrow.Author.Rules.{rules}
 use Rattle.tree.proofs.lookup.open_in.Goals as goal
 
-ruleset laws = (rules, open_sizes, open_least, open_most, open_some, open_many, open_order, open_unmapped, open_found)
-
-pub open_at-requires : goal.open_at-requires
-open_at-requires c =
-    record { le_size = (search (laws, c.in_ok-check.ensures), search (laws, c.in_ok-check.ensures), search (laws, c.in_ok-check.ensures), search (laws, c.in_ok-check.ensures)); heads_len = (search (laws, c.in_ok-check.ensures), search (laws, c.in_ok-check.ensures)) }
-
 pub returns-clause-trusts : goal.returns-clause-trusts
 returns-clause-trusts c =
     let a = c.args in
     let g = c.open_at in
-    opened_trusts a.image.now a.lent a.r a.order.code a.xid _ _ g.result (bytes_known _ c.type_inv.image) g.ensures.ready (search (laws, c.in_ok-a.was, c.in_ok-check.ensures, c.in_ok-check-2.ensures))
+    opened_trusts a.image.now a.lent a.r a.order.code a.xid _ _ g.result (bytes_known _ c.type_inv.image) g.ensures.ready (search (rules, open_sizes, open_least, open_most, open_some, open_many, open_order, open_unmapped, open_found, c.in_ok-a.was, c.in_ok-check.ensures, c.in_ok-check-2.ensures))

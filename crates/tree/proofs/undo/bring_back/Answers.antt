@@ -11,5 +11,5 @@ copy_slot-requires c =
 pub returns-then-heads-at-ne0 : goal.returns-then-heads-at-ne0
 returns-then-heads-at-ne0 c = search (rules, brings)
 
-pub returns : goal.returns
-returns c = search (rules, brings)
+pub returns-else-heads-at-ne0 : goal.returns-else-heads-at-ne0
+returns-else-heads-at-ne0 c = search (rules, brings)

@@ -11,7 +11,6 @@ use Rattle.std.proofs.Math.Dec.{leb}
 use borrow.Author.Tests.{le-leb, lt-leb, leb-true, leb-false, eq-eqb, ne_eqb}
 use Rattle.node.specs.laws.base.Tests.{by_test, never}
 use Rattle.node.specs.Result.{ok, refused}
-use Rattle.node.specs.Records.{records_length, entries_of}
 use Rattle.node.specs.Fit.{fits}
 use Rattle.node.specs.Slot.{head_at, node_of}
 use Rattle.node.specs.Refusals.{number_of}
@@ -19,14 +18,12 @@ use Rattle.node.specs.declared.head.Head.{Head}
 use Rattle.node.specs.declared.refusal.Refusal.{Refusal}
 use Rattle.node.specs.declared.refusal.Refusal.TheVariants as is
 use Rattle.tree.specs.Lent.{lent_of}
-use Rattle.tree.specs.State.{node_at, with_info}
+use Rattle.tree.specs.State.{State, node_at, with_info}
 use Rattle.tree.specs.Edit.{more_nodes, room_for}
-use Rattle.tree.specs.Workspace.{slot_bytes, state_of}
-use Rattle.tree.specs.internal.Bank.{node_in, live, Ready}
+use Rattle.tree.specs.Workspace.{state_of}
+use Rattle.tree.specs.internal.Bank.{node_in, live}
 use Rattle.tree.specs.internal.Edits.{step_at, above_of}
 use Rattle.tree.specs.internal.Cutting.{up_of, room_of, counted, stays_whole}
-use Rattle.tree.specs.laws.slots.Bank.{live_entries, live_same}
-use Rattle.tree.specs.laws.slots.OneSlot.{slot_long, slot_room, slot_used}
 use Rattle.tree.specs.laws.slots.Tree.{node_in_lem, used_nodes}
 use Rattle.tree.specs.declared.editor.Tree.{Tree}
 use Rattle.tree.specs.declared.lent.Lent.{Lent}
@@ -122,45 +119,21 @@ counted_state size n t heads bytes = refl
 
 -- ---- whether a slot fits
 
-module _ (size slots n : ℕ) (t : Tree) (heads bytes : List ℕ) (r : Ready size slots t.used heads bytes) (hn : n < t.used) (h : Head)
-    (eh : h ≡ head_at heads n) where
+pub unfit_alive : (s : State) (n : ℕ) (b : Bool) → b ≡ stays_whole s n → b ≡ false → (node_at s n).dead ≡ false
+unfit_alive s n b e f = by_test (node_at s n).dead (λ d. never (e ∙ rw d) f) (λ d. d)
+
+module _ (size n : ℕ) (t : Tree) (heads bytes : List ℕ) (hn : n < t.used) (h : Head) (eh : h ≡ live (head_at heads n)) where
   node_dead : (node_at (state_of size t heads bytes) n).dead ≡ eqb h.dead 1
-  unfolding node_in node_of
-  node_dead = rw (node_in_lem size t heads bytes n hn, ← eh)
+  unfolding node_in node_of live
+  node_dead = rw (node_in_lem size t heads bytes n hn, eh)
 
   pub whole_dead : h.dead ≡ 1 → true ≡ stays_whole (state_of size t heads bytes) n
   whole_dead d = rw (node_dead, eq-eqb h.dead 1 d)
 
-  pub unfit_alive : (b : Bool) → b ≡ stays_whole (state_of size t heads bytes) n → b ≡ false → h.dead ≡ 1 → ⊥
-  unfit_alive b e f d = never (sym (whole_dead d)) (sym e ∙ f)
+  pub whole_fits : (h.dead ≡ 1 → ⊥) → (b : Bool)
+      → b ≡ fits t.info (eqb n t.root) (node_at (state_of size t heads bytes) n).level (node_at (state_of size t heads bytes) n).entries
+      → b ≡ stays_whole (state_of size t heads bytes) n
+  unfolding state_of
+  whole_fits d b e = rw (node_dead, ne_eqb h.dead 1 d) e
 
-  module _ (d : h.dead ≡ 1 → ⊥) (l : List ℕ) (el : l ≡ slot_bytes size bytes n) where
-    is_live : h ≡ live (head_at heads n)
-    is_live = live_same h d ∙ ap live eh
-
-    pub whole_room : records_length h.count l ≤ length l
-    whole_room = slot_room size slots t.used n heads bytes r hn l el h is_live
-
-    pub whole_used : h.used ≡ records_length h.count l
-    whole_used = slot_used size slots t.used n heads bytes r hn l el h is_live
-
-    pub whole_long : length l ≤ 2 ^ 20
-    whole_long = omega (arith, slot_long size slots t.used n heads bytes r hn l el h is_live, r.most)
-
-    pub alive_node : (node_at (state_of size t heads bytes) n).dead ≡ false
-    alive_node = node_dead ∙ ne_eqb h.dead 1 d
-
-    pub alive_entries : (node_at (state_of size t heads bytes) n).entries ≡ entries_of h.count l
-    unfolding node_in
-    alive_entries = rw (node_in_lem size t heads bytes n hn, live_entries (head_at heads n) (slot_bytes size bytes n), ← is_live, el)
-
-    pub alive_level : (node_at (state_of size t heads bytes) n).level ≡ h.level
-    unfolding node_in node_of
-    alive_level = rw (node_in_lem size t heads bytes n hn, ← eh)
-
-    pub whole_fits : (b : Bool) → b ≡ fits t.info (eqb n t.root) h.level (entries_of h.count l)
-        → b ≡ stays_whole (state_of size t heads bytes) n
-    unfolding state_of
-    whole_fits b e = rw (alive_node, alive_entries, alive_level) e
-
-pub ruleset fits_at_laws = (whole_dead, whole_room, whole_used, whole_long, whole_fits)
+pub ruleset fits_at_laws = (whole_dead, whole_fits)

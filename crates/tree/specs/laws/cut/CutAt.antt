@@ -233,4 +233,4 @@ pub counted_ready : (size slots n : ℕ) (t v : Tree) (h b : List ℕ) → v ≡
 unfolding counted
 counted_ready size slots n t v h b c r = rw c r
 
-pub ruleset cut_root_laws = (top_not, top_full)
+pub ruleset cut_root_laws = (top_not, top_full, top_count)

@@ -1,5 +1,5 @@
 -- Laws of a slot that is cut if it does not fit: 13, 14, or the place of the cut. Assumes nothing.
-use Rattle.std.specs.Prelude.{◌≡◌, List, [], Bool, true, false, ℕ, ◌^◌, ◌≤◌, ◌<◌, length, Option, Some, None, Ok, Err, IfOk}
+use Rattle.std.specs.Prelude.{◌≡◌, List, [], Bool, true, false, ℕ, ◌<◌, Option, Some, None, Ok, Err, IfOk}
 use Rattle.std.proofs.Math.Path.{sym, ap, subst}
 use Rattle.std.proofs.Common.{◌∙◌, arith}
 use Rattle.std.proofs.lemmas.Result.{IfOk-at_ok}
@@ -7,8 +7,7 @@ use Rattle.node.specs.Records.{records_length, entries_of}
 use Rattle.node.specs.Fit.{Sized}
 use Rattle.node.specs.Cut.{cut, cut_means}
 use Rattle.node.specs.declared.cut.CutAt.{CutAt}
-use Rattle.node.specs.Slot.{head_at}
-use Rattle.node.specs.declared.head.Head.{Head}
+use Rattle.node.specs.declared.fit.SlotNode.{SlotNode}
 use Rattle.tree.specs.Lent.{lent_of}
 use Rattle.node.specs.Result.{Result}
 use Rattle.tree.specs.State.{State, node_at}
@@ -20,12 +19,13 @@ use Rattle.tree.specs.internal.Bank.{Ready}
 use Rattle.tree.specs.internal.Edits.{CutFits}
 use Rattle.tree.specs.internal.Cutting.{up_of, stays_whole, CutIs}
 use Rattle.tree.specs.laws.slots.Tree.{used_nodes}
-use Rattle.tree.specs.laws.cut.Asked.{unfit_alive, whole_room, whole_long, alive_node, alive_entries, alive_level}
+use Rattle.tree.specs.laws.cut.Asked.{unfit_alive}
 use Rattle.tree.specs.declared.editor.Tree.{Tree}
 use Rattle.tree.specs.declared.lent.Lent.{Lent}
 use Rattle.tree.specs.declared.way.Step as code
 use Rattle.std.specs.Prelude as std
 use Rattle.node.specs.declared.refusal.Refusal.{Refusal}
+use Rattle.tree.specs.laws.slots.Undo.{follows_same}
 
 module _ (l : Lent) (t : Tree) (heads bytes : List ℕ) (up : List Step) (n : ℕ) (r : Ready l.size l.slots t.used heads bytes)
     (f : CutFits l.size (state_of l.size t heads bytes) up n) where
@@ -42,45 +42,35 @@ module _ (l : Lent) (t : Tree) (heads bytes : List ℕ) (up : List Step) (n : �
     unfolding edited_of cut_node
     node_whole q = rw (← eb, q)
 
-    module _ (q : b ≡ false) (h : Head) (eh : h ≡ head_at heads n) (p : List ℕ) (ep : p ≡ slot_bytes l.size bytes n) where
-      lives : h.dead ≡ 1 → ⊥
-      lives = unfit_alive l.size l.slots n t heads bytes r node_used h eh b eb q
+    module _ (q : b ≡ false) (w : SlotNode) (es : w.shape.info ≡ t.info)
+        (el : w.shape.level ≡ (node_at (state_of l.size t heads bytes) n).level)
+        (ee : (node_at (state_of l.size t heads bytes) n).entries ≡ entries_of w.records.count w.records.slot.now)
+        (x : std.Result CutAt Refusal) (ex : cut_means x ≡ cut w.shape.info w.shape.level (entries_of w.records.count w.records.slot.now)) where
+      cut_is : cut t.info (node_at (state_of l.size t heads bytes) n).level (node_at (state_of l.size t heads bytes) n).entries ≡ cut_means x
+      cut_is = cc
 
-      pub node_room : records_length h.count p ≤ length p
-      node_room = whole_room l.size l.slots n t heads bytes r node_used h eh lives p ep
+      -- 13, 14
+      pub node_uncut : (y : Refusal) → x ≡ Err y
+          → edited_of l.size heads bytes (Err y) ≡ cut_node (lent_of [] l) up n (state_of l.size t heads bytes)
+      unfolding edited_of cut_node cut_means state_of
+      node_uncut y e = rw (← eb, q, cut_is, e)
 
-      pub node_long : length p ≤ 2 ^ 20
-      node_long = whole_long l.size l.slots n t heads bytes r node_used h eh lives p ep
+      module _ (c : CutAt) (e : x ≡ Ok c) where
+        pub node_cut : (p : List ℕ) → p ≡ slot_bytes l.size bytes n → IfOk x (λ c. c.at ≡ records_length c.place p)
+            → CutIs l.size t heads bytes n c.place c.at
+        unfolding cut_means
+        node_cut p ep s =
+            record {
+              alive = unfit_alive (state_of l.size t heads bytes) n b eb q;
+              found = cut_is ∙ ap cut_means e;
+              start = IfOk-at_ok (λ (c : CutAt). c.at ≡ records_length c.place p) e s ∙ ap (records_length c.place) ep;
+            }
 
-      module _ (x : std.Result CutAt Refusal) (ex : cut_means x ≡ cut t.info h.level (entries_of h.count p)) where
-        cut_is : cut t.info (node_at (state_of l.size t heads bytes) n).level (node_at (state_of l.size t heads bytes) n).entries ≡ cut_means x
-        cut_is =
-            rw (
-              alive_level l.size l.slots n t heads bytes r node_used h eh lives p ep,
-              alive_entries l.size l.slots n t heads bytes r node_used h eh lives p ep,
-            ) (sym ex)
-
-        -- 13, 14
-        pub node_uncut : (y : Refusal) → x ≡ Err y
-            → edited_of l.size heads bytes (Err y) ≡ cut_node (lent_of [] l) up n (state_of l.size t heads bytes)
-        unfolding edited_of cut_node cut_means state_of
-        node_uncut y e = rw (← eb, q, cut_is, e)
-
-        module _ (c : CutAt) (e : x ≡ Ok c) where
-          pub node_cut : IfOk x (λ c. c.at ≡ records_length c.place p) → CutIs l.size t heads bytes n c.place c.at
-          unfolding cut_means
-          node_cut s =
-              record {
-                alive = alive_node l.size l.slots n t heads bytes r node_used h eh lives p ep;
-                found = cut_is ∙ ap cut_means e;
-                start = IfOk-at_ok (λ (c : CutAt). c.at ≡ records_length c.place p) e s ∙ ap (records_length c.place) ep;
-              }
-
-          pub node_after : (h1 b1 : List ℕ) (y : std.Result Tree Refusal)
-              → edited_of l.size h1 b1 y ≡ cut_at (lent_of [] l) up n c.place (state_of l.size t heads bytes)
-              → edited_of l.size h1 b1 y ≡ cut_node (lent_of [] l) up n (state_of l.size t heads bytes)
-          unfolding cut_node cut_means state_of
-          node_after h1 b1 y a = a ∙ sym (rw (← eb, q, cut_is, e))
+        pub node_after : (h1 b1 : List ℕ) (y : std.Result Tree Refusal)
+            → edited_of l.size h1 b1 y ≡ cut_at (lent_of [] l) up n c.place (state_of l.size t heads bytes)
+            → edited_of l.size h1 b1 y ≡ cut_node (lent_of [] l) up n (state_of l.size t heads bytes)
+        unfolding cut_node cut_means state_of
+        node_after h1 b1 y a = a ∙ sym (rw (← eb, q, cut_is, e))
 
 -- ---- the step above, if there is one
 
@@ -102,3 +92,5 @@ module _ (l : Lent) (s : State) (n : ℕ) (o : Option code.Step) where
     pub child_answer : (up : code.Step) → o ≡ Some up → r ≡ cut_at (lent_of [] l) (up_of (Some up)) n place s
         → r ≡ cut_at (lent_of [] l) (up_of o) n place s
     child_answer up e a = rw e a
+
+pub ruleset cut_node_laws = (node_uncut, node_whole, node_after, child_answer, follows_same)

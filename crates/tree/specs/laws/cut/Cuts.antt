@@ -33,6 +33,8 @@ use Rattle.node.specs.Refusals.{number_of}
 use Rattle.node.specs.declared.refusal.Refusal.{Refusal}
 use Rattle.tree.specs.declared.way.Step as code
 use Rattle.tree.specs.internal.Way.{nth_step, steps_in}
+use Rattle.tree.specs.laws.cut.Pairs.{first_step, pairs_all, pairs_end}
+use Rattle.tree.specs.laws.cut.Asked.{above_none}
 
 -- ---- a cut takes no slot away
 
@@ -157,3 +159,5 @@ module _ (l : Lent) (t : Tree) (way : List code.Step) (h0 b0 : List ℕ) where
                 ready = subst (ReadyEdited l.size l.slots h' b') e r;
                 follows = from_behind g;
               }
+
+pub ruleset cuts_laws = (from_refused, from_none, from_all, from_root, first_step, pairs_all, pairs_end, above_none)

@@ -134,3 +134,5 @@ module _ (size slots : ℕ) (t : Tree) (way : List code.Step) (h0 b0 : List ℕ)
               follows = follows_on size slots t.used t.used h0 b0 h b h' b' d.rest.follows w.follows (omega arith);
             };
           }
+
+pub ruleset index_keys_laws = (indexed_none, indexed_all)

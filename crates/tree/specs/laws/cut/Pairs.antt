@@ -74,3 +74,7 @@ module _ (way : List code.Step) (s : Rev (ArrayWindows code.Step 2)) where
             above = step 0 (omega arith) ∙ ap (nth_step way) y;
             below = step 1 (omega arith) ∙ ap (nth_step way) z;
           }
+
+pub ruleset drop_emptied_laws = (pairs_all, pairs_end, pair)
+
+pub ruleset index_keys_laws = (pairs_all, pairs_end)

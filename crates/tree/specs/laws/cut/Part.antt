@@ -312,3 +312,5 @@ module _ (size slots n i at rest : ℕ) (t t' : Tree) (h : Head) (heads h1 h2 by
       follows_on size slots t.used t.used heads bytes h1 b1 h2 b1
       (follows_next size slots t.used heads bytes h1 b1 right_node put_right hs)
       (follows_marked size slots t.used h1 b1 h2 b1 n left_node put_left (λ y. q (sym z ∙ y)) (omega arith) r.within) (omega arith)
+
+pub ruleset part_in_laws = (part_index, at_below, used_small, part_source, part_target, part_state, part_ready)

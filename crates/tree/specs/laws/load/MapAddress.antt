@@ -2,18 +2,17 @@
 use Rattle.std.specs.Int.{from_bool}
 use Rattle.std.specs.Borrow.{Bor}
 use Rattle.std.proofs.Math.Path.{◌≡◌, sym, ap}
-use Rattle.std.proofs.Common.{ap₂, ◌∙◌, length-append}
-use mathlib.Core.List.{List, [], ◌∷◌, ◌++◌, append-nil}
+use Rattle.std.proofs.Common.{◌∙◌}
+use mathlib.Core.List.{List, [], ◌∷◌}
 use Rattle.std.proofs.Math.Bool.{Bool, false, cond}
-use Rattle.std.specs.Prelude.{true, not, ◌&&◌, length, drop, replicate}
+use Rattle.std.specs.Prelude.{true, not, ◌&&◌, length}
 use Prim.Native.Nat.{ℕ, ◌+◌, ◌*◌, ◌/◌, ◌%◌, ◌≤◌}
 use native.Mathlib.Omega.{arith}
 use Rattle.std.proofs.Math.Dec.{eqb}
 use borrow.Author.Tests.{eq-eqb, ne_eqb, eqb-true}
-use Rattle.node.specs.Bytes.{window, splice, bytes_of, u32_at, u64_at}
-use Rattle.node.specs.laws.base.Seal.{length_bytes_of}
+use Rattle.node.specs.Bytes.{window, u32_at, u64_at}
 use Rattle.node.specs.laws.base.Tests.{by_test, and_split}
-use Rattle.node.specs.Result.{Result, ◌>>=◌, ◌>>◌, check}
+use Rattle.node.specs.Result.{◌>>=◌, ◌>>◌, check}
 use Rattle.node.specs.Order.{pair, pair_key}
 use Rattle.node.specs.Fit.{flag}
 use Rattle.node.specs.Read.{on_disk, parsed, info_at, read_of, map_ok}
@@ -24,7 +23,6 @@ use Rattle.node.specs.declared.read.Node.{Node}
 use Rattle.node.specs.declared.read.ReadNode.{ReadNode}
 use Rattle.node.specs.declared.val.Val as Held
 use Rattle.node.specs.declared.val.Val.TheVariants as held
-use Rattle.node.specs.declared.val.Child as Child
 use Rattle.node.specs.declared.val.Child.TheVariants as child
 use Rattle.tree.specs.Lent as lent
 use Rattle.tree.specs.Lent.{lent_of}
@@ -120,22 +118,12 @@ module _ (id : ℕ) (f : Option Mapped) where
 
 -- ---- from the root on
 
-length_pair : (id xid : ℕ) → length (bytes_of 8 id ++ bytes_of 8 xid) ≡ 16
-length_pair id xid = length-append (bytes_of 8 id) (bytes_of 8 xid) ∙ ap₂ (λ (x y : ℕ). x + y) (length_bytes_of 8 id) (length_bytes_of 8 xid)
-
-key_is : (key : List ℕ) (id xid : ℕ) → key ≡ splice (replicate 16 0) 0 (pair_key id xid) → key ≡ pair_key id xid
-unfolding splice pair_key
-key_is key id xid e =
-    e ∙ ap (λ (k : ℕ). (bytes_of 8 id ++ bytes_of 8 xid) ++ drop (0 + k) (replicate 16 0)) (length_pair id xid)
-    ∙ append-nil (bytes_of 8 id ++ bytes_of 8 xid)
-
 module _ (image : List ℕ) (l : Lent) (d : MapNode) (xid id : ℕ) (key : List ℕ) (s : std.Result (Option Mapped) Refusal)
-    (ek : key ≡ splice (replicate 16 0) 0 (pair_key id xid))
+    (ek : key ≡ pair_key id xid)
     (es : spotted_of s ≡ map_floor d.read.node.level (lent_of image l) (map_read d) (edges_of (record { lower = None; upper = None })) key) where
   looked_in : (spotted_of s >>= mapping id) ≡ looked_up (lent_of image l) (map_read d) xid id
   unfolding looked_up edges_of edge_of unbounded map_read on_disk
-  looked_in = ap (λ x. x >>= mapping id) (es ∙ ap (map_floor d.read.node.level (lent_of image l) (map_read d) unbounded)
-      (key_is key id xid ek))
+  looked_in = ap (λ x. x >>= mapping id) (es ∙ ap (map_floor d.read.node.level (lent_of image l) (map_read d) unbounded) ek)
 
   pub looked_refused : (x : Refusal) → s ≡ Err x → address_at (Err x) ≡ looked_up (lent_of image l) (map_read d) xid id
   unfolding address_at spotted_of

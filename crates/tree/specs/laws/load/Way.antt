@@ -8,22 +8,20 @@ use native.Mathlib.Omega.{arith}
 use Rattle.std.proofs.Math.ListN.{length}
 use Rattle.node.specs.Result.{Result, ok, refused, ◌>>=◌}
 use Rattle.node.specs.Entry.{Entry, disk, mem}
-use Rattle.node.specs.Find.{key_at, way_index, not_above}
+use Rattle.node.specs.Find.{key_at, way_index}
 use Rattle.node.specs.internal.SlotSteps.{last_in}
-use Rattle.node.specs.Slot.{head_at}
-use Rattle.node.specs.declared.head.Head.{Head}
+use Rattle.node.specs.Records.{entries_of}
 use Rattle.node.specs.declared.slot.Last.{Last}
 use Rattle.tree.specs.Lent.{Lent}
-use Rattle.tree.specs.Workspace.{slot_bytes, state_of}
-use Rattle.tree.specs.State.{State, no_node, node_at}
+use Rattle.tree.specs.Workspace.{state_of}
+use Rattle.tree.specs.State.{State, node_at}
 use Rattle.tree.specs.laws.state.State.{keys_of, at_used}
 use Rattle.tree.specs.Load as load
 use Rattle.tree.specs.laws.state.Load.{by_load, load_keeps}
 use Rattle.tree.specs.Lookup as lookup
-use Rattle.tree.specs.internal.Bank.{node_in, live, Ready}
-use Rattle.tree.specs.laws.slots.Bank.{live_entries}
+use Rattle.tree.specs.internal.Bank.{Ready}
 use Rattle.tree.specs.internal.Tree.{loaded_of, ReadyAfter, bound_of, bounds_of, BoundIn, BoundsIn}
-use Rattle.tree.specs.laws.slots.Tree.{node_in_lem, node_out, used_nodes}
+use Rattle.tree.specs.laws.slots.Tree.{used_nodes}
 use Rattle.tree.specs.internal.Way.{nth_step, steps_of, steps_in, onto, walked_of, way_of}
 use Rattle.tree.specs.declared.editor.Tree.{Tree}
 use Rattle.tree.specs.declared.way.Step as code
@@ -37,16 +35,10 @@ use Rattle.node.specs.declared.refusal.Refusal.{Refusal}
 
 -- ---- the child taken
 
-module _ (size : ℕ) (t : Tree) (heads bytes : List ℕ) (key : List ℕ) (n : ℕ) where
-  pub index_out : t.used ≤ n → 0 ≡ way_index t.order.code key (node_at (state_of size t heads bytes) n).entries
-  unfolding way_index not_above no_node
-  index_out h = sym (rw (node_out size t heads bytes n h))
-
-  module _ (hn : n < t.used) (h : Head) (eh : h ≡ live (head_at heads n)) (l : List ℕ) (el : l ≡ slot_bytes size bytes n) (r : Last)
-      (er : r ≡ last_in t.order.code key h.count l) where
-    pub index_some : r.count - 1 ≡ way_index t.order.code key (node_at (state_of size t heads bytes) n).entries
-    unfolding way_index last_in node_in
-    index_some = rw (node_in_lem size t heads bytes n hn, live_entries (head_at heads n) (slot_bytes size bytes n), er, eh, el)
+pub index_of : (code n : ℕ) (key l : List ℕ) (es : List Entry) (r : Last) → es ≡ entries_of n l → r ≡ last_in code key n l
+    → r.count - 1 ≡ way_index code key es
+unfolding way_index last_in
+index_of code n key l es r e er = rw (e, er)
 
 -- ---- bounds are the same after a load
 
@@ -256,5 +248,3 @@ pub ready_at : (size slots : ℕ) (heads bytes : List ℕ) (x : std.Result (Tree
 ready_at size slots heads bytes x t c q r = subst (ReadyAfter size slots heads bytes) q r
 
 pub ruleset way_down_laws = (way_start, none_in_lem, turn_refused, turn_in, turn_down, way_end)
-
-pub ruleset way_index_laws = (index_out, index_some)

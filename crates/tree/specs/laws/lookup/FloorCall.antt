@@ -220,3 +220,7 @@ module _ (image : List ℕ) (l : Lent) (t : Tree) (h0 b0 : List ℕ) (a : Bool)
     floor_output room key o out q = q ∙ ap (floored_output out) (sym (lent_yes room key))
 
 pub ruleset floor_laws = (left_of_lem, floor_lent, floor_lent_same, floor_answer, floor_output)
+
+pub ruleset floor_way_laws = (way_refused, way_refused_same, way_none, way_found, way_found_out)
+
+pub ruleset floor_down_laws = (in_argument, in_argument_same, way_in, in_output, floor_undone, floor_left)

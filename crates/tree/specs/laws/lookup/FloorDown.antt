@@ -230,3 +230,9 @@ module _ (l : Lent) (size : ℕ) (t : Tree) (heads bytes : List ℕ) (b : Bounds
         floor_left y e =
             let long : length from.nodes ≡ t.used = used_nodes size t heads bytes in
             e ∙ left_loads l from to loads (d - 1) b n i key (rw long hb) (omega (arith, used)) ∙ sym left_is
+
+pub ruleset last_from_laws = (last_refused, last_leaf)
+
+pub ruleset floor_left_laws = (left_refused, left_first, left_above)
+
+pub ruleset floor_from_laws = (floor_refused, floor_leaf)

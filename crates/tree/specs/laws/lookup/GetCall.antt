@@ -279,3 +279,7 @@ module _ (image : List ℕ) (l : Lent) (t : Tree) (h0 b0 : List ℕ) (a : Bool)
     get_output room key o out q = q ∙ ap (got_output out) (sym (lent_yes room key))
 
 pub ruleset get_laws = (left_of_lem, get_lent, get_lent_same, get_answer, get_output)
+
+pub ruleset get_down_laws = (in_argument, in_argument_same, way_in, in_output, got_undone, got_left)
+
+pub ruleset get_way_laws = (get_refused, way_low, get_refused_same, get_some, get_few, get_suits, get_found)

@@ -193,3 +193,5 @@ module _ (size : ℕ) (t : Tree) (heads bytes : List ℕ) (n : ℕ) (key out : L
             pub copy_value_out : out' ≡ got_output out (got_at (state_of size t heads bytes) (length out) n key)
             unfolding got_output got_bytes value_bytes
             copy_value_out = eo ∙ sym (ap (got_output out) value_is)
+
+pub ruleset copy_out_laws = (copy_none, copy_none_same, copy_refused, copy_refused_same, copy_value)

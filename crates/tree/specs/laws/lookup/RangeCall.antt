@@ -232,3 +232,5 @@ module _ (image : List ℕ) (l : Lent) (t : Tree) (h0 b0 lo hi : List ℕ) (a : 
       in_output o out q = q ∙ ap (ranged_output out) way_in
 
 pub ruleset range_in_laws = (in_low, in_low_same, in_high, in_high_same)
+
+pub ruleset range_way_laws = (way_refused, way_refused_same, way_short, way_short_same, way_room, way_done, way_long)

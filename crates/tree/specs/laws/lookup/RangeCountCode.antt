@@ -244,3 +244,5 @@ module _ (l : Lent) (size : ℕ) (b : Bounds Position) (n d : ℕ) (lo : List �
                 (sym child_found.state)
                 ∙ sym (ahead_more old got.answer (range_kids below l got.state (bounds_of st b) n lo hi (kids - (i + 1)) (suc i)))
                 ∙ sym (ap (λ (y : Result (Got Entry)). ahead old (counted (y >>= rest))) child_found.found) ∙ whole_is
+
+pub ruleset range_from_laws = (child_slot, from_leaf, from_start, from_end, turn_few)

@@ -140,3 +140,5 @@ module _ (f : State → Bounds → ℕ → Result (Got Entry)) (l : Lent) (s : S
       (λ t.
       let x : i + suc m - j ≡ suc i + m - j = omega arith in
       ap (λ (a : ℕ). range_kids f l s bs n lo hi a j) x ∙ kids_skipped m (suc i) j (rw t at e) ∙ sym (rw t))
+
+pub ruleset next_entered_laws = (next_none, next_start, next_end, next_here, next_passed)

@@ -125,3 +125,5 @@ pub answer_left : (image : List ℕ) (l : Lent) (t : Tree) (heads bytes scratch 
     → not a ≡ false → (h' b' : List ℕ) (r : std.Result Tree Refusal) (x : Result State) → edited_of l.size h' b' r ≡ x
     → EditedCalled image l t heads bytes h' b' r → edited_leaves l.size l.slots t heads bytes h' b' r
 answer_left image l t heads bytes scratch a e q h' b' r x z c = edited_left image l t heads bytes scratch a e q h' b' r c
+
+pub ruleset omap_drop_in_laws = (drop_argument, is_omap_lem)

@@ -1,5 +1,5 @@
 -- Laws of a drop: the range of an id's versions is loaded and counted, then listed in the scratch, then removed. Assumes nothing.
-use Rattle.std.specs.Prelude.{◌≡◌, refl, ℕ, ◌+◌, ◌*◌, ◌^◌, ◌≤◌, drop, replicate}
+use Rattle.std.specs.Prelude.{◌≡◌, refl, ℕ, ◌+◌, ◌*◌, ◌^◌, ◌≤◌, drop}
 use Rattle.std.proofs.Math.Path.{sym, ap, ap₂}
 use Rattle.std.proofs.Common.{◌∙◌, add-mul, mul_assoc, mul_left_comm, arith}
 use mathlib.Core.List.{List, ◌++◌}
@@ -34,7 +34,6 @@ use Rattle.tree.specs.laws.trust.Loads.{Loaded, loaded_trusted, range_loaded}
 use Rattle.tree.specs.laws.room.Calls.{roomy_range}
 use Rattle.tree.specs.laws.lookup.RangeSums.{range_weight, range_few}
 use Rattle.tree.specs.laws.lookup.RangeHeld.{held_again, range_storable}
-use Rattle.tree.specs.laws.omap.Keys.{pair_is}
 use Rattle.tree.specs.declared.editor.Tree.{Tree}
 use Rattle.tree.specs.declared.lent.Lent.{Lent}
 use Rattle.tree.specs.declared.range.Ranged.{Ranged}
@@ -90,7 +89,7 @@ module _ (es : List Entry) (s s' : List ℕ) (ss : Storables es) (e : s' ≡ spl
 -- ---- the range of an id's versions
 
 module _ (image : List ℕ) (l : Lent) (t : Tree) (h0 b0 : List ℕ) (id level : ℕ) (lo : List ℕ) (end : List (List ℕ))
-    (ev : level ≡ (node_at (state_of l.size t h0 b0) t.root).level) (el : lo ≡ splice (replicate 16 0) 0 (pair_key id 0))
+    (ev : level ≡ (node_at (state_of l.size t h0 b0) t.root).level) (el : lo ≡ pair_key id 0)
     (eh : end ≡ versions_end id) (r : std.Result Ranged Refusal) (h1 b1 : List ℕ)
     (e : ranged_of l.size h1 b1 r ≡ counted (range_from level (lent_of image l) lo end (state_of l.size t h0 b0)
     (bounds_of (state_of l.size t h0 b0) (record { lower = None; upper = None })) t.root)) where
@@ -108,7 +107,7 @@ module _ (image : List ℕ) (l : Lent) (t : Tree) (h0 b0 : List ℕ) (id level :
   range_is =
       ap (λ (j : ℕ). range_from j L lo end s (bounds_of s (record { lower = None; upper = None })) t.root) ev
       ∙ ap₂ (λ (x : List ℕ) (y : List (List ℕ)). range_from (node_at s t.root).level L x y s
-      (bounds_of s (record { lower = None; upper = None })) t.root) (pair_is lo id 0 el) eh
+      (bounds_of s (record { lower = None; upper = None })) t.root) el eh
       ∙ ap (λ (x : load.Bounds). range_from (node_at s t.root).level L (pair_key id 0) (versions_end id) s x t.root) (no_bounds s)
 
   answer : ranged_of l.size h1 b1 r ≡ counted versions
@@ -161,7 +160,7 @@ module _ (image : List ℕ) (l : Lent) (t : Tree) (h0 b0 : List ℕ) (id level :
     unfolding state_of
     held =
         ap₂ (λ (i j : ℕ). range_held i s1 lo end j) ev same_root
-        ∙ ap₂ (λ (x : List ℕ) (w : List (List ℕ)). range_held (node_at s t.root).level s1 x w t.root) (pair_is lo id 0 el) eh
+        ∙ ap₂ (λ (x : List ℕ) (w : List (List ℕ)). range_held (node_at s t.root).level s1 x w t.root) el eh
         ∙ ap (λ (x : State). range_held (node_at s t.root).level x (pair_key id 0) (versions_end id) t.root) found.state
         ∙ held_again L (pair_key id 0) (versions_end id) s g c.trust found.is
 
@@ -199,3 +198,5 @@ module _ (image : List ℕ) (l : Lent) (t : Tree) (h0 b0 : List ℕ) (id level :
           → x ≡ dropped (lent_of image l) (state_of l.size t h0 b0) id
       unfolding dropped
       dropped_answer x d = d ∙ ap₂ (remove_all L) listed found.state ∙ sym (rw found.is)
+
+pub ruleset dropped_laws = (dropped_refused, ranged_follows, ranged_within, dropped_answer)

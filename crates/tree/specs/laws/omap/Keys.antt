@@ -1,9 +1,8 @@
 -- Laws of the object map's keys and values: which trees are object maps, where an id's versions end, what a put writes. Assumes nothing.
-use Rattle.std.specs.Prelude.{◌≡◌, refl, List, ◌++◌, Bool, true, false, ◌&&◌, ◌||◌, not, ℕ, suc, ◌+◌, ◌^◌, ◌-◌, length, drop, replicate, eqb, Some, None}
+use Rattle.std.specs.Prelude.{◌≡◌, refl, List, Bool, true, false, ◌&&◌, ◌||◌, not, ℕ, suc, ◌+◌, ◌^◌, ◌-◌, length, replicate, eqb, Some, None}
 use Rattle.std.specs.Borrow.{Bor}
 use Rattle.std.proofs.Math.Path.{sym}
-use Rattle.std.proofs.Common.{ap, ◌∙◌, append-nil, add-one, zero-add}
-use Rattle.std.proofs.Math.Seq.{drop-length}
+use Rattle.std.proofs.Common.{ap, ◌∙◌, add-one}
 use borrow.Author.Tests.{eqb-true, eq-eqb, ne_eqb}
 use Rattle.node.specs.Bytes.{bytes_of, splice}
 use Rattle.node.specs.Order.{pair, pair_key, keyed, keyed_length}
@@ -19,21 +18,14 @@ use Rattle.tree.specs.Omap.{is_omap, versions_end, omap_value}
 use Rattle.tree.specs.internal.Range.{end_of}
 use Rattle.tree.specs.laws.trust.Remove.{Safe}
 
--- ---- a list written over from its start to its end
-
-pub splice_all : (l vs : List ℕ) → length l ≡ length vs → splice l 0 vs ≡ vs
-unfolding splice
-splice_all l vs e = ap (λ (x : List ℕ). vs ++ x) (sym (ap (λ (k : ℕ). drop k l) (e ∙ sym (zero-add (length vs)))) ∙ drop-length l) ∙ append-nil vs
+-- ---- what a put writes
 
 pub length_pair : (id xid : ℕ) → length (pair_key id xid) ≡ 16
 unfolding pair_key bytes_of
 length_pair id xid = refl
 
-pub pair_is : (key : List ℕ) (id xid : ℕ) → key ≡ splice (replicate 16 0) 0 (pair_key id xid) → key ≡ pair_key id xid
-pair_is key id xid e = e ∙ splice_all (replicate 16 0) (pair_key id xid) (sym (length_pair id xid))
-
-pub pair_long : (key : List ℕ) (id xid : ℕ) → key ≡ splice (replicate 16 0) 0 (pair_key id xid) → length key ≡ 16
-pair_long key id xid e = ap length (pair_is key id xid e) ∙ length_pair id xid
+pub pair_long : (key : List ℕ) (id xid : ℕ) → key ≡ pair_key id xid → length key ≡ 16
+pair_long key id xid e = ap length e ∙ length_pair id xid
 
 pub value_is : (v v' : List ℕ) (size address : ℕ) → v ≡ splice (replicate 16 0) 4 (bytes_of 4 size) → v' ≡ splice v 8 (bytes_of 8 address)
     → v' ≡ omap_value size address
@@ -51,12 +43,10 @@ pub versions_last : (id : ℕ) → id ≡ 18446744073709551615 → end_of None �
 unfolding end_of versions_end
 versions_last id e = sym (rw (eq-eqb id (2 ^ 64 - 1) e))
 
-pub versions_next : (out : List ℕ) (k : Bor (List ℕ)) (id : ℕ) → (id ≡ 18446744073709551615 → ⊥) → length out ≡ 16
-    → k.now ≡ splice out 0 (pair_key (id + 1) 0) → end_of (Some k) ≡ versions_end id
+pub versions_next : (k : Bor (List ℕ)) (id : ℕ) → (id ≡ 18446744073709551615 → ⊥) → k.now ≡ pair_key (id + 1) 0 → end_of (Some k) ≡ versions_end id
 unfolding end_of versions_end
-versions_next out k id d n e =
-    let w : splice out 0 (pair_key (id + 1) 0) ≡ pair_key (id + 1) 0 = splice_all out (pair_key (id + 1) 0) (n ∙ sym (length_pair (id + 1) 0)) in
-    let q : k.now ≡ pair_key (suc id) 0 = e ∙ w ∙ ap (λ (x : ℕ). pair_key x 0) (add-one id) in
+versions_next k id d e =
+    let q : k.now ≡ pair_key (suc id) 0 = e ∙ ap (λ (x : ℕ). pair_key x 0) (add-one id) in
     rw (ne_eqb id (2 ^ 64 - 1) d, q)
 
 -- ---- object maps

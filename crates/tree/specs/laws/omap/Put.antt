@@ -77,3 +77,5 @@ module _ (image : List ℕ) (l : Lent) (t : Tree) (h0 b0 : List ℕ) (id : ℕ) 
     drop_fits k v f h p q =
         omap_fits (lent_of image l) (state_of l.size t h0 b0) (state_of l.size u h1 b1) k v.now f
         ((dropped_safe (lent_of image l) (state_of l.size t h0 b0) id h).at (state_of l.size u h1 b1) left) p q
+
+pub ruleset put_laws = (put_refused, keys_within_lem, part_room, put_after, drop_follows, drop_fits)

@@ -136,3 +136,5 @@ module _ (image : List ℕ) (l : Lent) (count : ℕ) (list : List ℕ) (t₀ : T
       pub removing_next : (there : Bool) → r ≡ Ok (u, there) → Removing image l (entries_of count list) t₀ h₀ b₀ u h' b' (i + 1)
       unfolding removed_of
       removing_next there z = turned there (ap (removed_of l.size h' b') z) (rw z at y)
+
+pub ruleset remove_all_laws = (removing_start, removing_done, removing_refused)

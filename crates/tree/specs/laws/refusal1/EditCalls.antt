@@ -200,3 +200,5 @@ pub edited_trusts : (image : List ℕ) (l : Lent) (u : Tree) (h b : List ℕ) (r
 edited_trusts image l u h b r p q e y = record { ready = y; trust = p.at _ (sym e); roomy = q.at _ (sym e) }
 
 pub ruleset upsert_laws = (edits_trusts, edits_scratch, edited_left, upsert_answer)
+
+pub ruleset upsert_in_laws = (stays_trusts, edited_undone)

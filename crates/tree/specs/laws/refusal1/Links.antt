@@ -145,3 +145,7 @@ module _ (heads : List ℕ) (used level n : ℕ) (l ms : List ℕ) where
       sym (ap (λ (x : List Entry). link_entries heads used level x ks) z) ∙ inv
 
 pub ruleset link_value_laws = (link_other, link_disk, link_no, link_mem)
+
+pub ruleset body_holds_laws = (body_high, body_empty, body_not, body_sum, body_count, body_place)
+
+pub ruleset link_entries_laws = (links_start, links_no, links_next, links_end)

@@ -258,3 +258,7 @@ module _ (size slots N : ℕ) (t : Tree) (heads bytes : List ℕ) (r : Laid size
 
 pub ruleset hold_slot_laws =
     (slot_words_lem, slot_dead, slot_long, slot_body, body_records, slot_leaf, slot_links, laid_words, laid_part, laid_few, laid_small)
+
+pub ruleset hold_slots_laws = (slots_start, slots_end, slots_no, slots_next)
+
+pub ruleset hold_together_laws = (together_past, together_dead, together_is, together_few, together_room)

@@ -253,4 +253,18 @@ module _ (image : List ℕ) (l : Lent) (t : Tree) (h0 b0 key : List ℕ) (c : Tr
   unfolding removed_of
   call_done u there q y = trusts_of u there (call_same (Ok (u, there)) q) (subst (ReadyRemoved l.size l.slots h b) q y)
 
-pub ruleset removed_laws = (remove_lost, remove_stops)
+pub ruleset removed_laws = (
+  remove_lost,
+  remove_stops,
+  remove_low,
+  remove_some,
+  remove_index,
+  remove_start,
+  remove_few,
+  remove_ready,
+  remove_leaf,
+  remove_back,
+  remove_absent,
+  remove_on_way,
+  remove_done,
+)

@@ -187,3 +187,5 @@ module _ (size slots : ℕ) (t : Tree) (way : List code.Step) (h0 b0 : List ℕ)
             (drop_node (record { slot = x.slot; child = x.child }) y.slot (record { state = state_of size t h b; nodes = 0 })) one
             → Emptied size slots t h0 b0 h' b' (drop_emptied (steps_from way (j - 1) (length way - (j - 1))) (state_of size t h0 b0)) (dropped + one)
         emptied_next h' b' one = rw (ex, ey) (drop_next h' b' one)
+
+pub ruleset drop_emptied_laws = (emptied_none, emptied_all, emptied_place)

@@ -230,3 +230,5 @@ module _ (image : List ℕ) (l : Lent) (t₀ : Tree) (h0 b0 : List ℕ) (n : ℕ
                     follows = follows_on l.size l.slots t₀.used u.used h0 b0 h1 b1 h2 b2 (hand_on f) g.follows hand_more;
                     rest = rw g.state (sym (turn_down m s d hd one a at_is fits_so (unfold state_of in y)) ∙ k.rest);
                   }
+
+pub ruleset hand_down_laws = (hand_start, hand_ends, hand_on)

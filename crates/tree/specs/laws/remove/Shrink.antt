@@ -214,4 +214,4 @@ module _ (size₀ slots i : ℕ) (t : Tree) (way : List code.Step) (h0 b0 h2 b2 
         pub shrunk_follows : Follows size₀ slots t.used h0 b0 h4 b4
         shrunk_follows = follows_on size₀ slots t.used u.used h0 b0 h3 b3 h4 b4 dropped_follows g.follows (omega (arith, shrunk_used))
 
-pub ruleset shrink_laws = (taken_is, dropped_follows, shrunk_none, shrunk_many)
+pub ruleset shrink_laws = (taken_is, dropped_follows, shrunk_none, shrunk_many, taken_ready, taken_room, dropped_ready)

@@ -333,3 +333,5 @@ module _ (size slots c : ℕ) (t : Tree) (h0 b0 : List ℕ) (r : Ready size slot
             follows = follows_on size slots t.used t.used h0 b0 h1 b1 h2 b2 f g (omega arith);
             same = refl;
           })
+
+pub ruleset handed_down_laws = (old_lies, old_ready, new_lies)

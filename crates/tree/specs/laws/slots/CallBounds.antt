@@ -151,3 +151,5 @@ pub undone_kept : {T : Type 0} (l : Lent) (t : Tree) (h0 b0 h2 b2 : List ℕ) (a
     → Undone l t h0 b0 h2 b2 h2 b2 a
 undone_kept l t h0 b0 h2 b2 (Err x) z = never z refl
 undone_kept l t h0 b0 h2 b2 (Ok x) z = (refl, refl)
+
+pub ruleset undone_laws = (call_stays, call_shadowed, undone_refused, undone_kept)

@@ -206,3 +206,5 @@ pub ruleset saves = (save_live, save_shadow, save_before, save_now)
 pub ruleset brings = (back_live, back_shadow, back_lies, back_moved, back_same)
 
 pub ruleset restores = (back_start, back_shadowed, back_next, back_end)
+
+pub ruleset save_laws = (saves, save_lies, save_live, save_shadow)

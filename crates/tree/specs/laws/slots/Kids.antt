@@ -1,39 +1,16 @@
 -- Laws of the reader of children. Assumes nothing.
-use Rattle.std.specs.Prelude.{◌≡◌, refl, List, ℕ, Option, Some, None}
+use Rattle.std.specs.Prelude.{◌≡◌, refl, ℕ, Option, Some, None}
 use Rattle.std.proofs.Common.{sym, ◌∙◌}
 use Rattle.std.proofs.lemmas.Option.{none-some, same_Some}
 use Rattle.std.proofs.Math.Path.{ap}
-use Rattle.std.specs.Borrow.{Bor}
 use Rattle.node.specs.Entry.{Val, ghost, leaf, disk, mem}
-use Rattle.node.specs.Slot.{value_means, child_means}
-use Rattle.node.specs.declared.val.Val as Held
-use Rattle.node.specs.declared.val.Val.TheVariants as held
+use Rattle.node.specs.Slot.{child_means}
 use Rattle.node.specs.declared.val.Child as Child
 use Rattle.node.specs.declared.val.Child.TheVariants as child
 use Rattle.tree.specs.internal.Kids.{slots_of, kid_means}
 use Rattle.tree.specs.internal.Tree.{child_of}
 
-some_child : (c : Child.Child) → Some c ≡ child_of (child_means c)
-unfolding child_of child_means
-some_child (child.Disk r) = refl
-some_child (child.Mem m) = refl
-
-module _ (v : Held.Val) where
-  pub child_ghost : v ≡ held.Ghost → None ≡ child_of (value_means v)
-  unfolding value_means child_of
-  child_ghost e = ap (λ (x : Held.Val). child_of (value_means x)) (sym e)
-
-  pub child_leaf : (a : Bor (List ℕ)) → v ≡ held.Leaf a → None ≡ child_of (value_means v)
-  unfolding value_means child_of
-  child_leaf a e = ap (λ (x : Held.Val). child_of (value_means x)) (sym e)
-
-  pub child_some : (c : Child.Child) → v ≡ held.Child c → Some c ≡ child_of (value_means v)
-  unfolding value_means
-  child_some c e = some_child c ∙ ap (λ (y : Held.Val). child_of (value_means y)) (sym e)
-
-pub ruleset child_read = (child_ghost, child_leaf, child_some)
-
--- ---- its slot
+-- ---- the slot of a child
 
 no_slot : (v : Val) → None ≡ child_of v → kid_means None ≡ slots_of v
 unfolding child_of kid_means slots_of

@@ -323,6 +323,4 @@ pub ruleset links = (link_old, link_held, link_used, link_entries_lem)
 
 pub ruleset ready_slot = (ready_part, ready_most, ready_few)
 
-pub ruleset ready_records = (ready_part, ready_most, ready_few, slot_room, slot_used)
-
-pub ruleset ready_room = (ready_part, ready_most, ready_few, slot_room)
+pub ruleset bring_laws = (next_words, next_part)

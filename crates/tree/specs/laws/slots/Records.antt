@@ -39,6 +39,11 @@ pub slot_short : (size slots used n : ℕ) (heads bytes : List ℕ) → Ready si
 slot_short size slots used n heads bytes r h l e =
     omega (arith, slot_long size slots used n heads bytes r h l e (live (head_at heads n)) refl, r.most)
 
+-- what the records of a slot take is what its words say
+pub node_used : (size slots used n count : ℕ) (heads bytes l : List ℕ) (h : Head) → Ready size slots used heads bytes → n < used
+    → h ≡ live (head_at heads n) → count ≡ (live (head_at heads n)).count → l ≡ slot_bytes size bytes n → h.used ≡ records_length count l
+node_used size slots used n count heads bytes l h r hn eh ec el = rw (eh, ec, el) (r.lies n hn).used
+
 -- ---- an entry of them
 
 module _ (es : List Entry) (n : ℕ) (l : List ℕ) (e : es ≡ entries_of n l) where

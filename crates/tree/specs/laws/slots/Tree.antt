@@ -81,3 +81,5 @@ module _ (size slots n i a : ℕ) (t t' : Tree) (d : OnDisk) (h0 b0 h1 b1 h2 b2 
   bring_ready r eh eh' eb eb' =
       rw (e, add-one) (add_ready size slots h1 b1 h2 b2 t.used (adopted t.by_id a d) added
       (put_ready size slots h0 b0 h1 b1 n m p t.used r eh eb) hs eh' eb')
+
+pub ruleset bring_laws = (bring_state, bring_ready, child_in)

@@ -251,3 +251,7 @@ module _ (size slots : ℕ) where
 pub ruleset saves = (saved_ready, saved_same, saved_put, saved_follows)
 
 pub ruleset handed_back = (handed_on, follows_same)
+
+pub ruleset part_laws = (saved_ready, saved_upto, saved_at_lem, follows_on)
+
+pub ruleset link_laws = (saves, saved_index, saved_child, saved_put_of, saved_ready, saved_follows)

@@ -123,6 +123,6 @@ module _ (image : List ℕ) (l : Lent) (t : Tree) (h0 b0 key : List ℕ) (v : Va
     unfolding upsert_in
     in_put = ap (λ (x : State). upserted (lent_of image l) x key v) s.0 ∙ sym (rw (sym ek ∙ n))
 
-pub ruleset upsert_in_laws = (in_refused, in_fits)
+pub ruleset upsert_in_laws = (in_refused, in_fits, in_put)
 
-pub ruleset upserted_laws = (went_few, went_refused)
+pub ruleset upserted_laws = (went_few, went_refused, went_low, went_answer, went_gone, went_follows)

@@ -16,6 +16,7 @@ use Rattle.node.specs.Fit.{greater, fixed}
 use Rattle.node.specs.Records.{records_length, entries_of}
 use Rattle.node.specs.Slot.{MemNode, head_at, insert_at, with_value, is_child, key_length_holds, value_length_holds, value_means}
 use Rattle.node.specs.internal.Storable.{Held}
+use Rattle.node.specs.declared.val.Val as val
 use Rattle.node.specs.declared.val.Val.TheVariants as held
 use Rattle.node.specs.declared.head.Head.{Head}
 use Rattle.node.specs.declared.info.BTreeInfo.{BTreeInfo}
@@ -137,13 +138,11 @@ module _ (size : ℕ) (t : Tree) (heads bytes key : List ℕ) where
 
 -- ---- what is put
 
-pub lent_none : lent_value None ≡ value_means held.Ghost
+-- what is put: a ghost where there are no bytes
+pub lent_means : (o : Option (Bor (List ℕ))) (v : val.Val) → MatchOption o (v ≡ held.Ghost) (λ x. v ≡ held.Leaf x) → value_means v ≡ lent_value o
 unfolding lent_value put_value value_means
-lent_none = refl
-
-pub lent_some : (x : Bor (List ℕ)) → lent_value (Some x) ≡ value_means (held.Leaf x)
-unfolding lent_value put_value value_means
-lent_some x = refl
+lent_means None v e = rw e
+lent_means (Some x) v e = rw e
 
 pub lent_held : (v : Option (Bor (List ℕ))) → value_length (lent_value v) ≤ 0xFFFC → Held (lent_value v)
 unfolding lent_value put_value value_length
@@ -271,5 +270,4 @@ module _ (size slots n : ℕ) (t : Tree) (h0 b0 h1 b1 key : List ℕ) (f : Found
         within = λ q. omega (arith, g.within q, count_same);
       }
 
--- what the code takes of these
-pub ruleset lent = (lent_none, lent_some)
+pub ruleset put_in_leaf_laws = (room_value, alive_in, leaf_used, leaf_ready, leaf_old, leaf_new)

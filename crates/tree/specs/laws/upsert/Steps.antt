@@ -50,7 +50,7 @@ use Rattle.tree.specs.laws.room.Edit.{put_large_new, put_large_old}
 use Rattle.tree.specs.laws.room.TooLarge.{upsert_large}
 use Rattle.tree.specs.laws.lookup.GetCall.{steps_long, leaf_last}
 use Rattle.tree.specs.laws.cut.IndexKeys.{from_start}
-use Rattle.tree.specs.laws.upsert.PutInLeaf.{found_again}
+use Rattle.tree.specs.laws.upsert.PutInLeaf.{found_again, lent_means, lent_held}
 use Rattle.tree.specs.laws.upsert.WayKept.{touch_dead}
 use Rattle.tree.specs.laws.upsert.Parts.{cuts_slots, short_keys, there_long, on_steps}
 use Rattle.tree.specs.laws.upsert.Fit.{upsert_index_room, upsert_cuts_fit}
@@ -61,6 +61,7 @@ use Rattle.node.specs.Refusals.{number_of}
 use Rattle.node.specs.declared.refusal.Refusal.{Refusal}
 use Rattle.node.specs.declared.refusal.Refusal.TheVariants as is
 use Rattle.tree.specs.declared.way.Step as code
+use Rattle.tree.specs.laws.slots.Undo.{handed_back, follows_same}
 
 module _ (l : Lent) (t : Tree) (h0 b0 : List ℕ) (way : List code.Step) (key : List ℕ) (v : Val) (g : Gone l t h0 b0 way key v) where
   abbrev s : State
@@ -305,3 +306,5 @@ module _ (l : Lent) (t : Tree) (h0 b0 : List ℕ) (way : List code.Step) (key : 
         pub on_small : (b : Bool) (len : ℕ) → b ≡ ltb l.size (4 + length key + len + 56) → b ≡ false → len ≡ value_length v
             → 4 + length key + value_length v + 56 ≤ l.size
         on_small b len eb q k = let z = ltb-false l.size (4 + length key + len + 56) (sym eb ∙ q) in omega arith
+
+pub ruleset upsert_on_laws = (on_count, gone_short, on_new, on_large, on_small, on_put, handed_back, follows_same, lent_means, lent_held)

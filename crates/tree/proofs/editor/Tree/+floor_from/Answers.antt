@@ -1,11 +1,8 @@
 use Rattle.tree.specs.laws.base.Refused.{handed_on}
-use Rattle.tree.specs.laws.lookup.FloorDown.{into_more, into_in, floor_leaf, floor_below, floor_found, floor_more, floor_in_lem, floor_left}
+use Rattle.tree.specs.laws.lookup.FloorDown.{into_more, into_in, floor_below, floor_found, floor_more, floor_in_lem, floor_left}
 use Rattle.tree.specs.laws.slots.Undo.{follows_on}
 use borrow.Author.Rules.{rules}
 use Rattle.tree.proofs.editor.Tree.+floor_from.Goals as goal
-
-pub returns-then-d-eq0-clause-answer : goal.returns-then-d-eq0-clause-answer
-returns-then-d-eq0-clause-answer t c = floor_leaf _ _ c.args.self _ _ _ _ _ _ c.if-d-eq0.true _ c.floor_at.ensures.answer
 
 pub floor_from-requires : goal.floor_from-requires
 floor_from-requires t c =

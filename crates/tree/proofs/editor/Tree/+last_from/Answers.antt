@@ -1,10 +1,7 @@
-use Rattle.tree.specs.laws.lookup.FloorDown.{into_more, into_in, last_leaf, last_down}
+use Rattle.tree.specs.laws.lookup.FloorDown.{into_more, into_in, last_down}
 use Rattle.tree.specs.laws.slots.Undo.{follows_on}
 use borrow.Author.Rules.{rules}
 use Rattle.tree.proofs.editor.Tree.+last_from.Goals as goal
-
-pub returns-then-d-eq0-clause-answer : goal.returns-then-d-eq0-clause-answer
-returns-then-d-eq0-clause-answer t c = last_leaf _ _ c.args.self _ _ _ _ _ c.if-d-eq0.true _ c.last_at.ensures.answer
 
 pub last_from-requires : goal.last_from-requires
 last_from-requires t c =

@@ -3,31 +3,14 @@ use borrow.Author.Rules.{rules}
 use Rattle.std.proofs.Common.{refl, ◌∙◌}
 use Rattle.tree.specs.internal.Range.{both, found_in}
 use Rattle.tree.specs.laws.base.Refused.{handed_on}
-use Rattle.tree.specs.laws.slots.Undo.{follows_same, follows_on}
-use Rattle.tree.specs.laws.lookup.RangeCountCode.{child_refused, child_more, child_slot, child_in, child_entered, both_most, from_leaf, from_start, from_end}
-use Rattle.tree.specs.laws.lookup.RangeCountCode.{turn_few, turn_refused, turn_more, turn_falls, turn_in, turn_next}
+use Rattle.tree.specs.laws.slots.Undo.{follows_on}
+use Rattle.tree.specs.laws.lookup.RangeCountCode.{child_refused, child_more, child_slot, child_in, child_entered, both_most}
+use Rattle.tree.specs.laws.lookup.RangeCountCode.{turn_refused, turn_more, turn_falls, turn_in, turn_next}
 use Rattle.tree.proofs.editor.Tree.+range_from.Goals as goal
-
-pub returns-then-d-eq0-clause-answer : goal.returns-then-d-eq0-clause-answer
-returns-then-d-eq0-clause-answer t c = from_leaf _ _ c.args.self _ _ _ _ _ _ _ c.if-d-eq0.true _ c.ranged_at.ensures
 
 pub returns-then-d-eq0-clause-ready : goal.returns-then-d-eq0-clause-ready
 unfolding found_in
 returns-then-d-eq0-clause-ready t c = rw c.ranged_at.ensures c.requires.ready_2
-
-pub loop-i-init : goal.loop-i-init
-loop-i-init t c =
-    record {
-      words = refl;
-      room = refl;
-      count = omega arith;
-      length = omega arith;
-      bounds = c.requires.bounds_in;
-      ready = c.requires.ready_2;
-      more = omega arith;
-      follows = follows_same _ _ _ _ _;
-      rest = from_start _ _ _ _ _ _ _ c.args.self _ _ c.if-d-eq0.false;
-    }
 
 pub returns-in_err-t-clause-answer : goal.returns-in_err-t-clause-answer
 returns-in_err-t-clause-answer t c =
@@ -52,11 +35,6 @@ returns-in_err-below-clause-follows t c =
     let f = follows_on _ _ _ _ _ _ _ _ _ _ c.load_child.ensures.follows c.range_from.ensures.follows (child_more _ _ c.loop-i.found.tree _ _ _ _ _ _ _ _ c.load_child.ensures.answer _ _ c.in_ok-t.was) in
     follows_on _ _ _ _ _ _ _ _ _ _ v.follows f v.more
 
-pub overflow_add-from : goal.overflow_add-from
-overflow_add-from t c =
-    let v = c.loop-i.invariant in
-    omega (arith, turn_few _ _ _ _ _ _ _ c.loop-i.found _ _ _ _ v.rest _ c.next_entered.ensures _ c.in-Some.is _ v.ready (child_slot _ _ c.loop-i.found.tree _ _ _ _ _ _ _ _ c.load_child.ensures.answer _ _ c.in_ok-t.was))
-
 pub loop-i-smaller : goal.loop-i-smaller
 unfolding both
 loop-i-smaller t c =
@@ -80,8 +58,3 @@ loop-i-preserved t c =
       follows = follows_on _ _ _ _ _ _ _ _ _ _ v.follows f v.more;
       rest = turn_next _ _ _ _ _ _ _ c.loop-i.found _ _ _ _ v.rest _ c.next_entered.ensures _ c.in-Some.is _ _ _ (child_entered _ _ c.loop-i.found.tree _ _ _ _ _ _ _ _ c.load_child.ensures.answer _ _ c.in_ok-t.was _ v.bounds c.child_bounds-inner.ensures.within c.child_bounds-inner.ensures.bounds _ _ _ _ c.range_from.ensures.answer) _ c.in_ok-below.was (child_slot _ _ c.loop-i.found.tree _ _ _ _ _ _ _ _ c.load_child.ensures.answer _ _ c.in_ok-t.was) v.bounds;
     })
-
-pub returns-clause-answer : goal.returns-clause-answer
-returns-clause-answer t c =
-    let v = c.loop-i.invariant in
-    from_end _ _ _ _ _ _ _ c.loop-i.found _ _ _ _ v.rest _ c.next_entered.ensures c.in_default.is v.count v.length

@@ -1,15 +1,7 @@
-use native.Mathlib.Omega.{arith}
 use mathlib.Core.Path.{refl}
-use Rattle.tree.specs.laws.cut.AddRoot.{root_above, root_state, root_ready, root_follows}
+use Rattle.tree.specs.laws.cut.AddRoot.{root_state, root_ready, root_follows}
 use borrow.Author.Rules.{rules}
 use Rattle.tree.proofs.editor.Tree.add_root.Goals as goal
-
-pub overflow_add-top : goal.overflow_add-top
-overflow_add-top c =
-    let p = c.requires in let a = c.args in let s = c.save in let l = c.load-h.ensures in omega (arith, root_above _ _ _ a.self _ _ _ _ _ p.ready_2 p.used_lt_slots.1 s.ensures s.auto.heads s.auto.bytes l p.used_lt_slots.2)
-
-pub overflow_add-self : goal.overflow_add-self
-overflow_add-self c = let p = c.requires in omega (arith, p.ready_2.many, p.used_lt_slots.0)
 
 pub returns : goal.returns
 returns c =

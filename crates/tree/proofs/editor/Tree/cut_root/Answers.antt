@@ -1,7 +1,7 @@
 use native.Mathlib.Omega.{arith}
 use Rattle.tree.specs.laws.slots.Undo.{follows_on}
 use Rattle.tree.specs.laws.cut.Asked.{room_slots}
-use Rattle.tree.specs.laws.cut.CutAt.{cut_used, cut_sized, cut_first, cut_upto, parted_used, parted_root, top_low, top_done, top_count, counted_ready}
+use Rattle.tree.specs.laws.cut.CutAt.{cut_used, cut_sized, cut_first, cut_upto, parted_used, parted_root, top_low, top_done, counted_ready}
 use Rattle.std.proofs.Common.{ap}
 use mathlib.Core.Bool.{not}
 use Rattle.tree.proofs.editor.Tree.cut_root.Goals as goal
@@ -31,10 +31,6 @@ grow_root-top-requires-clause-room c =
     let a = c.args in
     let g = c.part-t in
     parted_root a.lent a.self _ _ _ _ _ _ p.ready.0 p.room.0 p.room.1 _ _ _ g.ensures.after _ (top_low a.lent a.self _ _ _ _ _ c.new_root_holds-holds.ensures (ap not c.in_ok-check.ensures) (cut_used a.lent a.self _ _ _ _ _ _ p.ready.0 p.room.0 p.room.1)) p.ready.1
-
-pub more_nodes-requires : goal.more_nodes-requires
-more_nodes-requires c =
-    let a = c.args in let g = c.part-t in let w = c.grow_root-top in top_count a.lent a.self _ _ _ _ _ _ _ _ _ _ _ c.in_ok-room_for.ensures g.ensures.after w.ensures.after
 
 pub returns-clause-answer : goal.returns-clause-answer
 returns-clause-answer c =

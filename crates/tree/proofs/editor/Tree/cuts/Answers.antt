@@ -1,20 +1,14 @@
 use Rattle.tree.specs.laws.base.Refused.{handed_on}
 use Rattle.tree.specs.laws.cut.Asked.{above_none, above_some}
-use Rattle.tree.specs.laws.cut.Cuts.{from_none, from_all, from_fits, from_refused, from_root, from_next}
-use Rattle.tree.specs.laws.cut.Pairs.{first_step, pairs_all, pairs_end, pair}
+use Rattle.tree.specs.laws.cut.Cuts.{from_fits, from_refused, from_next}
+use Rattle.tree.specs.laws.cut.Pairs.{first_step, pairs_end, pair}
 use Rattle.tree.specs.internal.Way.{steps_left}
 use Prim.Native.Nat.{◌-◌}
 use lib.ListN.{length}
-use mathlib.Core.Path.{◌≡◌, refl}
+use mathlib.Core.Path.{◌≡◌}
 use native.Mathlib.Omega.{arith}
 use borrow.Author.Rules.{rules}
 use Rattle.tree.proofs.editor.Tree.cuts.Goals as goal
-
-pub loop-up-init : goal.loop-up-init
-loop-up-init c =
-    let a = c.args in
-    let e : steps_left c.into_iter-up-iterator.result ≡ a.way.now = search rules in
-    (search rules, tt, pairs_all a.way.now _ e, refl, refl, refl, rw e (from_none a.lent a.self a.way.now _ _ c.requires.ready))
 
 pub cut_node-requires-clause-room : goal.cut_node-requires-clause-room
 cut_node-requires-clause-room c =
@@ -52,20 +46,3 @@ cut_node-requires-in-Some-first-clause-room c =
     let root = first_step a.way.now c.in-Some-first.root.now c.in-Some-first.ensures.value in
     let z : length (steps_left c.loop-up.up-iterator) - 1 ≡ 0 = omega (arith, one) in
     from_fits a.lent a.self a.way.now _ _ _ c.loop-up.t _ _ i.6 (o.some root.0) o.within _ (above_none a.way.now _ z) c.in-Some-first.root.now (rw z root.1) c.requires.room.0
-
-pub returns-in-Some-first-clause-answer : goal.returns-in-Some-first-clause-answer
-returns-in-Some-first-clause-answer c =
-    let a = c.args in
-    let i = c.loop-up.invariant in
-    let o = i.2 in
-    let one = pairs_end a.way.now _ o i.0.1 _ _ c.next.ensures.steps c.in-None.is in
-    let root = first_step a.way.now c.in-Some-first.root.now c.in-Some-first.ensures.value in
-    let z : length (steps_left c.loop-up.up-iterator) - 1 ≡ 0 = omega (arith, one) in
-    from_root a.lent a.self a.way.now _ _ _ c.loop-up.t _ _ i.6 (o.some root.0) o.within _ (above_none a.way.now _ z) c.in-Some-first.root.now (rw z root.1) _ _ _
-    c.cut_node-in-Some-first.ensures.answer one
-
-pub returns-in-None-first-clause-answer : goal.returns-in-None-first-clause-answer
-returns-in-None-first-clause-answer c =
-    let i = c.loop-up.invariant in
-    let n : length c.args.way.now ≡ 0 = search rules in
-    from_all c.args.lent c.args.self c.args.way.now _ _ _ c.loop-up.t _ _ i.6 (omega (arith, i.2.within, n))

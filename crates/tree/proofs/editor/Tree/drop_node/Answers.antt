@@ -14,6 +14,3 @@ remove_at-requires c =
     let mark-dead = c.mark_dead in
     let offset_at = c.offset_at-at in
     record { ready = mark-dead.ensures.ready; place = record { slot = pre.place.0; index = drop_index _ _ _ _ _ args.self _ _ _ _ pre.place.0 pre.place.2 mark-dead.ensures; start = offset_at.ensures } }
-
-pub returns : goal.returns
-returns c = search laws

@@ -1,4 +1,4 @@
-use Rattle.tree.specs.laws.lookup.FloorCall.{way_in, in_output, floor_undone, floor_left}
+use Rattle.tree.specs.laws.lookup.FloorCall.{way_in, floor_undone, floor_left}
 use borrow.Author.Rules.{rules}
 use Rattle.std.proofs.Common.{◌∙◌}
 use Rattle.tree.proofs.editor.Tree.floor_down.Goals as goal
@@ -9,11 +9,6 @@ returns-clause-answer c =
     floor_undone c.args.lent c.args.self _ _ h'.now b'.now _ _ _ _ u
     ∙ search rules
     ∙ way_in _ _ c.args.self _ _ _ _ c.keyed.ensures c.in_ok-check.ensures _ h.now b.now s.0
-
-pub returns-clause-output : goal.returns-clause-output
-returns-clause-output c =
-    let (h, b, h', b', s, p, u) = c.undone.ensures in
-    in_output _ _ c.args.self _ _ c.args.key.now _ c.keyed.ensures c.in_ok-check.ensures _ h.now b.now s.0 _ _ (search rules)
 
 pub returns-clause-left : goal.returns-clause-left
 returns-clause-left c =

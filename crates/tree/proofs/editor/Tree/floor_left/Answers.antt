@@ -1,13 +1,6 @@
-use Rattle.tree.specs.laws.lookup.FloorDown.{into_more, into_in, left_first, left_above, left_down}
+use Rattle.tree.specs.laws.lookup.FloorDown.{into_more, into_in, left_down}
 use Rattle.tree.specs.laws.slots.Undo.{follows_on}
 use Rattle.tree.proofs.editor.Tree.floor_left.Goals as goal
-
-pub returns-then-i-eq0-clause-answer : goal.returns-then-i-eq0-clause-answer
-returns-then-i-eq0-clause-answer c = left_first _ _ c.args.self _ _ _ _ _ _ _ c.if-i-eq0.true
-
-pub returns-then-above-clause-answer : goal.returns-then-above-clause-answer
-returns-then-above-clause-answer c =
-    left_above _ _ c.args.self _ _ _ _ _ _ _ c.if-i-eq0.false _ c.key_at.ensures _ c.less-above.ensures c.if-above.true
 
 pub last_from-requires-clause-bounds_in : goal.last_from-requires-clause-bounds_in
 last_from-requires-clause-bounds_in c =

@@ -1,11 +1,5 @@
-use Rattle.tree.specs.laws.lookup.LoadedCalls.{leaf_suits, leaf_answer, leaf_output, got_left}
+use Rattle.tree.specs.laws.lookup.LoadedCalls.{leaf_answer, leaf_output, got_left}
 use Rattle.tree.proofs.editor.Tree.get_in.Goals as goal
-
-pub copy_held-requires : goal.copy_held-requires
-copy_held-requires c =
-    let a = c.args in
-    let q = c.leaf_of.ensures in
-    record { n_value = leaf_suits a.image.now a.lent a.self _ _ c.requires.trusts _ _ (q.keys _ c.in-Some.is) (q.leads _ c.in-Some.is) }
 
 pub returns-in-Some : goal.returns-in-Some
 returns-in-Some c =

@@ -1,18 +1,13 @@
 use Rattle.tree.specs.laws.load.Way.{ready_at}
 use native.Mathlib.Omega.{arith}
 use Rattle.tree.specs.laws.base.Refused.{handed_on}
-use Rattle.tree.specs.laws.remove.HandDown.{hand_start, hand_ends, hand_stops, hand_refused, hand_on, hand_sized, hand_child, hand_apart, hand_root, hand_unfit, hand_count, hand_next}
+use Rattle.tree.specs.laws.remove.HandDown.{hand_stops, hand_refused, hand_on, hand_sized, hand_child, hand_apart, hand_root, hand_unfit, hand_count, hand_next}
 use borrow.Author.Rules.{rules}
 use borrow.Author.Tests.{ltb-true, ltb-false}
 use Rattle.std.proofs.Common.{ap, ◌≡◌}
 use Prim.Native.Nat.{◌+◌, ◌-◌, ◌<◌}
 use mathlib.Core.Bool.{not}
 use Rattle.tree.proofs.editor.Tree.hand_down.Goals as goal
-
-pub loop-i-init : goal.loop-i-init
-loop-i-init c =
-    let e : c.args.n - 0 ≡ c.args.n = omega arith in
-    (search rules, search rules, rw e (hand_start _ _ _ _ _ _ c.requires.ready c.requires.trust))
 
 pub returns-then-not-has_only_child : goal.returns-then-not-has_only_child
 returns-then-not-has_only_child c =
@@ -33,14 +28,6 @@ returns-in_err-u-clause-answer c =
     let hd : 0 < args.n - loop._i = omega (arith, c.loop-i-test.true) in
     rw (handed_on c.from_residual.result _ c.from_residual.ensures.1)
     (hand_refused args.image.now args.lent args.self _ _ _ loop.t _ _ (args.n - loop._i) loop.invariant.2 hd _ c.has_only_child.ensures (ap not c.if-not-has_only_child.false) _ _ _ c.load_child.ensures.answer _ c.in_err-u.was)
-
-pub returns-in_err-u-clause-follows : goal.returns-in_err-u-clause-follows
-returns-in_err-u-clause-follows c =
-    let args = c.args in
-    let loop = c.loop-i in
-    let got = c.load_child.ensures in
-    let hd : 0 < args.n - loop._i = omega (arith, c.loop-i-test.true) in
-    hand_on args.image.now args.lent args.self _ _ _ loop.t _ _ (args.n - loop._i) loop.invariant.2 hd _ c.has_only_child.ensures (ap not c.if-not-has_only_child.false) _ _ _ got.answer got.follows
 
 pub fits_as_root-requires : goal.fits_as_root-requires
 fits_as_root-requires c =
@@ -97,14 +84,3 @@ loop-i-preserved c =
       search (rules, c.handed_down-t.auto, c.load_child.auto, c.loop-i.invariant),
       rw e (hand_next args.image.now args.lent args.self _ _ _ loop.t _ _ (args.n - loop._i) loop.invariant.2 hd _ has-only-child.ensures (ap not c.if-not-has_only_child.false) _ _ _ load_child_lem.ensures.answer _ _ c.in_ok-u.was _ fits-as-root.ensures (ap not c.if-not-fits_as_root.false) (λ z. omega (arith, ltb-true 0 _ c.in_ok-check.ensures, z)) load_child_lem.ensures.follows _ _ _ handed-down.ensures),
     )
-
-pub returns : goal.returns
-returns c =
-    let args = c.args in
-    let loop = c.loop-i in
-    let k = loop.invariant.2 in
-    record {
-      answer = hand_ends args.image.now args.lent args.self _ _ _ loop.t _ _ (args.n - loop._i) k (omega (arith, c.loop-i-test.false));
-      ready = k.ready;
-      follows = k.follows;
-    }

@@ -1,5 +1,4 @@
 use mathlib.Core.Path.{refl}
-use native.Mathlib.Omega.{arith}
 use Rattle.tree.specs.laws.remove.Words.{old_lies, old_ready, new_lies, handed_done}
 use borrow.Author.Rules.{rules}
 use Rattle.tree.specs.State.{with_counts}
@@ -12,11 +11,6 @@ put_words-requires c = search laws
 
 pub put_words-requires-2 : goal.put_words-requires-2
 put_words-requires-2 c = search laws
-
-pub overflow_sub-self : goal.overflow_sub-self
-overflow_sub-self c =
-    let pre = c.requires in
-    omega (arith, pre.place.3)
 
 pub returns : goal.returns
 unfolding with_counts

@@ -1,7 +1,4 @@
-use mathlib.Core.Path.{sym}
-use lib.Seq.{length-take-le}
 use Rattle.tree.specs.laws.cut.LinkChild.{child_slot, child_index, child_alive, child_room, child_short, child_held, child_linked}
-use borrow.Author.Rules.{rules}
 use Rattle.tree.proofs.editor.Tree.link_child.Goals as goal
 
 pub offset_at-at-requires : goal.offset_at-at-requires
@@ -9,9 +6,6 @@ offset_at-at-requires c =
     let p = c.requires in
     let a = c.args in
     record { n_lt_used = (child_slot _ _ _ _ _ _ a.self _ _ p.ready p.room, child_index _ _ _ _ _ _ a.self _ _ p.ready p.room) }
-
-pub slice_bounds-insert_at-end-2 : goal.slice_bounds-insert_at-end-2
-slice_bounds-insert_at-end-2 c = sym (length-take-le _ _ (search rules))
 
 pub insert_at-requires : goal.insert_at-requires
 insert_at-requires c =

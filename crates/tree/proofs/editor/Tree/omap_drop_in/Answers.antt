@@ -1,16 +1,8 @@
 use Rattle.tree.specs.laws.refusal1.EditCalls.{stays_trusts, edited_undone, edited_called}
-use Rattle.tree.specs.laws.omap.Calls.{drop_argument, is_omap_lem, drop_in_answer, drop_trusts}
+use Rattle.tree.specs.laws.omap.Calls.{drop_in_answer, drop_trusts}
 use borrow.Author.Rules.{rules}
 use Rattle.std.proofs.Common.{◌∙◌}
 use Rattle.tree.proofs.editor.Tree.omap_drop_in.Goals as goal
-
-pub returns-in_err-check-clause-answer : goal.returns-in_err-check-clause-answer
-returns-in_err-check-clause-answer c =
-    let a = drop_argument c.args.image.now c.args.lent c.args.self c.args.heads.now c.args.bytes.now _ c.is_omap.ensures in search (rules, a)
-
-pub undone-requires-clause-callable : goal.undone-requires-clause-callable
-undone-requires-clause-callable c =
-    let f = is_omap_lem c.args.self _ c.is_omap.ensures c.in_ok-check.ensures in search (rules, stays_trusts, f)
 
 pub returns-clause-answer : goal.returns-clause-answer
 returns-clause-answer c =

@@ -1,6 +1,6 @@
 use Rattle.tree.specs.laws.refusal1.EditCalls.{stays_trusts, edited_undone, edited_called}
 use Rattle.tree.specs.laws.omap.Calls.{put_argument, is_omap_lem, put_in_answer, put_trusts}
-use Rattle.tree.specs.laws.omap.Keys.{pair_is, pair_long, value_is, value_long}
+use Rattle.tree.specs.laws.omap.Keys.{pair_long, value_is, value_long}
 use borrow.Author.Rules.{rules}
 use Rattle.std.proofs.Common.{◌∙◌}
 use Rattle.tree.proofs.editor.Tree.omap_put_in.Goals as goal
@@ -18,7 +18,7 @@ returns-clause-answer c =
     let (h, b, h', b', s, p, u) = c.undone.ensures in
     edited_undone c.args.lent c.args.self _ _ h'.now b'.now _ _ _ u
     ∙ search rules
-    ∙ put_in_answer _ c.args.lent c.args.self _ _ _ c.is_omap.ensures c.in_ok-check.ensures h.now b.now s.0 _ _ _ _ _ _ (pair_is _ _ _ c.pair_key.ensures) (value_is _ _ _ _ c.put_field.ensures c.put_field-2.ensures)
+    ∙ put_in_answer _ c.args.lent c.args.self _ _ _ c.is_omap.ensures c.in_ok-check.ensures h.now b.now s.0 _ _ _ _ _ _ c.pair_key-key.ensures (value_is _ _ _ _ c.put_field.ensures c.put_field-2.ensures)
 
 pub returns-clause-left : goal.returns-clause-left
 returns-clause-left c =
@@ -26,4 +26,4 @@ returns-clause-left c =
     let t = stays_trusts c.args.image.now c.args.lent c.args.self _ _ h.now b.now c.requires.trusts s in
     let f = is_omap_lem c.args.self _ c.is_omap.ensures c.in_ok-check.ensures in
     edited_called c.args.lent c.args.self _ _ h'.now b'.now _ _ _ _ u
-    (λ v z. put_trusts c.args.image.now c.args.lent c.args.self h.now b.now t c.args.id _ v _ _ z (search rules) _ _ (f _ _ _) (pair_long _ _ _ c.pair_key.ensures) (value_long _ _ _ _ c.put_field.ensures c.put_field-2.ensures) (search rules))
+    (λ v z. put_trusts c.args.image.now c.args.lent c.args.self h.now b.now t c.args.id _ v _ _ z (search rules) _ _ (f _ _ _) (pair_long _ _ _ c.pair_key-key.ensures) (value_long _ _ _ _ c.put_field.ensures c.put_field-2.ensures) (search rules))

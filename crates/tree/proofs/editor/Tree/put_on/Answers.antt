@@ -1,6 +1,5 @@
 use Rattle.node.specs.laws.base.Bytes.{bytes_known}
-use Rattle.tree.specs.laws.upsert.Parts.{follows_four}
-use Rattle.tree.specs.laws.upsert.Steps.{gone_some, gone_way, gone_root, leaf_used, on_found, on_alive, on_room, on_way_lem, on_index, on_cuts, on_done}
+use Rattle.tree.specs.laws.upsert.Steps.{gone_some, gone_way, gone_root, leaf_used, on_found, on_alive, on_room, on_way_lem, on_index, on_cuts}
 use borrow.Author.Rules.{rules}
 use Rattle.tree.proofs.editor.Tree.put_on.Goals as goal
 
@@ -33,13 +32,3 @@ cuts-requires c =
     let w = c.put_in_leaf-t in
     let i = c.index_keys.ensures in
     record { ready = i.ready; room = (on_cuts _ _ _ _ _ _ _ g _ p.gone.1 _ _ q _ _ _ w.ensures.after w.ensures.ready.1 _ _ i, search (rules, c.index_keys.auto, p.room.1)) }
-
-pub returns : goal.returns
-returns c =
-    let p = c.requires in
-    let g = p.gone.0 in
-    let q = c.touch.ensures in
-    let w = c.put_in_leaf-t in
-    let i = c.index_keys.ensures in
-    let k = c.cuts in
-    record { answer = on_done _ _ _ _ _ _ _ g _ p.gone.1 _ _ q _ _ _ w.ensures.after w.ensures.ready.1 _ _ i _ k.ensures.answer; ready = k.ensures.ready; follows = follows_four _ _ _ _ _ _ _ _ _ _ _ _ _ _ w.ensures.ready.1 q.follows w.ensures.follows i.follows k.ensures.follows }

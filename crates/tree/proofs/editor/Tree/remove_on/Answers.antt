@@ -1,7 +1,6 @@
 use Rattle.node.specs.laws.base.Bytes.{Bytes, bytes_known}
 use native.Mathlib.Omega.{arith}
-use Rattle.tree.specs.laws.base.Refused.{handed_on}
-use Rattle.tree.specs.laws.remove.Steps.{on_some, on_in, on_root, on_drops, on_refused, on_ready, on_still, on_index, on_cuts, on_uncut, on_trust, on_done, on_back, on_follows}
+use Rattle.tree.specs.laws.remove.Steps.{on_some, on_in, on_root, on_drops, on_ready, on_still, on_index, on_cuts, on_trust, on_done, on_back, on_follows}
 use borrow.Author.Rules.{rules}
 use Rattle.tree.proofs.editor.Tree.remove_on.Goals as goal
 
@@ -22,13 +21,6 @@ shrink-requires-clause-room c =
     let p = c.requires in
     let a = c.args in
     on_drops a.image.now a.lent a.self _ _ a.way.now a.f.index p.way
-
-pub returns-in_err-t-clause-answer : goal.returns-in_err-t-clause-answer
-returns-in_err-t-clause-answer c =
-    let p = c.requires in
-    let a = c.args in
-    rw (handed_on c.from_residual.result _ c.from_residual.ensures.1)
-    (on_refused a.image.now a.lent a.self _ _ a.way.now a.f.index p.way _ _ _ c.shrink.ensures.answer _ c.in_err-t.was)
 
 pub index_keys-requires-clause-ready : goal.index_keys-requires-clause-ready
 index_keys-requires-clause-ready c =
@@ -52,14 +44,6 @@ cuts-requires-clause-room c =
     let s = c.shrink.ensures in
     let k = c.index_keys in
     (on_cuts a.image.now a.lent a.self _ _ a.way.now a.f.index p.way _ _ _ s.answer _ c.in_ok-t.was s.ready.0 s.ready.1 _ _ k.ensures, omega (arith, p.room, k.auto))
-
-pub returns-in_err-u-clause-answer : goal.returns-in_err-u-clause-answer
-returns-in_err-u-clause-answer c =
-    let p = c.requires in
-    let a = c.args in
-    let s = c.shrink.ensures in
-    rw (handed_on c.from_residual-in_err-u.result _ c.from_residual-in_err-u.ensures.1)
-    (on_uncut a.image.now a.lent a.self _ _ a.way.now a.f.index p.way _ _ _ s.answer _ c.in_ok-t.was s.ready.0 s.ready.1 _ _ c.index_keys.ensures _ _ _ c.cuts.ensures.answer _ c.in_err-u.was)
 
 pub hand_down-requires-clause-trust : goal.hand_down-requires-clause-trust
 hand_down-requires-clause-trust c =

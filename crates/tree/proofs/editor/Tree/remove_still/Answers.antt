@@ -3,6 +3,8 @@ use borrow.Author.Tests.{not-false}
 use Rattle.tree.specs.laws.remove.LeafAloneSteps.{still_answer, still_ready, leaf_used, leaf_keyed, above_keys}
 use Rattle.std.proofs.Common.{ap}
 use mathlib.Core.Bool.{not}
+use mathlib.Core.Path.{refl}
+use Rattle.tree.specs.State.{with_counts}
 use Rattle.tree.proofs.editor.Tree.remove_still.Goals as goal
 
 pub take_at-requires : goal.take_at-requires
@@ -11,11 +13,12 @@ take_at-requires c =
     let f = c.found_at-f.ensures in
     record { ready = c.requires.ready; place = record { slot = leaf_used _ _ _ _ _ _ q; index = f.within (not-false _ c.if-not-f.false); start = f.start } }
 
-pub overflow_sub-info : goal.overflow_sub-info
-overflow_sub-info c =
+pub overflow_sub-self : goal.overflow_sub-self
+overflow_sub-self c =
     omega (arith, above_keys _ _ _ _ _ _ (c.still_above.ensures (not-false _ (ap not c.if-not-still_above.false))))
 
 pub returns : goal.returns
+unfolding with_counts
 returns c =
     let p = c.requires in
     let q = rw c.in_ok-n.was at c.still_leaf_of.ensures in
@@ -23,7 +26,7 @@ returns c =
     let found = not-false _ c.if-not-f.false in
     let a = c.still_above.ensures (not-false _ (ap not c.if-not-still_above.false)) in
     let w = c.take_at in (
-      (λ l. still_answer _ _ _ _ _ _ _ p.ready p.bytes_value.0 (leaf_used _ _ _ _ _ _ q) q _ f found a _ _ w.auto.heads w.auto.bytes w.ensures _ c.recounted-self.ensures l),
+      (λ l. still_answer _ _ _ _ _ _ _ p.ready p.bytes_value.0 (leaf_used _ _ _ _ _ _ q) q _ f found a _ _ w.auto.heads w.auto.bytes w.ensures _ refl l),
       leaf_keyed _ _ _ _ _ _ q,
       still_ready _ _ _ _ _ _ _ p.ready p.bytes_value.0 (leaf_used _ _ _ _ _ _ q) q _ f found a _ _ w.auto.heads w.auto.bytes w.ensures,
     )

@@ -1,15 +1,7 @@
-use Rattle.tree.specs.laws.upsert.Call.{in_fits, in_put, upserted_trusts}
-use Rattle.tree.specs.laws.refusal1.EditCalls.{stays_trusts, edited_undone, edited_called}
+use Rattle.tree.specs.laws.upsert.Call.{in_fits, upserted_trusts}
+use Rattle.tree.specs.laws.refusal1.EditCalls.{stays_trusts, edited_called}
 use borrow.Author.Rules.{rules}
-use Rattle.std.proofs.Common.{◌∙◌}
 use Rattle.tree.proofs.editor.Tree.upsert_in.Goals as goal
-
-pub returns-clause-answer : goal.returns-clause-answer
-returns-clause-answer c =
-    let (h, b, h', b', s, p, u) = c.undone.ensures in
-    edited_undone c.args.lent c.args.self _ _ h'.now b'.now _ _ _ u
-    ∙ search rules
-    ∙ in_put _ c.args.lent c.args.self _ _ _ _ _ (c.entry_fits.ensures _ _ _) c.in_ok-check.ensures h.now b.now s
 
 pub returns-clause-left : goal.returns-clause-left
 returns-clause-left c =

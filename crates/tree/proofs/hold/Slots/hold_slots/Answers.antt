@@ -4,20 +4,11 @@ use Rattle.tree.proofs.hold.Slots.hold_slots.Goals as goal
 
 ruleset laws = (rules, slots_start, slots_end, slots_no, slots_next)
 
-pub loop-n-init : goal.loop-n-init
-loop-n-init c = search laws
-
 pub loop-n-preserved : goal.loop-n-preserved
 loop-n-preserved c = search laws
 
-pub shape_of-marks : goal.shape_of-marks
-shape_of-marks c = search laws
-
 pub returns : goal.returns
 returns c = search laws
-
-pub shape_of-marks-then-not-hold_slot : goal.shape_of-marks-then-not-hold_slot
-shape_of-marks-then-not-hold_slot c = search laws
 
 pub returns-then-not-hold_slot : goal.returns-then-not-hold_slot
 returns-then-not-hold_slot c = search laws

@@ -7,17 +7,8 @@ ruleset laws = (rules, together_past, together_dead, together_is, together_few, 
 pub returns-then-self-root : goal.returns-then-self-root
 returns-then-self-root c = search laws
 
-pub load-h-requires : goal.load-h-requires
-load-h-requires c = search laws
-
 pub returns-then-h-eq1 : goal.returns-then-h-eq1
 returns-then-h-eq1 c = search laws
-
-pub bounds-marks-root : goal.bounds-marks-root
-bounds-marks-root c = search laws
-
-pub slice_bounds-hold_slots-end : goal.slice_bounds-hold_slots-end
-slice_bounds-hold_slots-end c = search laws
 
 pub hold_slots-requires : goal.hold_slots-requires
 hold_slots-requires c = search laws

@@ -4,7 +4,7 @@ use Rattle.std.proofs.Common.{[], ◌≡◌, ◌-◌, ap, refl, ◌∙◌}
 use Rattle.tree.specs.internal.View.{seen}
 use Rattle.tree.specs.internal.Range.{end_of, held_child, range_held}
 use Rattle.tree.specs.laws.slots.Records.{count_is}
-use Rattle.tree.specs.laws.lookup.RangeOut.{kid_at, passed, no_child, in_slot, leaf_room, leaf_end, leaf_out, kids_start, kids_start_out, kids_end, kids_out, kid_room, kid_end, kid_out, idle_end, idle_out}
+use Rattle.tree.specs.laws.lookup.RangeOut.{kid_at, passed, no_child, in_slot, leaf_room, leaf_end, kids_start, kids_start_out, kids_end, kids_out, kid_room, kid_end, kid_out, idle_end, idle_out}
 use Rattle.tree.proofs.view.View.+range_out.Goals.{else-enters-via-else-enters, else-enters-via-then-enters+in-None-1}
 use Rattle.tree.proofs.view.View.+range_out.Goals as goal
 
@@ -13,9 +13,6 @@ write_between-requires t c = record { room = leaf_room _ c.args.self.tree _ _ _ 
 
 pub returns-then-d-eq0-clause-end : goal.returns-then-d-eq0-clause-end
 returns-then-d-eq0-clause-end t c = leaf_end _ c.args.self.tree _ _ _ _ _ _ c.if-d-eq0.true _ _ c.write_between.ensures.end
-
-pub returns-then-d-eq0-clause-output : goal.returns-then-d-eq0-clause-output
-returns-then-d-eq0-clause-output t c = leaf_out _ c.args.self.tree _ _ _ _ _ _ c.if-d-eq0.true _ _ _ c.write_between.ensures.output
 
 pub loop-i-init : goal.loop-i-init
 loop-i-init t c =

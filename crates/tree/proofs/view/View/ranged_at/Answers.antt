@@ -1,33 +1,14 @@
-use Rattle.std.proofs.Common.{arith, ap, refl, ◌∙◌}
+use Rattle.std.proofs.Common.{arith, refl, ◌∙◌}
 use Rattle.node.specs.laws.slot.Records.{records_least}
 use Rattle.node.specs.laws.slot.Slot.{at_next}
-use Rattle.tree.specs.laws.lookup.Between.{count_taken, length_taken, count_passed, length_passed, count_start, sums_are}
+use Rattle.tree.specs.laws.lookup.Between.{count_taken, length_taken, count_passed, length_passed, sums_are}
 use Rattle.tree.proofs.view.View.ranged_at.Goals as goal
-
-pub loop-r-init : goal.loop-r-init
-loop-r-init c =
-    let x = c.records in
-    let w = c.into_iter-r-iterator.ensures.into_iter_gives in
-    let e = ap (λ x. x.index) w ∙ c.walk-r-items.ensures.1 in
-    let k = ap (λ x. x.records) w ∙ c.walk-r-items.ensures.0 in
-    record {
-      small = rw k x.ensures.room.1;
-      few = omega arith;
-      short = omega arith;
-      counted = rw (e, k, x.ensures.entries) (count_start _);
-      summed = rw (e, k, x.ensures.entries) (count_start _);
-    }
 
 pub overflow_add-count : goal.overflow_add-count
 overflow_add-count c =
     let v = c.loop-r.invariant in
     let w = c.loop-r.r-iterator in
     omega (arith, v.few, c.in-Some.ensures.steps.within, records_least w.records.count w.records.slot.now, w.records.within, v.small)
-
-pub overflow_add-length : goal.overflow_add-length
-overflow_add-length c =
-    let v = c.loop-r.invariant in
-    omega (arith, v.short, c.in-Some.ensures.steps.start, c.loop-r.r-iterator.start, c.next-then-holds.ensures)
 
 pub loop-r-preserved-then-holds : goal.loop-r-preserved-then-holds
 loop-r-preserved-then-holds c =

@@ -1,4 +1,4 @@
-use Rattle.tree.specs.laws.slots.Records.{entries_none, entries_here, records_few, slot_short}
+use Rattle.tree.specs.laws.slots.Records.{entries_none, records_few, slot_short}
 use Rattle.tree.specs.laws.slots.OneSlot.{slot_room}
 use Rattle.node.specs.Records.{entries_of, records_length}
 use Rattle.std.specs.Prelude.{◌<◌}
@@ -16,10 +16,6 @@ returns-then-self-n-clause-entries c = entries_none _ c.args.self.tree _ _ _ c.i
 pub invariant_of-result-2 : goal.invariant_of-result-2
 invariant_of-result-2 c =
     record { within = slot_room _ _ _ _ _ _ c.args.self.ready (omega (arith, c.if-self-n.false)) _ c.slot_of.ensures.slot _ c.live_at-h.ensures }
-
-pub returns-clause-entries : goal.returns-clause-entries
-returns-clause-entries c =
-    entries_here _ c.args.self.tree _ _ _ (omega (arith, c.if-self-n.false)) _ c.live_at-h.ensures _ c.slot_of.ensures.slot
 
 pub returns-clause-room : goal.returns-clause-room
 returns-clause-room c =

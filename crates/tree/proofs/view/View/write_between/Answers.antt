@@ -1,19 +1,6 @@
-use Rattle.std.proofs.Common.{arith, ap, refl, rules, ◌∙◌, ◌≤◌}
+use Rattle.std.proofs.Common.{arith, rules, ◌∙◌, ◌≤◌}
 use Rattle.tree.specs.laws.lookup.Between.{length_taken, length_passed, write_passed, write_room, write_taken, write_ends, write_done}
 use Rattle.tree.proofs.view.View.write_between.Goals as goal
-
-pub loop-r-init : goal.loop-r-init
-loop-r-init c =
-    let x = c.records in
-    let w = c.into_iter-r-iterator.ensures.into_iter_gives in
-    let e = ap (λ x. x.index) w ∙ c.walk-r-items.ensures.1 in
-    let k = ap (λ x. x.records) w ∙ c.walk-r-items.ensures.0 in
-    record {
-      bytes = rw k x.ensures.bytes;
-      long = refl;
-      ends = rw (e, k, x.ensures.entries) refl;
-      written = rw (e, k, x.ensures.entries) refl;
-    }
 
 pub copy_to-requires : goal.copy_to-requires
 copy_to-requires c =
@@ -22,15 +9,6 @@ copy_to-requires c =
     let p = s.start ∙ c.loop-r.r-iterator.start in
     let k = s.slot in
     rw k (write_room _ _ _ _ _ c.loop-r.r-iterator.records.within _ _ s.within p _ (rw (c.key.ensures, k) at c.holds.ensures) c.if-holds.true _ (rw k at c.next-next.ensures) c.loop-r.out c.args.out.now _ _ v.ends v.long c.requires.room)
-
-pub overflow_add-end : goal.overflow_add-end
-overflow_add-end c =
-    let v = c.loop-r.invariant in
-    let s = c.in-Some.ensures.steps in
-    let p = s.start ∙ c.loop-r.r-iterator.start in
-    let k = s.slot in
-    let t = length_taken _ _ _ _ _ c.loop-r.r-iterator.records.within _ _ s.within p _ (rw (c.key.ensures, k) at c.holds.ensures) c.if-holds.true _ (rw k at c.next-next.ensures) _ _ v.ends in
-    omega (arith, t, v.long, c.requires.room)
 
 pub loop-r-preserved-then-holds : goal.loop-r-preserved-then-holds
 loop-r-preserved-then-holds c =
