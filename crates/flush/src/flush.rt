@@ -1,5 +1,5 @@
 // Flush (`flush` and `write` of write/tree.rs): dead nodes listed, dirty ones written, children before parent.
-ghost use Rattle.std.specs.Prelude.{◌≡◌, [], ◌∷◌, true, cond, ◌&&◌, ◌+◌, ◌*◌, ◌/◌, ◌≤◌, ◌<◌, ◌^◌, length, eqb, option_to_list};
+ghost use Rattle.std.specs.Prelude.{◌≡◌, [], true, cond, ◌&&◌, ◌+◌, ◌*◌, ◌/◌, ◌≤◌, ◌<◌, ◌^◌, length, eqb, option_to_list};
 ghost use Rattle.tree.specs.Format.{marked, only, Sized};
 ghost use Rattle.tree.specs.Lent.{lent_of};
 ghost use Rattle.tree.specs.Trust.{trusted};
@@ -20,12 +20,12 @@ use tree::editor::Tree;
 use tree::head::Head;
 use tree::lent::Lent;
 use tree::obj::{OBJ_PHYSICAL, OBJ_VIRTUAL, OBJECT_TYPE_BTREE, OBJECT_TYPE_BTREE_NODE};
-use tree::refusal::Refusal;
+use tree::refusal::{Refusal, check};
 use tree::view::View;
 use tree::{bank, block, kids, lent, pack};
 
 // How far a flush has come: the next id, and how much stands in each list.
-#[derive(Clone, Copy)]
+#[derive(Clone, Copy, Default)]
 pub struct Flushing {
     pub next: u64,
     pub freed: usize,
@@ -76,7 +76,7 @@ struct Reports<'r> {
 
 impl<'r> Reports<'r> {
     // Dead nodes, in slot order: address to freed, id (virtual) to removed.
-    #[tactic(auto, using(crate::specs::laws::StepLaws::starting))]
+    #[tactic(auto, using(crate::specs::laws::StepLaws::listing_dead))]
     fn list_dead(&mut self, t: Tree, heads: &[u64])
         requires { (t.used * 9 ≤ length heads.now) × (t.used ≤ length self.old.freed.now) × (t.used ≤ length self.old.removed.now) }
         ensures listed { Reported t.by_id t.used self.old.done.next heads.now self.old.freed.now self.old.removed.now
@@ -98,14 +98,13 @@ impl<'r> Reports<'r> {
             next,
             freed: f,
             removed: r,
-            moved: 0,
-            allocated: 0,
+            ..Flushing::default()
         };
     }
 }
 
 // Nodes that flush is to write, and ids that it is to give.
-#[derive(Clone, Copy)]
+#[derive(Clone, Copy, Default)]
 pub struct Wanted {
     pub dirty: u64,
     pub ids: u64,
@@ -186,13 +185,6 @@ fn type_of(by_id: bool, root: bool) -> u64
     storage | kind
 }
 
-// The id of a node that is written: the next where it takes one, else its own.
-fn id_after(new: bool, next: u64, own: Option<u64>) -> Option<u64>
-    ensures { option_to_list result ≡ cond new (next ∷ []) (option_to_list own) }
-{
-    if new { Some(next) } else { own }
-}
-
 // The id in the block's header: of a physical node its address.
 #[tactic(auto, using(crate::specs::laws::WriteLaws::only_or))]
 fn block_id(by_id: bool, id: Option<u64>, a: u64) -> u64
@@ -213,7 +205,7 @@ struct Source<'s> {
 
 impl<'s> Source<'s> {
     // A node packed and sealed into the block that it is given.
-    #[tactic(auto, using(crate::specs::laws::BlockLaws::start_small))]
+    #[tactic(auto, using(crate::specs::laws::BlockLaws::packing))]
     fn pack_at(self, image: &mut [u8], heads: &[u64], n: usize, a: usize, oid: u64)
         requires standing { StandsIn self heads.now }
         requires dirty { DirtyIn self heads.now n }
@@ -232,7 +224,7 @@ impl<'s> Source<'s> {
     }
 
     // A dirty node in the block chosen for it: its old one freed, packed and sealed, clean.
-    #[tactic(auto, using(crate::specs::laws::TallyLaws::words_room))]
+    #[tactic(auto, using(crate::specs::laws::BlockLaws::writing, crate::specs::laws::TallyLaws::words_room))]
     fn write_at(
         self,
         image: &mut [u8],
@@ -251,9 +243,9 @@ impl<'s> Source<'s> {
     {
         let h = bank::live_at(heads, n);
         let own = h.id();
-        let new = takes_id(self.tree.by_id, own);
         let done = lists.done;
-        let id = id_after(new, done.next, own);
+        let fresh = takes_id(self.tree.by_id, own).then_some(done.next);
+        let id = own.or(fresh);
         let oid = block_id(self.tree.by_id, id, a as u64);
         let old = h.block();
         let freed = push(lists.freed, done.freed, old);
@@ -263,9 +255,8 @@ impl<'s> Source<'s> {
         let place = self.tree.by_id.then_some(a as u64);
         let moved = push(lists.ids, done.moved, number);
         push(lists.places, done.moved, place);
-        let taken = u64::from(new);
         lists.done = Flushing {
-            next: done.next + taken,
+            next: done.next + u64::from(fresh.is_some()),
             freed,
             removed: done.removed,
             moved,
@@ -274,7 +265,7 @@ impl<'s> Source<'s> {
     }
 
     // A node after its children: a clean one stays; a dirty one takes the block chosen.
-    #[tactic(auto, using(crate::specs::laws::StepLaws::spaced_held, crate::specs::laws::TallyLaws::words_room))]
+    #[tactic(auto, using(crate::specs::laws::StepLaws::stepping, crate::specs::laws::TallyLaws::words_room))]
     fn write_node(
         self,
         image: &mut [u8],
@@ -307,6 +298,7 @@ impl<'s> Source<'s> {
     }
 
     // Children before parent and left to right, the depth falling with the level.
+    #[tactic(auto, using(crate::specs::laws::GoingLaws::leaf_wrote, crate::specs::laws::GoingLaws::leaf_fits))]
     fn write_from(
         self,
         image: &mut [u8],
@@ -383,19 +375,14 @@ fn short_of(v: View<'_, '_>, chunks: Chunks<'_>, next: u64) -> Result<(), Refusa
     let root = v.tree.root;
     let level = v.level_at(root);
     let most = chunks.usable();
-    let none = Wanted { dirty: 0, ids: 0 };
-    let wanted = count_from(v, root, level, most, none);
-    if most < wanted.dirty {
-        return Err(Refusal::Full);
-    }
-    if next.checked_add(wanted.ids).is_none() {
-        return Err(Refusal::Count);
-    }
-    Ok(())
+    let wanted = count_from(v, root, level, most, Wanted::default());
+    check(Refusal::Full, wanted.dirty <= most)?;
+    check(Refusal::Count, next.checked_add(wanted.ids).is_some())
 }
 
 impl<'s> Source<'s> {
     // Dead nodes listed, then the walk from the root. There are blocks, ids and room enough.
+    #[tactic(auto, using(crate::specs::laws::StepLaws::lists_same, crate::specs::laws::AllLaws::write_all_laws))]
     fn write_all(
         self,
         image: &mut [u8],
@@ -437,7 +424,7 @@ impl<'s> Source<'s> {
 }
 
 // Flush on slots that are trusted: 1 of chunks and lists; 16; 17. It refuses before it writes.
-#[tactic(auto, using(crate::specs::laws::CallLaws::refusing))]
+#[tactic(auto, using(crate::specs::laws::CallLaws::refusing, crate::specs::laws::StepLaws::spaced_held, crate::specs::laws::CallLaws::spaced_is))]
 pub fn flush_in(
     t: Tree,
     image: &mut [u8],
@@ -470,11 +457,10 @@ pub fn flush_in(
     let size = lent.size;
     let slots = lent.slots;
     let blocks = image.len() / size;
-    if !lists_hold(
+    let holds = lists_hold(
         bitmap, counts, free, freed, removed, ids, places, size, slots, blocks,
-    ) {
-        return Err(Refusal::Lent);
-    }
+    );
+    check(Refusal::Lent, holds)?;
     let v = View {
         tree: t,
         heads,
@@ -502,10 +488,7 @@ pub fn flush_in(
         places,
         done: Flushing {
             next,
-            freed: 0,
-            removed: 0,
-            moved: 0,
-            allocated: 0,
+            ..Flushing::default()
         },
     };
     Ok(source.write_all(image, bitmap, free, heads, &mut lists))
@@ -540,9 +523,10 @@ pub fn flush(
         bytes.now freed.old freed.new removed.old removed.new
         ids.old ids.new places.old places.new result }
 {
-    if !lent::lent_holds(t, image, heads, bytes, lent) {
-        return Err(Refusal::Lent);
-    }
+    check(
+        Refusal::Lent,
+        lent::lent_holds(t, image, heads, bytes, lent),
+    )?;
     flush_in(
         t, image, bitmap, counts, free, heads, bytes, freed, removed, ids, places, lent, xid, next,
     )

@@ -4,7 +4,7 @@ use Rattle.std.proofs.Math.Path.{refl, sym, ap}
 use Rattle.std.proofs.Common.{◌∙◌, mul_left_comm}
 use native.Mathlib.Omega.{arith}
 use Rattle.std.proofs.Math.ListN.{length}
-use borrow.Author.Tests.{le-leb, lt-leb, eq-eqb, ne_eqb, eqb-true, eqb-false, leb-true, ltb-true, ltb-false, not-true, not-false}
+use borrow.Author.Tests.{le-leb, lt-leb, eq-eqb, ne_eqb, eqb-true, eqb-false, leb-true, leb-false, ltb-true, ltb-false, not-true, not-false}
 use Rattle.tree.specs.Format.{child_number}
 use Rattle.tree.specs.State.{State, node_at}
 use Rattle.tree.specs.Workspace.{nodes_of, state_of}
@@ -23,7 +23,8 @@ use Rattle.flush.specs.laws.ListLaws.{numbers_length, pairs_length, numbers_take
 use Rattle.flush.specs.laws.WalkLaws.{with_removed, write_removed}
 use Rattle.flush.specs.laws.WriteLaws.{number_same}
 use Rattle.flush.specs.laws.OutcomeLaws.{dirty_reached_lem, ids_wanted_lem}
-use Rattle.std.specs.Prelude.{Ok, Err, Option, Some, None, is_some, SomeIff, ltb}
+use Rattle.std.specs.Prelude.{Ok, Err, Option, Some, None, is_some, MatchResult, SomeIff, ltb, ⊤}
+use Rattle.std.specs.Prelude as std
 use Rattle.tree.specs.Refusals as refusal
 
 -- ---- 1 of chunks and lists
@@ -95,15 +96,6 @@ usable_few size p r h e =
     let q : length p.counts * (8 * size) ≡ 8 * (length p.counts * size) = mul_left_comm (length p.counts) 8 size in
     omega (arith, h.mapped, h.few)
 
--- a sum past the last number, and one that is not
-past_most : (a : ℕ) (o : Option ℕ) (k : Bool) → SomeIff o (a < 2 ^ 64) a → is_some o ≡ not k → k ≡ true → 2 ^ 64 ≤ a
-past_most a None k s e q = by_test (ltb a (2 ^ 64)) (λ t. absurd (s (ltb-true a (2 ^ 64) t))) (λ t. ltb-false a (2 ^ 64) t)
-past_most a (Some y) k s e q = never refl (e ∙ ap not q)
-
-within_most : (a : ℕ) (o : Option ℕ) (k : Bool) → SomeIff o (a < 2 ^ 64) a → is_some o ≡ not k → k ≡ false → a < 2 ^ 64
-within_most a None k s e q = never (e ∙ ap not q) refl
-within_most a (Some y) k s e q = s.0
-
 module _ (size : ℕ) (t : Tree) (heads bytes : List ℕ) (u next level : ℕ) (x : Wanted)
     (el : level ≡ (node_at (state_of size t heads bytes) t.root).level)
     (c : Counted u (sum_from dirty_one level (state_of size t heads bytes) t.root) (sum_from (id_one t.by_id) level
@@ -120,26 +112,32 @@ module _ (size : ℕ) (t : Tree) (heads bytes : List ℕ) (u next level : ℕ) (
   unfolding state_of
   ids_are = rw el (ids_wanted_lem s)
 
-  pub short_full : u < x.dirty → Err refusal.Full ≡ short_of (state_of size t heads bytes) v next
+  pub short_full : (y : refusal.Refusal) → (leb x.dirty u ≡ false) × (y ≡ refusal.Full) → Err y ≡ short_of (state_of size t heads bytes) v next
   unfolding short_of
-  short_full h = rw (← ev, lt-leb (dirty_reached s) u (omega (arith, c.over h, nodes_are)))
+  short_full y (h, e) =
+      let k : u < x.dirty = leb-false x.dirty u h in
+      rw (e, ← ev, lt-leb (dirty_reached s) u (omega (arith, c.over k, nodes_are)))
 
-  module _ (h : x.dirty ≤ u) where
+  module _ (h : leb x.dirty u ≡ true) where
+    few : x.dirty ≤ u
+    few = leb-true x.dirty u h
+
     few_so : leb (dirty_reached s) u ≡ true
-    few_so = le-leb (dirty_reached s) u (omega (arith, c.nodes h, nodes_are))
+    few_so = let k : x.dirty ≤ u = few in le-leb (dirty_reached s) u (omega (arith, c.nodes few, nodes_are))
 
-    module _ (o : Option ℕ) (k : Bool) (eo : SomeIff o (next + x.ids < 2 ^ 64) (next + x.ids)) (ek : is_some o ≡ not k) where
-      pub short_count : k ≡ true → Err refusal.Count ≡ short_of (state_of size t heads bytes) v next
-      unfolding short_of
-      short_count q =
-          let z = past_most (next + x.ids) o k eo ek q in
-          rw (← ev, few_so, lt-leb (next + ids_wanted s) (2 ^ 64 - 1) (omega (arith, c.ids h, ids_are)))
-
-      pub short_none : k ≡ false → Ok tt ≡ short_of (state_of size t heads bytes) v next
-      unfolding short_of
-      short_none q =
-          let z = within_most (next + x.ids) o k eo ek q in
-          rw (← ev, few_so, le-leb (next + ids_wanted s) (2 ^ 64 - 1) (omega (arith, c.ids h, ids_are)))
+    -- the sum of the ids is there where it is a number
+    pub short_rest : (o : Option ℕ) (k : Bool) (r : std.Result ⊤ refusal.Refusal) → SomeIff o (next + x.ids < 2 ^ 64) (next + x.ids)
+        → k ≡ is_some o → MatchResult r (λ (_ : ⊤). k ≡ true) (λ (y : refusal.Refusal). (k ≡ false) × (y ≡ refusal.Count))
+        → r ≡ short_of (state_of size t heads bytes) v next
+    unfolding short_of
+    short_rest None k (Ok z) o e m = never (sym e ∙ m) refl
+    short_rest None k (Err y) o e (m, n) =
+        by_test (ltb (next + x.ids) (2 ^ 64))
+        (λ q. absurd (o (ltb-true (next + x.ids) (2 ^ 64) q)))
+        (λ q. let z = ltb-false (next + x.ids) (2 ^ 64) q in
+        rw (n, ← ev, few_so, lt-leb (next + ids_wanted s) (2 ^ 64 - 1) (omega (arith, c.ids few, ids_are))))
+    short_rest (Some a) k (Ok z) o e m = rw (← ev, few_so, le-leb (next + ids_wanted s) (2 ^ 64 - 1) (omega (arith, o.0, c.ids few, ids_are)))
+    short_rest (Some a) k (Err y) o e (m, n) = never (sym m ∙ e) refl
 
 -- ---- the walk from the root
 
@@ -269,3 +267,5 @@ all_left size slots t next heads heads' bytes fs fs' fs'' rs rs' is is' ps ps' w
     }
 
 pub ruleset listing = (lists_space, lists_freed, lists_removed, lists_ids, lists_places)
+
+pub ruleset write_all_laws = (all_flushed_lem, all_left)

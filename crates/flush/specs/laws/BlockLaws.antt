@@ -1,5 +1,6 @@
 -- Laws of a node in the block chosen for it: the image, the lists, the slots after it. Assumes nothing.
-use Rattle.std.specs.Prelude.{◌≡◌, refl, Bool, ◌&&◌, get_or, take, drop, Option, option_to_list}
+use Rattle.std.specs.Prelude.{◌≡◌, refl, Bool, true, false, ◌&&◌, get_or, take, drop, Option, Some, None, is_some, option_to_list}
+use Rattle.std.specs.Option.{option_or}
 use Rattle.std.specs.Bool.{then_some}
 use Rattle.std.specs.Int.{from_bool}
 use Rattle.std.proofs.Math.Path.{sym, ap, ap₂}
@@ -81,15 +82,29 @@ flushing_same : (i i' : List ℕ) (p : Space) (ns ns' : List MemNode) (n n' : �
     (record { image = i'; space = p; nodes = ns'; next = n'; freed = f'; removed = r; moved = m'; allocated = a' })
 flushing_same i i' p ns ns' n n' f f' r m m' a a' e1 e2 e3 e4 e5 e6 = rw (e1, e2, e3, e4, e5, e6)
 
+-- the next id where there is none: a node that has one takes none
+fresh_id : (own : Option ℕ) (v : Bool) (x : ℕ)
+    → option_to_list (option_or own (then_some (v && eqb (length (option_to_list own)) 0) x))
+    ≡ cond (v && eqb (length (option_to_list own)) 0) (x ∷ []) (option_to_list own)
+fresh_id None true x = refl
+fresh_id None false x = refl
+fresh_id (Some y) true x = refl
+fresh_id (Some y) false x = refl
+
+fresh_count : (b : Bool) (x : ℕ) → from_bool (is_some (then_some b x)) ≡ from_bool b
+fresh_count true x = refl
+fresh_count false x = refl
+
 module _ (size slots xid n a : ℕ) (t : Tree) (image image' heads heads' bytes fs fs' is is' ps ps' : List ℕ) (w : code.Flushing)
     (st : Standing size slots t heads bytes) (hd : Dirty size t heads bytes n) (h : Head) (eh : h ≡ live (head_at heads n))
-    (own id old o o' : Option ℕ) (new : Bool) (oid k f m m' : ℕ) (ew : option_to_list own ≡ marked h.named h.id)
-    (en : new ≡ t.by_id && eqb (length (option_to_list own)) 0) (ei : option_to_list id ≡ cond new (w.next ∷ []) (option_to_list own))
+    (own fresh id old o o' : Option ℕ) (new is_new : Bool) (oid k f m m' : ℕ) (ew : option_to_list own ≡ marked h.named h.id)
+    (en : new ≡ t.by_id && eqb (length (option_to_list own)) 0) (ef : fresh ≡ then_some new w.next) (ei : id ≡ option_or own fresh)
     (eo : oid ≡ cond t.by_id (only (option_to_list id)) a) (el : option_to_list old ≡ marked h.placed h.block)
     (pf : Pushed w.freed (option_to_list old) fs fs' f) (em : image' ≡ packed_at (state_of size t heads bytes) xid n a oid image)
     (es : heads' ≡ splice heads (n * 9) (head_words (written_head (head_at heads n) a id)))
     (e1 : o ≡ then_some t.by_id oid) (e2 : o' ≡ then_some t.by_id a) (pi : Pushed w.moved (option_to_list o) is is' m)
-    (pp : Pushed w.moved (option_to_list o') ps ps' m') (ek : k ≡ from_bool new) where
+    (pp : Pushed w.moved (option_to_list o') ps ps' m') (et : is_new ≡ is_some fresh)
+    (ek : k ≡ from_bool is_new) where
   node_is : get_or (nodes_of size heads bytes t.used) n no_node ≡ node_in size heads bytes n
   node_is = node_at_lem size heads bytes t.used n hd.alive.used
 
@@ -121,10 +136,11 @@ module _ (size slots xid n a : ℕ) (t : Tree) (image image' heads heads' bytes 
   new_is = en ∙ ap (λ (l : List ℕ). t.by_id && eqb (length l) 0) held_is
 
   count_is : k ≡ cond (t.by_id && eqb (length held) 0) 1 0
-  count_is = ek ∙ bool_number new ∙ ap (λ (b : Bool). cond b 1 0) new_is
+  count_is = rw (ek, et, ef, fresh_count new w.next) (bool_number new) ∙ ap (λ (b : Bool). cond b 1 0) new_is
 
   list_is : option_to_list id ≡ cond (t.by_id && eqb (length held) 0) (w.next ∷ []) held
-  list_is = ei ∙ ap₂ (λ (b : Bool) (l : List ℕ). cond b (w.next ∷ []) l) new_is held_is
+  list_is = rw (ei, ef, en) (fresh_id own t.by_id w.next)
+      ∙ ap (λ (l : List ℕ). cond (t.by_id && eqb (length l) 0) (w.next ∷ []) l) held_is
 
   oid_is : oid ≡ cond t.by_id (only (cond (t.by_id && eqb (length held) 0) (w.next ∷ []) held)) a
   oid_is = eo ∙ ap (λ (l : List ℕ). cond t.by_id (only l) a) list_is
@@ -176,11 +192,16 @@ module _ (size n : ℕ) (t : Tree) (heads bytes fs is ps : List ℕ) (w : code.F
   pub room_places : (x : ℕ) (o : Option ℕ) → o ≡ then_some t.by_id x → w.moved + length (option_to_list o) ≤ length ps
   room_places x o e = omega (arith, some_length t.by_id x o e, r.places)
 
-  pub room_next : (own : Option ℕ) (new : Bool) (k : ℕ) → option_to_list own ≡ marked h.named h.id
-      → new ≡ t.by_id && eqb (length (option_to_list own)) 0 → k ≡ from_bool new → w.next + k < 2 ^ 64
+  pub room_next : (own fresh : Option ℕ) (new is_new : Bool) (x k : ℕ) → option_to_list own ≡ marked h.named h.id
+      → new ≡ t.by_id && eqb (length (option_to_list own)) 0 → fresh ≡ then_some new x → is_new ≡ is_some fresh → k ≡ from_bool is_new
+      → w.next + k < 2 ^ 64
   unfolding node_in node_of live
-  room_next own new k e f g = rw (g, bool_number new, f, e, eh) r.next
+  room_next own fresh new is_new x k e f g i j = rw (j, i, g, fresh_count new x, bool_number new, f, e, eh) r.next
 
   -- room for one more, and for as many as are moved: a wrong count is refused for what it says, not for its size
   pub room_allocated : (w.allocated + 1 < 2 ^ 64) × (w.allocated + from_bool t.by_id < 2 ^ 64)
   room_allocated = (r.allocated, by_test t.by_id (λ q. rw q (omega (arith, r.allocated))) (λ q. rw q (omega (arith, r.allocated))))
+
+pub ruleset packing = (start_small, lent_long, packed_image)
+
+pub ruleset writing = (room_ids, room_places, room_allocated)

@@ -8,7 +8,7 @@ use Prim.Native.Nat.{ℕ, ◌+◌, ◌-◌, ◌*◌, ◌/◌, ◌%◌, ◌≤◌
 use native.Mathlib.Omega.{arith}
 use Rattle.std.proofs.Math.ListN.{length}
 use Rattle.std.proofs.Math.Dec.{eqb}
-use borrow.Author.Tests.{leb-true, eqb-true, ltb-true, ltb-false, not-true, not-false}
+use borrow.Author.Tests.{leb-true, eqb-true, ltb-true, ltb-false, not-false}
 use Rattle.tree.specs.Format.{Result, ok, Entry, mem, ghost, val_at, MemNode, head_at, node_of, fits}
 use Rattle.tree.specs.Refusals as refusal
 use Rattle.tree.specs.Lent.{Lent, is_size, blocks, sizes_hold, lent_of}
@@ -25,7 +25,7 @@ use Rattle.tree.specs.laws.state.Hold.{live_at}
 use Rattle.tree.specs.laws.slots.Tree.{used_nodes, node_in_lem, node_out}
 use Rattle.tree.specs.laws.trust.Stands.{trusted_of, stands_used}
 use Rattle.tree.specs.laws.room.Way.{trusted_linked}
-use Rattle.tree.specs.laws.refusal1.Ready.{numbers_sized, called_refused, called_passed}
+use Rattle.tree.specs.laws.refusal1.Ready.{numbers_sized, called_trusted, called_refused, called_passed}
 use Rattle.tree.specs.laws.refusal1.Roomy.{roomy_holds, holds_roomy}
 use Rattle.flush.specs.Space.{Space, usable, space_holds}
 use Rattle.flush.specs.Flush.{Flushed, Lists, dirty_reached, ids_wanted, flushed, lists_hold, flush_in, flush}
@@ -144,15 +144,15 @@ module _ (l : lending.Lent) (t : Tree) (image heads bytes : List ℕ) (r : Ready
 
   module _ (p : Space) (fs rs is ps : List ℕ) (k : Bool)
       (e : k ≡ space_holds l.size (length image / l.size) p && lists_hold l.slots (lists_of fs rs is ps)) where
-    pub in_lent : (xid next : ℕ) (image' heads' fs' rs' is' ps' : List ℕ) (p' : Space) → not k ≡ true
+    pub in_lent : (xid next : ℕ) (image' heads' fs' rs' is' ps' : List ℕ) (p' : Space) → k ≡ false
         → flushed_means l.size t image' p' heads' bytes fs' rs' is' ps' (Err refusal.Lent)
         ≡ flush_in (lent_of image l) p (lists_of fs rs is ps) (state_of l.size t heads bytes) xid next
     unfolding flushed_means flush_in lent_of blocks
-    in_lent xid next image' heads' fs' rs' is' ps' p' q = rw (sym e ∙ not-true k q)
+    in_lent xid next image' heads' fs' rs' is' ps' p' q = rw (sym e ∙ q)
 
-    module _ (q : not k ≡ false) where
+    module _ (q : k ≡ true) where
       both : (space_holds l.size (length image / l.size) p ≡ true) × (lists_hold l.slots (lists_of fs rs is ps) ≡ true)
-      both = and_split (space_holds l.size (length image / l.size) p) (lists_hold l.slots (lists_of fs rs is ps)) (sym e ∙ not-false k q)
+      both = and_split (space_holds l.size (length image / l.size) p) (lists_hold l.slots (lists_of fs rs is ps)) (sym e ∙ q)
 
       pub spaced_is : Spaced l.size (length image / l.size) p
       spaced_is = record { whole = sizes.0; few = sizes.1; holds = both.0 }
@@ -171,7 +171,7 @@ module _ (l : lending.Lent) (t : Tree) (image heads bytes : List ℕ) (r : Ready
 
       module _ (xid next : ℕ) (x : std.Result ⊤ refusal.Refusal) (ex : x ≡ short_of (state_of l.size t heads bytes) (usable l.size p) next) where
         passed : space_holds l.size (length image / l.size) p && lists_hold l.slots (lists_of fs rs is ps) ≡ true
-        passed = sym e ∙ not-false k q
+        passed = sym e ∙ q
 
         pub in_short : (y : refusal.Refusal) → x ≡ Err y → (image' heads' fs' rs' is' ps' : List ℕ) (p' : Space)
             → flushed_means l.size t image' p' heads' bytes fs' rs' is' ps' (Err y)
@@ -275,6 +275,6 @@ module _ (l : lending.Lent) (t : Tree) (image heads bytes : List ℕ) (k : Bool)
           (state_of l.size t heads' bytes) h.2 (holds_roomy l.size l.slots t heads bytes r held)),
     )
 
-pub ruleset refusing = (slots_some, in_lent, untouched)
+pub ruleset refusing = (slots_some, in_lent, in_short, untouched, standing_is, root_alive, all_fits)
 
-pub ruleset unlent = (untouched, flush_refused)
+pub ruleset unlent = (untouched, called_trusted, flush_refused)

@@ -23,7 +23,7 @@ use Rattle.flush.specs.internal.Lists.{numbers_of}
 use Rattle.flush.specs.internal.Walk.{flushing_of, Alive, Dirty, Standing, Spaced, Alike, Fitting, Room, Left, WroteAt, Same, SameLists, Listed, Kept}
 use Rattle.flush.specs.declared.flush.Reports.{Reports}
 use Rattle.std.specs.Borrow.{MutBor}
-use Rattle.flush.specs.laws.ListLaws.{numbers_length, pairs_length, past_refl, past_on, places_start, names_start}
+use Rattle.flush.specs.laws.ListLaws.{numbers_length, pairs_length, past_refl, past_on, past_push, dead_room, push_most, places_start, names_start, places_kept, names_kept}
 use Rattle.std.specs.Prelude.{Option, Some, None}
 use Rattle.flush.specs.declared.space.Choice as chosen_by
 
@@ -238,4 +238,6 @@ module _ (size xid n : ℕ) (t : Tree) (image heads bytes fs is ps : List ℕ) (
               allocated = room_allocated g;
             }
 
-pub ruleset starting = (past_refl, places_start, names_start, same_refl)
+pub ruleset listing_dead = (past_refl, dead_room, push_most, past_push, places_start, names_start, places_kept, names_kept, same_refl)
+
+pub ruleset stepping = (kept_refl, left_same, spaced_held, spaced_after, node_clean, node_full)

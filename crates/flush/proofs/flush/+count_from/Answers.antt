@@ -28,13 +28,6 @@ loop-r-preserved-in_default t c =
     let k = rw s.slot at c.kid_of.ensures in
     record { same = rw s.records v.same; counted = rw (s.next, s.records) (count_skip _ _ _ _ _ _ _ _ _ _ _ s.within p _ k v.counted (search rules)) }
 
-pub count_from-sum-requires : goal.count_from-sum-requires
-count_from-sum-requires t c =
-    let v = c.loop-r.invariant in (
-      omega (arith, c.if-d-eq0.false, c.decreases),
-      (v.counted.most, v.counted.few, c.requires.2),
-    )
-
 pub loop-r-preserved : goal.loop-r-preserved
 loop-r-preserved t c =
     let v = c.loop-r.invariant in

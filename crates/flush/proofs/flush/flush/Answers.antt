@@ -1,22 +1,18 @@
 use Rattle.flush.specs.laws.CallLaws.{flush_passed, flush_leaves}
-use Rattle.tree.specs.laws.refusal1.Ready.{called_ready, called_trusted}
+use Rattle.tree.specs.laws.refusal1.Ready.{called_ready}
 use Rattle.flush.specs.Space.{space_of}
 use Rattle.std.proofs.Common.{ap}
 use mathlib.Core.Bool.{not}
 use Rattle.flush.proofs.flush.flush.Goals as goal
 
-pub flush_in-requires : goal.flush_in-requires
-flush_in-requires c =
-    let a = c.args in
-    let e = c.lent_holds.ensures in
-    let q = ap not c.if-not-lent_holds.false in
-    record { ready = called_ready _ a.lent a.t _ _ _ e q; bytes_value = called_trusted _ a.lent a.t _ _ _ e q }
+pub flush_in-requires-clause-ready : goal.flush_in-requires-clause-ready
+flush_in-requires-clause-ready c = let a = c.args in called_ready _ a.lent a.t _ _ _ c.lent_holds.ensures (ap not c.in_ok-check.ensures)
 
 pub returns : goal.returns
 returns c =
     let a = c.args in
     let e = c.lent_holds.ensures in
-    let q = ap not c.if-not-lent_holds.false in
+    let q = ap not c.in_ok-check.ensures in
     let y = c.flush_in in
     let x = y.ensures in
     record {

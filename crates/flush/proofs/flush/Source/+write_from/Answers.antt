@@ -1,20 +1,7 @@
 use Rattle.std.proofs.Common.{arith, rules, refl, sym, ap, ◌∙◌}
-use Rattle.flush.specs.laws.GoingLaws.{leaf_wrote, leaf_fits, go_start, go_skip, go_turn, go_alive, go_fits, end_alive, end_fits, end_wrote, end_left}
+use Rattle.flush.specs.laws.GoingLaws.{go_start, go_skip, go_turn, go_alive, go_fits, end_alive, end_fits, end_wrote, end_left}
 use Rattle.flush.specs.laws.StepLaws.{kept_refl, kept_on, spaced_same, fitting_same}
 use Rattle.flush.proofs.flush.Source.+write_from.Goals as goal
-
-pub write_node-requires : goal.write_node-requires
-write_node-requires t c =
-    let p = c.requires in
-    record { standing = p.standing; alive = p.alive; chunks = p.chunks; fitting = leaf_fits _ _ _ _ _ _ _ _ c.if-d-eq0.true p.fitting }
-
-pub returns-then-d-eq0 : goal.returns-then-d-eq0
-returns-then-d-eq0 t c =
-    let e = c.write_node.ensures in
-    record { wrote = leaf_wrote _ _ _ _ _ c.if-d-eq0.true _ e.wrote; left = e.left; spaced = e.spaced; kept = e.kept }
-
-pub invariant_of-view : goal.invariant_of-view
-invariant_of-view t c = record { ready = c.requires.standing.ready }
 
 pub loop-r-init : goal.loop-r-init
 loop-r-init t c =
