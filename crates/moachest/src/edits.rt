@@ -10,7 +10,8 @@ ghost use Rattle.tree.specs.Trusts.{Trusts, EditedCalled, RemovedCalled};
 ghost use Rattle.moachest.specs.Words.{tree_of, on_tree, on_words};
 ghost use Rattle.moachest.specs.Answers.{returned, edited_tree, edited_back, removed_tree, removed_answer, removed_back};
 
-use crate::{answers, words};
+use crate::answers::Answer;
+use crate::words;
 use tree::lent::Lent;
 use tree::refusal::Refusal;
 
@@ -91,7 +92,7 @@ pub fn remove(
     let t = words::load_for(tree, answer)?;
     let (t, there) = t.remove(image, heads, bytes, scratch, lent, key)?;
     words::store(tree, t);
-    answers::put_removed(answer, there);
+    there.put(answer);
     Ok(())
 }
 
@@ -124,7 +125,7 @@ pub fn remove_trusted(
     let t = words::load_for(tree, answer)?;
     let (t, there) = t.remove_in(image, heads, bytes, lent, key, scratch)?;
     words::store(tree, t);
-    answers::put_removed(answer, there);
+    there.put(answer);
     Ok(())
 }
 

@@ -11,7 +11,8 @@ ghost use Rattle.flush.specs.internal.Calls.{FlushCalled};
 ghost use Rattle.moachest.specs.Words.{tree_of, on_words};
 ghost use Rattle.moachest.specs.Answers.{returned, flushed_answer, flushed_back};
 
-use crate::{answers, words};
+use crate::answers::Answer;
+use crate::words;
 use tree::lent::Lent;
 use tree::refusal::Refusal;
 
@@ -50,7 +51,7 @@ pub fn flush(
     let flushed = flush::flush::flush(
         t, image, bitmap, counts, free, heads, bytes, freed, removed, ids, places, lent, xid, next,
     )?;
-    answers::put_flushed(answer, flushed);
+    flushed.put(answer);
     Ok(())
 }
 
@@ -94,6 +95,6 @@ pub fn flush_trusted(
     let flushed = flush::flush::flush_in(
         t, image, bitmap, counts, free, heads, bytes, freed, removed, ids, places, lent, xid, next,
     )?;
-    answers::put_flushed(answer, flushed);
+    flushed.put(answer);
     Ok(())
 }

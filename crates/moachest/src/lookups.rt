@@ -8,7 +8,8 @@ ghost use Rattle.tree.specs.Trusts.{Trusts, OpenedTrusts, GotCalled, FloorCalled
 ghost use Rattle.moachest.specs.Words.{tree_of, on_tree, on_words};
 ghost use Rattle.moachest.specs.Answers.{returned, opened_tree, opened_back, got_tree, got_answer, got_back, floored_tree, floored_answer, floored_back, ranged_tree, ranged_answer, ranged_back};
 
-use crate::{answers, words};
+use crate::answers::Answer;
+use crate::words;
 use node::order::Order;
 use tree::lent::Lent;
 use tree::lookup;
@@ -66,13 +67,13 @@ pub fn get(
     let t = words::load_for(tree, answer)?;
     let (t, copied) = t.get(image, heads, bytes, lent, key, out)?;
     words::store(tree, t);
-    answers::put_copied(answer, copied);
+    copied.put(answer);
     Ok(())
 }
 
 // As the call above, without its tests of what is lent (1). It trusts that `tree`, `heads` and `bytes` are as open or a trusted call on them left
 // them, with the same image and numbers, and leaves them so again. Words that are too few are still refused.
-#[tactic(auto, using(crate::specs::laws::CallLaws::got), unfolding(crate::specs::Answers::got_tree, crate::specs::Answers::got_answer))]
+#[tactic(auto, using(crate::specs::laws::QuickLaws::get_trusted_laws), unfolding(crate::specs::Answers::got_tree, crate::specs::Answers::got_answer))]
 pub fn get_trusted(
     tree: &mut [u64],
     image: &[u8],
@@ -109,13 +110,13 @@ pub fn get_trusted(
     if let Some(leaf) = view.leaf_of(key) {
         if words::as_stored(tree) {
             let copied = view.copy_out(leaf, key, out)?;
-            answers::put_copied(answer, copied);
+            copied.put(answer);
             return Ok(());
         }
     }
     let (t, copied) = t.get_in(image, heads, bytes, lent, key, out)?;
     words::store(tree, t);
-    answers::put_copied(answer, copied);
+    copied.put(answer);
     Ok(())
 }
 
@@ -145,7 +146,7 @@ pub fn floor(
     let t = words::load_for(tree, answer)?;
     let (t, found) = t.floor(image, heads, bytes, lent, key, out)?;
     words::store(tree, t);
-    answers::put_found(answer, found);
+    found.put(answer);
     Ok(())
 }
 
@@ -180,7 +181,7 @@ pub fn floor_trusted(
     let t = words::load_for(tree, answer)?;
     let (t, found) = t.floor_in(image, heads, bytes, lent, key, out)?;
     words::store(tree, t);
-    answers::put_found(answer, found);
+    found.put(answer);
     Ok(())
 }
 
@@ -212,7 +213,7 @@ pub fn range(
     let t = words::load_for(tree, answer)?;
     let ranged = t.range(image, heads, bytes, lent, lo, hi, out)?;
     words::store(tree, ranged.tree);
-    answers::put_ranged(answer, ranged);
+    ranged.put(answer);
     Ok(())
 }
 
@@ -249,6 +250,6 @@ pub fn range_trusted(
     let t = words::load_for(tree, answer)?;
     let ranged = t.range_in(image, heads, bytes, lent, lo, hi, out)?;
     words::store(tree, ranged.tree);
-    answers::put_ranged(answer, ranged);
+    ranged.put(answer);
     Ok(())
 }

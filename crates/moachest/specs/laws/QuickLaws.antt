@@ -20,6 +20,7 @@ use Rattle.tree.specs.declared.editor.Tree.{Tree}
 use Rattle.tree.specs.declared.get.Copied.{Copied}
 use Rattle.tree.specs.declared.lent.Lent.{Lent}
 use Rattle.moachest.specs.Words.{yes, mark, info_of, tree_of, words_of, stored}
+use Rattle.moachest.specs.laws.CallLaws.{got}
 
 mark_small : (k : ℕ) → k < 2 → mark (yes k) ≡ k
 mark_small k h =
@@ -65,3 +66,5 @@ module _ (image heads bytes k : List ℕ) (l : Lent) (t : Tree) (p : Trusts imag
       → got_means l.size heads bytes out g ≡ got_at (state_of l.size t heads bytes) room m k
       → ReadyGot l.size l.slots heads bytes g → GotCalled image l t heads bytes heads bytes g
   quick_left out room g e r = got_left image l t heads bytes p k out room g (e ∙ quick_is room) r
+
+pub ruleset get_trusted_laws = (trusts_loaded, quick_suits, quick_is, got)
