@@ -7,12 +7,12 @@ use node::head::Head;
 use node::info::BTreeInfo;
 use node::order::Order;
 use node::pack;
-use node::slot::Records;
 use seal::obj::{OBJ_PHYSICAL, OBJECT_TYPE_BTREE, OBJECT_TYPE_OMAP};
 use tree::editor::Tree;
 use tree::lent::Lent;
+use tree::mapped::Blocks;
 use tree::refusal::Refusal;
-use tree::{lent, lookup, map};
+use tree::{lent, lookup};
 
 const SIZE: usize = 512;
 
@@ -61,9 +61,7 @@ pub fn empty(each: u64) -> BTreeInfo
 
 // The key or value of two numbers.
 fn pair(a: u64, b: u64) -> [u8; 16] {
-    let mut out = [0; 16];
-    Order::pair_key(&mut out, a, b);
-    out
+    Order::pair_key(a, b)
 }
 
 // What is lent to the calls. One for `dock` too would be a library, whose contracts would say again what those of the calls say.
@@ -96,7 +94,6 @@ impl Desk {
     }
 
     // An empty root leaf at block 0, opened.
-    #[tactic(auto, using(node::specs::laws::fit::Fit::fits_none), unfolding(node::specs::Records::entries_of, node::specs::Records::records_length))]
     fn begin(&mut self, info: BTreeInfo, order: Order) -> Result<Tree, Refusal>
         requires size { info.node_size ≡ 512 }
         requires tree { Sized info }
@@ -111,11 +108,7 @@ impl Desk {
             info,
         };
         self.image = [0; IMAGE];
-        let none = Records {
-            slot: &[0; 8],
-            count: 0,
-        };
-        pack::pack(&mut self.image, none, &[0; 9], false, root);
+        pack::pack_empty(&mut self.image, root);
         lookup::open(
             &self.image,
             &mut self.heads,
@@ -188,7 +181,11 @@ impl Desk {
             map: Some(root),
             ..LENT
         };
-        map::address_of(&self.image, lent, xid, id)
+        Blocks {
+            image: &self.image,
+            lent,
+        }
+        .address_of(xid, id)
     }
 
     // The level of a tree's root.

@@ -5,7 +5,6 @@ use node::build::NodeBuild;
 use node::info::BTreeInfo;
 use node::order::Order;
 use node::pack;
-use node::slot::Records;
 use script::out::Out;
 use seal::obj::{OBJ_PHYSICAL, OBJECT_TYPE_BTREE, OBJECT_TYPE_OMAP};
 use tree::editor::Tree;
@@ -109,17 +108,12 @@ impl Desk {
     }
 
     // An image with an empty tree, and its block accounts: block 0 is used, no other is.
-    #[tactic(auto, using(node::specs::laws::fit::Fit::fits_none), unfolding(node::specs::Records::entries_of, node::specs::Records::records_length))]
     fn make(&mut self, out: &mut Out) {
         self.image = [0; IMAGE];
         self.bitmap = [0; SIZE];
         self.bitmap[0] = 1;
         self.free = [BLOCKS - 1];
-        let none = Records {
-            slot: &[0; 8],
-            count: 0,
-        };
-        pack::pack(&mut self.image, none, &[0; 9], false, EMPTY);
+        pack::pack_empty(&mut self.image, EMPTY);
         out.two(b"image", BLOCKS as u64, SIZE as u64);
         self.open(0, 0);
     }

@@ -1,6 +1,6 @@
 // What calls answer: records, and parts of a text as byte strings.
-use node::record;
 use node::record::Record;
+use node::val::{Child, Val};
 use script::out::Out;
 
 // The bytes of a part; nothing where it does not lie there.
@@ -10,17 +10,21 @@ pub fn part(o: &mut Out, s: &[u8], from: usize, to: usize) {
     }
 }
 
-// The key and the value of a text's first record, or that it has none, and the text behind it; nothing where no whole
-// record starts the text.
-pub fn record<'a>(o: &mut Out, found: &'a [u8]) -> Option<&'a [u8]> {
-    let r = Record::at(found, 0)?.parts();
-    part(o, found, r.key, r.value);
-    if r.mark == record::GHOST {
-        o.text(b" -");
-    } else {
-        part(o, found, r.value, r.next);
+// A key and its value, or that it has none.
+pub fn entry(o: &mut Out, key: &[u8], value: Val) {
+    o.bytes(key);
+    match value {
+        Val::Ghost => o.text(b" -"),
+        Val::Leaf(value) => o.bytes(value),
+        Val::Child(child) => o.bytes(&child.number().to_le_bytes()),
     }
-    found.get(r.next..)
+}
+
+// The entry of a text's first record, and the text behind it; nothing where no whole record starts the text.
+pub fn record<'a>(o: &mut Out, found: &'a [u8]) -> Option<&'a [u8]> {
+    let r = Record::at(found, 0)?;
+    entry(o, r.key(), r.value());
+    found.get(r.next()..)
 }
 
 // So many records, one after another.

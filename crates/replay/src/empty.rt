@@ -7,7 +7,6 @@ use crate::state::State;
 use node::build::NodeBuild;
 use node::info::BTreeInfo;
 use node::pack;
-use node::slot::Records;
 use seal::obj::{OBJ_PHYSICAL, OBJ_VIRTUAL, OBJECT_TYPE_BTREE};
 
 // Where nodes have their ids from.
@@ -52,17 +51,12 @@ impl Root {
     }
 
     // Packs it, a node with no entries, which fits a block of any size that a node has.
-    #[tactic(auto, using(node::specs::laws::fit::Fit::fits_none), unfolding(node::specs::Records::entries_of, node::specs::Records::records_length))]
     fn pack(self, block: &mut [u8]) -> Result<(), Fault> {
         let size = block.len();
         if !(512..=65536).contains(&size) {
             return Err(Fault::NotTaken);
         }
         let info = self.info(size);
-        let none = Records {
-            slot: &[0; 8],
-            count: 0,
-        };
         // A physical root's id is its address.
         let (oid, otype) = match self.storage {
             Storage::Physical => (self.address, OBJ_PHYSICAL | OBJECT_TYPE_BTREE),
@@ -77,7 +71,7 @@ impl Root {
             root: true,
             info,
         };
-        pack::pack(block, none, &[0; 9], false, build);
+        pack::pack_empty(block, build);
         Ok(())
     }
 }

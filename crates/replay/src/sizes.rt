@@ -1,8 +1,7 @@
 // How much of the memory an image and the slots take.
-ghost use Rattle.std.specs.Prelude.{◌≡◌, ◌+◌, min};
-ghost use Rattle.script.specs.Number.{most, product};
+ghost use Rattle.std.specs.Prelude.{◌≡◌, ◌+◌, ◌*◌, min};
+ghost use Rattle.script.specs.Number.{most};
 
-use script::number;
 use tree::lent;
 use tree::lent::Lent;
 
@@ -33,9 +32,9 @@ impl Sizes {
 
     // Blocks of a chunk: a bit each in a block.
     pub fn chunk(self) -> usize
-        ensures { result ≡ product 8 self.size }
+        ensures { result ≡ min (self.size * 8) most }
     {
-        number::times(8, self.size)
+        self.size.saturating_mul(8)
     }
 
     // Chunks of the bitmap.
@@ -50,37 +49,38 @@ impl Sizes {
 
     // Bytes of the bitmap: a block a chunk.
     pub fn bitmap_bytes(self) -> usize {
-        number::times(self.chunks(), self.size)
+        self.chunks().saturating_mul(self.size)
     }
 
     // Bytes of the image.
     pub fn image_bytes(self) -> usize
-        ensures { result ≡ product self.blocks self.size }
+        ensures { result ≡ min (self.blocks * self.size) most }
     {
-        number::times(self.blocks, self.size)
+        self.blocks.saturating_mul(self.size)
     }
 
     // Words of the slots.
     pub fn head_words(self) -> usize
-        ensures { result ≡ product self.slots 19 }
+        ensures { result ≡ min (self.slots * 19) most }
     {
-        number::times(self.slots, lent::WORDS_EACH)
+        self.slots.saturating_mul(lent::WORDS_EACH)
     }
 
     // Bytes of the slots and their shadows.
     pub fn slot_bytes(self) -> usize
-        ensures { result ≡ product self.slots (product 8 self.size) }
+        ensures { result ≡ min (self.slots * min (self.size * 8) most) most }
     {
-        number::times(self.slots, number::times(lent::BLOCKS_EACH, self.size))
+        let each = self.size.saturating_mul(lent::BLOCKS_EACH);
+        self.slots.saturating_mul(each)
     }
 
     // Bytes of the scratch.
     pub fn scratch_bytes(self) -> usize
-        ensures { result ≡ product (min (product 2 self.slots + 2) most) self.size }
+        ensures { result ≡ min (min (min (self.slots * 2) most + 2) most * self.size) most }
     {
-        number::times(
-            number::times(lent::SCRATCH_EACH, self.slots).saturating_add(lent::SCRATCH_EACH),
-            self.size,
-        )
+        self.slots
+            .saturating_mul(lent::SCRATCH_EACH)
+            .saturating_add(lent::SCRATCH_EACH)
+            .saturating_mul(self.size)
     }
 }

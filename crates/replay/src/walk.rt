@@ -1,5 +1,5 @@
 // A walk over the leaves from the root last opened or flushed, each node read where it lies in the image.
-ghost use Rattle.std.specs.Prelude.{◌≤◌, ◌<◌, ◌/◌, length, OnOk};
+ghost use Rattle.std.specs.Prelude.{◌<◌, ◌/◌, length, OnOk};
 
 use crate::fault::Fault;
 use crate::memory::{Memory, first_mut};
@@ -8,14 +8,8 @@ use node::read;
 use node::read::{ReadEntry, ReadNode};
 use node::val::{Child, Val};
 use tree::editor::Bounds;
-use tree::lent::Lent;
-use tree::map;
+use tree::mapped::Blocks;
 use tree::refusal::Refusal;
-
-// What is done at each leaf that is met.
-pub trait Visitor {
-    fn leaf(&mut self, read: ReadNode);
-}
 
 const NO_BOUNDS: Bounds<&[u8]> = Bounds {
     lower: None,
@@ -26,12 +20,10 @@ const NO_BOUNDS: Bounds<&[u8]> = Bounds {
 // moved ids.
 #[derive(Clone, Copy)]
 pub struct Walk<'a> {
-    image: &'a [u8],
-    lent: Lent,
+    blocks: Blocks<'a>,
     place: Place,
     ids: &'a [u64],
     places: &'a [u64],
-    ghost sized: { (512 ≤ lent.size) × (lent.size ≤ 65536) },
 }
 
 impl<'a> Walk<'a> {
@@ -43,15 +35,15 @@ impl<'a> Walk<'a> {
                 return Ok(*a);
             }
         }
-        Ok(map::address_of(self.image, self.lent, self.place.xid, r)?)
+        Ok(self.blocks.address_of(self.place.xid, r)?)
     }
 
     // The node at an address, in its place.
     fn load(self, place: read::Place, a: u64) -> Result<ReadNode<'a>, Fault>
-        ensures { OnOk result (a < length self.entry.image.now / self.entry.lent.size) }
+        ensures { OnOk result (a < length self.entry.blocks.image.now / self.entry.blocks.lent.size) }
     {
         let order = self.place.order;
-        Ok(map::load_block(self.image, self.lent, order, place, a)?)
+        Ok(self.blocks.load_block(order, place, a)?)
     }
 
     // The bounds of an entry's child: its key, and the next one, or where there is none its parent's.
@@ -102,22 +94,24 @@ impl<'a> Walk<'a> {
         let a = self.address(self.place.root)?;
         let read = self.load(place, a)?;
         let by_id = self.place.map.is_some();
-        if !map::root_holds(self.image, self.lent, a, by_id, read.node) {
+        if !self.blocks.root_holds(a, by_id, read.node) {
             return Err(Fault::Refused(Refusal::Root));
         }
         Ok(read)
     }
 
-    // The leaves below a node, d levels down.
-    fn below<V: Visitor>(
+    // The leaves below a node, d levels down, each handed on.
+    fn below<F: FnMut(ReadNode)>(
         self,
         read: ReadNode<'a>,
         b: Bounds<&'a [u8]>,
         d: u64,
-        to: &mut V,
-    ) -> Result<(), Fault> {
+        to: &mut F,
+    ) -> Result<(), Fault>
+        requires { (state : F) (x : _) → F.pre state x }
+    {
         if d == 0 {
-            to.leaf(read);
+            to(read);
             return Ok(());
         }
         for i in 0..read.node.nkeys as usize {
@@ -129,10 +123,12 @@ impl<'a> Walk<'a> {
         Ok(())
     }
 
-    // The leaves from the root on.
-    pub fn leaves<V: Visitor>(self, to: &mut V) -> Result<(), Fault> {
+    // The leaves from the root on, each handed on.
+    pub fn leaves<F: FnMut(ReadNode)>(self, mut to: F) -> Result<(), Fault>
+        requires { (state : F) (x : _) → F.pre state x }
+    {
         let root = self.root()?;
-        self.below(root, NO_BOUNDS, root.node.level, to)
+        self.below(root, NO_BOUNDS, root.node.level, &mut to)
     }
 }
 
@@ -150,9 +146,9 @@ impl Memory<'_> {
             places,
             ..
         } = self;
+        let image = first_mut(image, s.image_bytes())?;
         Ok(Walk {
-            image: first_mut(image, s.image_bytes())?,
-            lent,
+            blocks: Blocks { image, lent },
             place,
             ids: first_mut(ids, place.moved)?,
             places: first_mut(places, place.moved)?,

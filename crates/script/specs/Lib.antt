@@ -1,4 +1,4 @@
--- Products that stop short, the words of a line, the answers' bytes, a line's bounds: what the contracts of `script` cite.
+-- The greatest number, the words of a line, the answers' bytes, a line's bounds: what the contracts of `script` cite.
 pub mod Number
 pub mod Words
 pub mod Out

@@ -79,6 +79,7 @@ impl<R: Read> Lines<R> {
     }
 
     // The next line, without its line feed: how many bytes of its room it takes.
+    #[tactic(auto, using(crate::specs::laws::ReadLaws::coming_start))]
     pub fn next(&mut self, line: &mut [u8]) -> Option<Result<usize, TooLong>>
         ensures fits { Fits result (length line.new) }
         ensures ahead { has_feed (left_of self.old) ≡ true → Ahead self.old line.old result self.new line.new }

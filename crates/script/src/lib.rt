@@ -2,6 +2,5 @@
 #![tactic(auto)]
 
 pub mod input;
-pub mod number;
 pub mod out;
 pub mod words;

@@ -1,12 +1,9 @@
 use Rattle.std.proofs.Common.{◌+◌, refl, sym, rules, tests, arith}
 use Rattle.script.specs.internal.Coming.{Ended}
-use Rattle.script.specs.laws.ReadLaws.{coming_start, coming_turn, reads_found, ahead_found, left_drop, ended_empty, ended_turns, none_left, reads_last}
+use Rattle.script.specs.laws.ReadLaws.{coming_turn, reads_found, ahead_found, left_drop, ended_empty, ended_turns, none_left, reads_last}
 use Rattle.script.proofs.input.Lines.next.Given as Given
 use Rattle.script.proofs.input.Lines.next.Goals as goal
 use Rattle.script.proofs.input.Lines.next.Goals.{else-loop-turn-test, then-loop-turn-test+then-is_empty}
-
-pub loop-turn-init : goal.loop-turn-init
-loop-turn-init g c = coming_start c.args.self.now c.args.line.now
 
 pub returns-in-Some-clause-ahead : goal.returns-in-Some-clause-ahead
 returns-in-Some-clause-ahead g c = λ t.
