@@ -8,3 +8,4 @@ pub mod PackSteps
 pub mod Packable
 pub mod Sought
 pub mod Walk
+pub mod Children

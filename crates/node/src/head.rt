@@ -1,15 +1,15 @@
 // The words of a slot: what is known of its node beside its entries (`MemNode` of write/tree.rs).
-ghost use Rattle.std.specs.Prelude.{◌≡◌, ◌+◌, ◌*◌, ◌≤◌, length, option_to_list};
+ghost use Rattle.std.specs.Prelude.{◌≡◌, ◌+◌, ◌*◌, ◌≤◌, length, eqb, option_to_list};
 ghost use Rattle.seal.specs.Bytes.{splice};
 ghost use Rattle.node.specs.Slot.{head_at, head_words, marked};
-ghost use Rattle.node.specs.internal.SlotSteps.{read_head};
+ghost use Rattle.node.specs.internal.SlotSteps.{read_head, with_block, with_id};
 
 use crate::read::Node;
 
 pub const HEAD_WORDS: usize = 9;
 
 // Marks stay words and are no flags: the C interface lends them, and another number than 1 comes back as it was.
-#[derive(Clone, Copy)]
+#[derive(Clone, Copy, Default)]
 pub struct Head {
     pub level: u64,
     // How many entries the slot holds, and how many bytes their records take.
@@ -30,55 +30,55 @@ pub struct Head {
 pub fn head_of(node: Node, used: usize, block: u64, by_id: bool) -> Head
     ensures { result ≡ read_head node used block by_id }
 {
-    Head {
+    let head = Head {
         level: node.level,
         count: node.nkeys,
         used: used as u64,
-        placed: 1,
-        block: block,
-        named: u64::from(by_id),
-        id: if by_id { node.oid } else { 0 },
-        dirty: 0,
-        dead: 0,
-    }
+        ..Head::default()
+    };
+    head.with_block(Some(block))
+        .with_id(by_id.then_some(node.oid))
 }
 
 impl Head {
     // The words of slot s.
-    #[tactic(auto, unfolding(crate::specs::Slot::head_at))]
+    #[tactic(auto, using(crate::specs::laws::slot::Head::head_chunk))]
     pub fn load(heads: &[u64], s: usize) -> Head
         requires { (s + 1) * 9 ≤ length heads.now }
         ensures { result ≡ head_at heads.now s }
     {
-        let a = s * HEAD_WORDS;
+        let (words, _) = heads.as_chunks::<HEAD_WORDS>();
+        let [level, count, used, placed, block, named, id, dirty, dead] = words[s];
         Head {
-            level: heads[a],
-            count: heads[a + 1],
-            used: heads[a + 2],
-            placed: heads[a + 3],
-            block: heads[a + 4],
-            named: heads[a + 5],
-            id: heads[a + 6],
-            dirty: heads[a + 7],
-            dead: heads[a + 8],
+            level,
+            count,
+            used,
+            placed,
+            block,
+            named,
+            id,
+            dirty,
+            dead,
         }
     }
 
-    #[tactic(auto, using(crate::specs::laws::slot::Head::head_stored))]
+    #[tactic(auto, using(seal::specs::laws::PartLaws::part_stored), unfolding(crate::specs::Slot::head_words))]
     pub fn store(self, heads: &mut [u64], s: usize)
         requires { (s + 1) * 9 ≤ length heads.old }
         ensures { heads.new ≡ splice heads.old (s * 9) (head_words self) }
     {
         let a = s * HEAD_WORDS;
-        heads[a] = self.level;
-        heads[a + 1] = self.count;
-        heads[a + 2] = self.used;
-        heads[a + 3] = self.placed;
-        heads[a + 4] = self.block;
-        heads[a + 5] = self.named;
-        heads[a + 6] = self.id;
-        heads[a + 7] = self.dirty;
-        heads[a + 8] = self.dead;
+        heads[a..a + HEAD_WORDS].copy_from_slice(&[
+            self.level,
+            self.count,
+            self.used,
+            self.placed,
+            self.block,
+            self.named,
+            self.id,
+            self.dirty,
+            self.dead,
+        ]);
     }
 
     // The node's block, if it has one.
@@ -95,5 +95,41 @@ impl Head {
         ensures { option_to_list result ≡ marked self.named self.id }
     {
         (self.named == 1).then_some(self.id)
+    }
+
+    // The words with another block, or with none.
+    pub fn with_block(self, block: Option<u64>) -> Head
+        ensures { result ≡ with_block self block }
+    {
+        Head {
+            placed: u64::from(block.is_some()),
+            block: block.unwrap_or(0),
+            ..self
+        }
+    }
+
+    // With another id, or with none.
+    pub fn with_id(self, id: Option<u64>) -> Head
+        ensures { result ≡ with_id self id }
+    {
+        Head {
+            named: u64::from(id.is_some()),
+            id: id.unwrap_or(0),
+            ..self
+        }
+    }
+
+    // Whether flush writes the node.
+    pub fn is_dirty(self) -> bool
+        ensures { result ≡ eqb self.dirty 1 }
+    {
+        self.dirty == 1
+    }
+
+    // Whether it was removed from the tree.
+    pub fn is_dead(self) -> bool
+        ensures { result ≡ eqb self.dead 1 }
+    {
+        self.dead == 1
     }
 }

@@ -20,6 +20,18 @@ pub struct BTreeInfo {
 }
 
 impl BTreeInfo {
+    // The numbers of a tree of one node with no entries, but for the sizes that it is made with.
+    pub const EMPTY: BTreeInfo = BTreeInfo {
+        flags: 0,
+        node_size: 0,
+        key_size: 0,
+        val_size: 0,
+        longest_key: 0,
+        longest_val: 0,
+        key_count: 0,
+        node_count: 1,
+    };
+
     // Whether keys and values have fixed lengths.
     #[tactic(auto, unfolding(crate::specs::Fit::fixed))]
     pub fn is_fixed(self) -> bool

@@ -55,7 +55,7 @@ impl Records<'_> {
     pub fn run_plain<S: Sought>(self, s: &S) -> Run
         ensures { Passed S.order (S.wanted s.now) self.entry.count self.entry.slot.now result }
     {
-        run_while(self, s, 4, |m| (m <= 0xFFFC).then_some(m))
+        run_while(self, s, 4, |m| (m <= record::MAX_VALUE_LEN).then_some(m))
     }
 
     // Those that have the first one's mark: all their values have one length.
@@ -63,11 +63,7 @@ impl Records<'_> {
         ensures { Passed S.order (S.wanted s.now) self.entry.count self.entry.slot.now result }
     {
         if self.count == 0 {
-            return Run {
-                count: 0,
-                at: 0,
-                last: 0,
-            };
+            return Run::default();
         }
         let mark = self.record(0).mark();
         let bare = 4 + record::mark_length(mark);
@@ -78,7 +74,7 @@ impl Records<'_> {
     pub fn run_led<S: Sought>(self, s: &S) -> Run
         ensures { Passed S.order (S.wanted s.now) self.entry.count self.entry.slot.now result }
     {
-        if 0 < self.count && self.record(0).mark() <= 0xFFFC {
+        if 0 < self.count && self.record(0).mark() <= record::MAX_VALUE_LEN {
             return self.run_plain(s);
         }
         self.run_marked(s)

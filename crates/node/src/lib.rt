@@ -1,6 +1,7 @@
 // One node: its order of keys, its block on disk, its entries in a slot; fitting, cutting, packing.
 #![tactic(auto)]
 
+pub use layout::flag;
 pub use seal::{bytes, obj};
 
 pub mod adopt;

@@ -1,11 +1,11 @@
 // A node's block, read (`Node` of btree.rs). The bytes stay in the block.
-ghost use Rattle.std.specs.Prelude.{◌≡◌, true, not, ◌&&◌, ◌||◌, ◌+◌, ◌-◌, ◌≤◌, ◌<◌, ◌^◌, length, is_some, IfOk};
+ghost use Rattle.std.specs.Prelude.{◌≡◌, true, not, ◌&&◌, ◌||◌, ◌+◌, ◌-◌, ◌≤◌, ◌<◌, ◌^◌, length, is_some, is_none, IfOk};
 ghost use Rattle.seal.specs.Bytes.{window};
 ghost use Rattle.node.specs.Obj.{is_node};
 ghost use Rattle.node.specs.Order.{keyed};
 ghost use Rattle.node.specs.Entry.{disk};
 ghost use Rattle.node.specs.Slot.{value_means};
-ghost use Rattle.node.specs.Place.{place_of, lent_key};
+ghost use Rattle.node.specs.Place.{place_of, lent_root, lower_of, lent_key};
 ghost use Rattle.node.specs.Read.{parsed, is_fixed, flags_hold, layout_holds, span_at, is_ghost, span_holds, span_length, entries_hold, entry_at, entries_from, in_bounds, keys_rise, keys_within, read_node, read_of, map_ok};
 ghost use Rattle.node.specs.internal.ReadSteps.{Laid, Sound};
 ghost use Rattle.node.specs.laws.base.Bytes.{Bytes};
@@ -51,73 +51,102 @@ pub struct Span {
     pub vlen: usize,
 }
 
+// What a parent gives of the place of its child.
+#[derive(Clone, Copy)]
+pub struct Parent<'b> {
+    pub level: u64,
+    // The tree's fixed lengths.
+    pub ksize: u64,
+    pub vsize: u64,
+    // The lower bound of the child's keys, if there is one.
+    pub lower: Option<&'b [u8]>,
+}
+
 // Where a node is to stand in its tree.
 #[derive(Clone, Copy)]
 pub struct Place<'b> {
-    pub root: bool,
     // The id wanted: of a physical node its address.
     pub oid: u64,
-    // The parent's level.
-    pub parent: u64,
-    // The tree's fixed lengths. A root has its own.
-    pub ksize: u64,
-    pub vsize: u64,
-    // The bounds of its keys: the lower one, which a root has not, and the upper one, which a last child of last children
-    // has not.
-    pub lower: Option<&'b [u8]>,
+    // A root has none, and its own lengths.
+    pub parent: Option<Parent<'b>>,
+    // The upper bound of its keys, which a last child of last children has not.
     pub upper: Option<&'b [u8]>,
 }
 
-// The key of a bound; nothing where there is none.
-fn bound_key(bound: Option<&[u8]>) -> &[u8]
-    ensures { result.now ≡ lent_key bound.entry }
+// Whether a bound, if there is one, is one of the order's keys.
+#[tactic(auto, unfolding(crate::specs::Order::keyed))]
+fn is_key(order: Order, bound: Option<&[u8]>) -> bool
+    ensures keys { result ≡ (is_none bound.entry || keyed order.code (lent_key bound.entry)) }
+    ensures bytes { Bytes (lent_key bound.entry) }
 {
-    match bound {
-        Some(key) => key,
-        None => &[],
+    let key = bound.unwrap_or(&[]);
+    bound.is_none() || order.keyed(key.len())
+}
+
+impl<'b> Place<'b> {
+    // The place of a root with this id: no bounds.
+    pub fn root(oid: u64) -> Place<'b>
+        ensures { result ≡ lent_root oid }
+    {
+        Place {
+            oid,
+            parent: None,
+            upper: None,
+        }
+    }
+
+    // The lower bound of its keys, which a root has not.
+    fn lower(self) -> Option<&'b [u8]>
+        ensures { result ≡ lower_of self.entry }
+    {
+        self.parent.and_then(|parent| parent.lower)
+    }
+
+    // Not below the lower bound, if there is one, and below the upper, if there is one.
+    #[tactic(auto, using(crate::specs::laws::order::Order::none_below), unfolding(crate::specs::Read::in_bounds))]
+    fn bounds(self, order: Order, key: &[u8]) -> bool
+        ensures { result ≡ in_bounds order.code (place_of self.entry) (lent_key (lower_of self.entry)) (lent_key self.entry.upper) key.now }
+    {
+        self.lower().is_none_or(|lower| !order.less(key, lower))
+            && self.upper.is_none_or(|upper| order.less(key, upper))
+    }
+
+    // Whether each bound that there is is one of the order's keys.
+    fn bounds_are_keys(self, order: Order) -> bool
+        ensures keys { result ≡ ((is_none (lower_of self.entry) || keyed order.code (lent_key (lower_of self.entry)))
+            && (not (is_some self.entry.upper) || keyed order.code (lent_key self.entry.upper))) }
+        ensures bytes { Bytes (lent_key (lower_of self.entry)) × Bytes (lent_key self.entry.upper) }
+    {
+        let lower = is_key(order, self.lower());
+        let upper = is_key(order, self.upper);
+        lower && upper
     }
 }
 
-impl Place<'_> {
-    // Not below the lower bound, which a root has not, and below the upper, if there is one.
-    #[tactic(auto, unfolding(crate::specs::Read::in_bounds))]
-    fn bounds(self, order: Order, key: &[u8]) -> bool
-        ensures { result ≡ in_bounds order.code (place_of self.entry) (lent_key self.entry.lower) (lent_key self.entry.upper) key.now }
-    {
-        (self.root || !order.less(key, bound_key(self.lower)))
-            && (self.upper.is_none() || order.less(key, bound_key(self.upper)))
-    }
-
-    // Whether each bound that is looked at is one of the order's keys.
-    #[tactic(auto, unfolding(crate::specs::Order::keyed))]
-    fn bounds_are_keys(self, order: Order) -> bool
-        ensures keys { result ≡ ((self.entry.root || keyed order.code (lent_key self.entry.lower))
-            && (not (is_some self.entry.upper) || keyed order.code (lent_key self.entry.upper))) }
-        ensures bytes { Bytes (lent_key self.entry.lower) × Bytes (lent_key self.entry.upper) }
-    {
-        let lower = bound_key(self.lower);
-        let upper = bound_key(self.upper);
-        (self.root || order.keyed(lower.len()))
-            && (self.upper.is_none() || order.keyed(upper.len()))
-    }
+// A node's block, of at least the least size of one. That it holds bytes is a fact here, since a proof knows it of a slice that is lent,
+// and not of one in a struct.
+#[derive(Clone, Copy)]
+pub struct Block<'b> {
+    pub held: &'b [u8],
+    ghost bytes: { Bytes held.now },
+    ghost long: { 512 ≤ length held.now },
 }
 
 impl Node {
     // The header's fields and the places that follow from them; nothing is checked.
     #[tactic(auto, unfolding(crate::specs::Read::parsed))]
-    pub fn parse(block: &[u8], place: Place<'_>) -> Node
-        requires { 512 ≤ length block.now }
-        ensures { (result ≡ parsed (place_of place.entry) block.now)
+    pub fn parse(block: Block<'_>, place: Place<'_>) -> Node
+        ensures { (result ≡ parsed (place_of place.entry) block.entry.held.now)
             × (result.flags < 2 ^ 16) × (result.level < 2 ^ 16) × (result.nkeys < 2 ^ 32)
-            × (result.toc ≤ result.keys) × (result.vals ≤ length block.now) }
+            × (result.toc ≤ result.keys) × (result.vals ≤ length block.entry.held.now) }
     {
+        let block = block.held;
         let h = ObjHeader::parse(block);
         let info = BTreeInfo::parse(block);
         let toc = layout::BTN_DATA + bytes::field_at::<2>(block, layout::BTN_TABLE_OFF) as usize;
-        let (tail, ksize, vsize) = if place.root {
-            (layout::BTREE_INFO_SIZE, info.key_size, info.val_size)
-        } else {
-            (0, place.ksize, place.vsize)
+        let (tail, ksize, vsize) = match place.parent {
+            None => (layout::BTREE_INFO_SIZE, info.key_size, info.val_size),
+            Some(parent) => (0, parent.ksize, parent.vsize),
         };
         Node {
             oid: h.oid,
@@ -150,7 +179,7 @@ fn flags_hold(place: Place<'_>, node: Node) -> bool
     ensures { result ≡ flags_hold (place_of place.entry) node }
 {
     layout::flag(node.flags, layout::BTNODE_LEAF) == (node.level == 0)
-        && layout::flag(node.flags, layout::BTNODE_ROOT) == place.root
+        && layout::flag(node.flags, layout::BTNODE_ROOT) == place.parent.is_none()
         && layout::flag(node.flags, layout::BTNODE_FIXED_KV_SIZE) == node.is_fixed()
 }
 
@@ -224,34 +253,40 @@ fn span_holds(node: Node, size: usize, s: Span) -> bool
         }
 }
 
-// The bytes of an entry's key and value.
-#[tactic(auto, unfolding(crate::specs::Read::span_length, crate::specs::Read::span_holds))]
-fn span_length(node: Node, size: usize, s: Span) -> usize
-    requires { (span_holds node size s ≡ true) × (size ≤ 65536) }
-    ensures { (result ≡ span_length s) × (result ≤ 131072) }
-{
-    if is_ghost(s) { s.klen } else { s.klen + s.vlen }
+impl Span {
+    // The bytes of an entry's key and value.
+    #[tactic(auto, unfolding(crate::specs::Read::span_length))]
+    fn length(self) -> usize
+        requires { span_length self < 2 ^ 64 }
+        ensures { result ≡ span_length self }
+    {
+        if is_ghost(self) {
+            self.klen
+        } else {
+            self.klen + self.vlen
+        }
+    }
 }
 
 // 8 of the load line, in one pass: it ends at the first entry that is wrong or makes the sum too long.
 #[tactic(auto, using(crate::specs::laws::read::Read::entries))]
-fn entries_hold(block: &[u8], node: Node, place: Place<'_>) -> bool
-    requires laid { Laid node (length block.now) }
-    requires in_bounds { 512 ≤ length block.now }
-    ensures { result ≡ entries_hold (place_of place.entry) node block.now }
+fn entries_hold(block: Block<'_>, node: Node, place: Place<'_>) -> bool
+    requires { Laid node (length block.held.now) }
+    ensures { result ≡ entries_hold (place_of place.entry) node block.entry.held.now }
 {
+    let block = block.held;
     let n = node.nkeys as usize;
     if n == 0 {
-        return place.root && node.level == 0;
+        return place.parent.is_none() && node.level == 0;
     }
-    let space = room::data_space(block.len() as u64, place.root) as usize;
+    let space = room::data_space(block.len() as u64, place.parent.is_none()) as usize;
     let mut sum = 0;
     for i in 0..n {
         let s = span_at(block, node, i);
         if !span_holds(node, block.len(), s) {
             return false;
         }
-        sum += span_length(node, block.len(), s);
+        sum += s.length();
         if space < sum {
             return false;
         }
@@ -364,7 +399,7 @@ impl<'b> ReadNode<'b> {
     #[tactic(auto, using(crate::specs::laws::read::Keys::bounds))]
     fn bounds_hold(self, order: Order, place: Place<'_>) -> bool
         requires { keys_rise order.code (entries_from self.node self.block.now 0 self.node.nkeys) ≡ true }
-        ensures { result ≡ keys_within order.code (place_of place.entry) (lent_key place.entry.lower) (lent_key place.entry.upper)
+        ensures { result ≡ keys_within order.code (place_of place.entry) (lent_key (lower_of place.entry)) (lent_key place.entry.upper)
             (entries_from self.entry.node self.entry.block.now 0 self.entry.node.nkeys) }
     {
         let n = self.node.nkeys as usize;
@@ -392,16 +427,16 @@ fn is_node(otype: u64) -> bool
 // The load line from 3 to 9.
 #[tactic(auto, using(crate::specs::laws::read::LoadLine::loads), unfolding(crate::specs::Read::read_node, crate::specs::Read::read_of))]
 pub fn read_node<'b>(
-    block: &'b [u8],
+    block: Block<'b>,
     order: Order,
     place: Place<'_>,
 ) -> Result<ReadNode<'b>, Refusal>
-    requires { (512 ≤ length block.now) × (length block.now ≤ 65536) }
-    ensures answer { read_of block.now (map_ok (λ r. r.node) result)
-        ≡ read_node order.code (place_of place.entry) (lent_key place.entry.lower) (lent_key place.entry.upper) block.now }
-    ensures block { IfOk result (λ r. r.block.now ≡ block.now) }
+    requires { length block.held.now ≤ 65536 }
+    ensures answer { read_of block.entry.held.now (map_ok (λ r. r.node) result)
+        ≡ read_node order.code (place_of place.entry) (lent_key (lower_of place.entry)) (lent_key place.entry.upper) block.entry.held.now }
+    ensures block { IfOk result (λ r. r.block.now ≡ block.entry.held.now) }
 {
-    check(Refusal::Fletcher, checksum::verify(block))?;
+    check(Refusal::Fletcher, checksum::verify(block.held))?;
     let node = Node::parse(block, place);
     check(Refusal::Kind, is_node(node.otype))?;
     check(
@@ -409,9 +444,15 @@ pub fn read_node<'b>(
         !layout::flag(node.flags, layout::BTNODE_HASHED),
     )?;
     check(Refusal::Layout, layout_holds(place, node))?;
-    check(Refusal::Level, place.root || node.level + 1 == place.parent)?;
+    check(
+        Refusal::Level,
+        place.parent.is_none_or(|p| node.level + 1 == p.level),
+    )?;
     check(Refusal::Entry, entries_hold(block, node, place))?;
-    let read = ReadNode { block, node };
+    let read = ReadNode {
+        block: block.held,
+        node,
+    };
     check(Refusal::Keys, read.keys_rise(order))?;
     check(Refusal::Keys, read.bounds_hold(order, place))?;
     Ok(read)

@@ -9,6 +9,9 @@ ghost use Rattle.node.specs.Slot.{is_child, suit, child_means, value_means};
 use crate::val::{Child, Val};
 use seal::bytes;
 
+// The longest value of a leaf: a mark up to this is its value's length. The marks above it are those of the other values.
+pub const MAX_VALUE_LEN: u64 = 0xFFFC;
+
 pub const GHOST: u64 = 0xFFFF;
 
 pub const DISK: u64 = 0xFFFE;
@@ -44,7 +47,7 @@ pub fn mark_length(mark: u64) -> usize
     requires { mark < 2 ^ 16 }
     ensures { (result ≡ mark_length mark) × (result < 2 ^ 16) }
 {
-    if mark <= 0xFFFC {
+    if mark <= MAX_VALUE_LEN {
         return mark as usize;
     }
     if mark == GHOST {
@@ -130,7 +133,7 @@ impl<'s> Record<'s> {
     {
         let r = self.parts();
         match r.mark {
-            0..=0xFFFC => Val::Leaf(&self.slot[r.value..r.next]),
+            0..=MAX_VALUE_LEN => Val::Leaf(&self.slot[r.value..r.next]),
             GHOST => Val::Ghost,
             DISK => Val::Child(Child::Disk(bytes::field_at::<8>(self.slot, r.value))),
             _ => Val::Child(Child::Mem(bytes::field_at::<8>(self.slot, r.value))),

@@ -8,18 +8,14 @@ use crate::read::ReadNode;
 
 impl ReadNode<'_> {
     // How many leading entries have a key that is not above a key.
-    #[tactic(auto, using(crate::specs::laws::read::Search::search))]
     pub fn not_above(self, order: Order, key: &[u8]) -> u64
         ensures { (result ≡ not_above order.code key.now
             (entries_from self.entry.node self.entry.block.now 0 self.entry.node.nkeys))
             × (result ≤ self.entry.node.nkeys) }
     {
         let n = self.node.nkeys;
-        for i in 0..n {
-            if order.less(key, self.entry(i as usize).key()) {
-                return i;
-            }
-        }
-        n
+        (0..n)
+            .find(|i| order.less(key, self.entry(*i as usize).key()))
+            .unwrap_or(n)
     }
 }

@@ -1,6 +1,6 @@
 // A node's entries in a slot: n records at the start of the slot's bytes, in key order; `used` bytes are theirs
 // (`MemNode`'s keys and vals of write/tree.rs). Each function is lent one slot's bytes, so no other slot is touched.
-ghost use Rattle.std.specs.Prelude.{◌≡◌, true, ℕ, ◌+◌, ◌-◌, ◌≤◌, ◌<◌, ◌^◌, length, drop};
+ghost use Rattle.std.specs.Prelude.{◌≡◌, true, ℕ, ◌+◌, ◌-◌, ◌≤◌, ◌<◌, ◌^◌, length, drop, MatchOption};
 ghost use Rattle.node.specs.Entry.{value_length};
 ghost use Rattle.node.specs.Records.{record_length, entry_of, records_length, entries_of};
 ghost use Rattle.node.specs.Slot.{insert_at, remove_at, with_key, with_value, records_hold, is_child, child_means, value_means};
@@ -15,12 +15,11 @@ use crate::sought::{ByteKey, PairKey, Sought};
 use crate::val::{Child, Val};
 use seal::bytes;
 
-// Where a key's place is among n records: the entries before it, its offset, and whether the entry there has the key.
+// Where a record starts, or would, and how many records stand before it.
 #[derive(Clone, Copy)]
-pub struct Found {
+pub struct RecordAt {
     pub index: u64,
     pub at: usize,
-    pub found: bool,
 }
 
 // How many entries have a key not above a key, and where the last of them lies: where the first lies if there is none.
@@ -31,7 +30,7 @@ pub struct Last {
 }
 
 // How many leading records a search passes at once, where the next lies, and the last of them: the first if there is none.
-#[derive(Clone, Copy)]
+#[derive(Clone, Copy, Default)]
 pub struct Run {
     pub count: u64,
     pub at: usize,
@@ -82,9 +81,20 @@ impl<'s> Records<'s> {
         }
     }
 
+    // Record i, if there are so many.
+    pub fn get(self, i: u64) -> Option<Record<'s>>
+        ensures { MatchOption result (self.entry.count ≤ i)
+            (λ r. (i < self.entry.count) × (r.slot.now ≡ self.entry.slot.now) × (r.at ≡ records_length i self.entry.slot.now)) }
+    {
+        if self.count <= i {
+            return None;
+        }
+        Some(self.record(i))
+    }
+
     // The place of a key, from where a run of passed records ends.
     #[tactic(auto, using(crate::specs::laws::slot::Passed::place))]
-    fn below_from<S: Sought>(self, run: Run, s: &S) -> Found
+    fn below_from<S: Sought>(self, run: Run, s: &S) -> Result<RecordAt, RecordAt>
         requires { Passed S.order (S.wanted s.now) self.count self.slot.now run }
         ensures { result ≡ found_in S.order (S.wanted s.now) self.entry.count self.entry.slot.now }
     {
@@ -92,19 +102,18 @@ impl<'s> Records<'s> {
         for (i, r) in self.walk_from(run.count, run.at) {
             let c = s.compare(r);
             if !c.is_lt() {
-                return Found {
-                    index: i,
-                    at: r.at,
-                    found: c.is_eq(),
-                };
+                let here = RecordAt { index: i, at: r.at };
+                if c.is_eq() {
+                    return Ok(here);
+                }
+                return Err(here);
             }
             at = r.next();
         }
-        Found {
+        Err(RecordAt {
             index: self.count,
             at,
-            found: false,
-        }
+        })
     }
 
     // The entries not above a key, from where a run of passed records ends.
@@ -126,9 +135,10 @@ impl<'s> Records<'s> {
         }
     }
 
-    // The place of a key: after the entries whose keys are below it. It is asked for in leaves, and in pair order records mostly have one length.
+    // The record that has a key, or else where it would stand: after the entries whose keys are below it. It is asked for in leaves, and in pair
+    // order records mostly have one length.
     #[tactic(auto, using(crate::specs::laws::slot::Passed::found_other))]
-    pub fn below(self, order: Order, key: &[u8]) -> Found
+    pub fn below(self, order: Order, key: &[u8]) -> Result<RecordAt, RecordAt>
         ensures { result ≡ found_in order.code key.now self.entry.count self.entry.slot.now }
     {
         if order.code == Order::PAIR {

@@ -9,7 +9,7 @@ ghost use Rattle.node.specs.internal.SlotSteps.{mark_holds, checked_of};
 use crate::fit::Lengths;
 use crate::info::BTreeInfo;
 use crate::order::Order;
-use crate::record::Record;
+use crate::record::{MAX_VALUE_LEN, Record};
 
 // Whether a key of the order, and of the tree's fixed length if it has one, can have n bytes.
 #[tactic(auto, unfolding(crate::specs::Slot::key_length_holds))]
@@ -32,7 +32,7 @@ pub fn value_holds(info: BTreeInfo, n: u64) -> bool
 fn mark_holds(info: BTreeInfo, mark: u64) -> bool
     ensures { result ≡ mark_holds info mark }
 {
-    0xFFFC < mark || value_holds(info, mark)
+    MAX_VALUE_LEN < mark || value_holds(info, mark)
 }
 
 // Whether a record's entry holds.

@@ -25,7 +25,7 @@ abbrev pub answer_of : ℕ → ℕ
 answer_of n = 2 ^ 64 - 1 - n
 
 -- the place of a root with this id
-unfoldable pub root_place : ℕ → Place
+abbrev pub root_place : ℕ → Place
 root_place oid = record { root = true; oid = oid; parent = 0; ksize = 0; vsize = 0; bounded = false }
 
 -- a block of a node's size, and a slot that holds its entries in any case

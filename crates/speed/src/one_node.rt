@@ -1,15 +1,14 @@
 // One node, read and packed: `node::read`, `node::adopt` and `node::pack` for arguments of any kind.
-ghost use Rattle.std.specs.Prelude.{◌≡◌, [], cond, ◌≤◌, ◌<◌, ◌^◌, true, false, length, MatchOption};
+ghost use Rattle.std.specs.Prelude.{◌≡◌, cond, ◌≤◌, ◌<◌, ◌^◌, true, false, length, MatchOption};
 ghost use Rattle.node.specs.Fit.{Sized};
-ghost use Rattle.node.specs.Place.{place_of, lent_key};
 ghost use Rattle.node.specs.Refusals.{number_of};
-ghost use Rattle.speed.specs.OneNode.{answered, answer_of, read_into, root_place, build_like, lent, sizes_hold, records_fit, packable, pack_into};
+ghost use Rattle.speed.specs.OneNode.{answered, answer_of, read_into, build_like, lent, sizes_hold, records_fit, packable, pack_into};
 
 use node::build::NodeBuild;
 use node::fit::SlotNode;
 use node::info::BTreeInfo;
 use node::order::Order;
-use node::read::{Node, Place};
+use node::read::{Block, Node, Place};
 use node::refusal::Refusal;
 use node::room::Shape;
 use node::slot::Records;
@@ -20,22 +19,6 @@ fn refused(refusal: Refusal) -> u64
     ensures { result ≡ answer_of (number_of refusal) }
 {
     0xFFFF_FFFF_FFFF_FFFF - u64::from(refusal)
-}
-
-#[tactic(auto, unfolding(crate::specs::OneNode::root_place))]
-fn root_place(oid: u64) -> Place<'static>
-    ensures place { place_of result ≡ root_place oid }
-    ensures unbounded { (lent_key result.lower ≡ []) × (lent_key result.upper ≡ []) }
-{
-    Place {
-        root: true,
-        oid,
-        parent: 0,
-        ksize: 0,
-        vsize: 0,
-        lower: None,
-        upper: None,
-    }
 }
 
 // A block of a node's size, and a slot that holds its entries in any case.
@@ -55,7 +38,8 @@ pub fn rattle_read_node(block: &[u8], slot: &mut [u8], order: u64, oid: u64) -> 
     if !lent(block, slot) {
         return refused(Refusal::Lent);
     }
-    let read = read::read_node(block, Order { code: order }, root_place(oid));
+    let block = Block { held: block };
+    let read = read::read_node(block, Order { code: order }, Place::root(oid));
     match read {
         Err(x) => refused(x),
         Ok(read) => read.adopt(slot) as u64,
@@ -63,13 +47,12 @@ pub fn rattle_read_node(block: &[u8], slot: &mut [u8], order: u64, oid: u64) -> 
 }
 
 // What a root is packed from: the numbers of a root's block.
-#[tactic(auto, unfolding(crate::specs::OneNode::build_like, crate::specs::OneNode::root_place))]
-fn build_like(like: &[u8]) -> NodeBuild
-    requires { 512 ≤ length like.now }
-    ensures { (result ≡ build_like like.now) × (result.info.key_size < 2 ^ 32) × (result.info.val_size < 2 ^ 32) }
+#[tactic(auto, unfolding(crate::specs::OneNode::build_like))]
+fn build_like(like: Block<'_>) -> NodeBuild
+    ensures { (result ≡ build_like like.entry.held.now) × (result.info.key_size < 2 ^ 32) × (result.info.val_size < 2 ^ 32) }
 {
-    let v = Node::parse(like, root_place(0));
-    let info = BTreeInfo::parse(like);
+    let v = Node::parse(like, Place::root(0));
+    let info = BTreeInfo::parse(like.held);
     NodeBuild {
         oid: v.oid,
         xid: v.xid,
@@ -128,7 +111,7 @@ pub fn rattle_pack_node(
     if like.len() < 512 {
         return false;
     }
-    let b = build_like(like);
+    let b = build_like(Block { held: like });
     if !sizes_hold(b, dst, slot) {
         return false;
     }

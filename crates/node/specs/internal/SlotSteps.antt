@@ -1,6 +1,6 @@
 -- What the functions over one slot compute: where a record lies, what records take, where a key is, the words of a node just read,
 -- one pass over the records.
-use Rattle.std.specs.Prelude.{◌≡◌, List, Bool, true, cond, ◌&&◌, ℕ, ◌+◌, ◌-◌, ◌≤◌, ◌<◌, length, drop, leb, eqb, Option, Some, None}
+use Rattle.std.specs.Prelude.{◌≡◌, List, Bool, true, cond, ◌&&◌, ℕ, ◌+◌, ◌-◌, ◌≤◌, ◌<◌, length, drop, leb, eqb, Option, Some, None, Result, Ok, Err, is_some, unwrap_or}
 use Rattle.seal.specs.Bytes.{u16_at, u64_at}
 use Rattle.node.specs.Entry.{rising, every}
 use Rattle.node.specs.Records.{mark_length, record_length, entries_of, records_length}
@@ -10,7 +10,7 @@ use Rattle.node.specs.Slot.{records_hold, value_length_holds, entry_holds}
 use Rattle.node.specs.declared.info.BTreeInfo.{BTreeInfo}
 use Rattle.node.specs.declared.record.RecordParts.{RecordParts}
 use Rattle.node.specs.declared.fit.Lengths.{Lengths}
-use Rattle.node.specs.declared.slot.Found.{Found}
+use Rattle.node.specs.declared.slot.RecordAt.{RecordAt}
 use Rattle.node.specs.declared.slot.Last.{Last}
 use Rattle.node.specs.declared.slot.EntryAt.{EntryAt}
 use Rattle.node.specs.declared.head.Head.{Head}
@@ -40,11 +40,12 @@ longer_of t l s =
 unfoldable pub pair_id : List ℕ → ℕ
 pair_id k = cond (eqb (length k) 16) (u64_at k 0) 0
 
--- the place of a key among the n records of a slot, where it lies, and whether the key is there
-unfoldable pub found_in : ℕ → List ℕ → ℕ → List ℕ → Found
+-- the place of a key among the n records of a slot and where it lies, as a record that has the key or as one that would stand there
+unfoldable pub found_in : ℕ → List ℕ → ℕ → List ℕ → Result RecordAt RecordAt
 found_in o k n l =
     let i : ℕ = place_of o k (entries_of n l) in
-    record { index = i; at = records_length i l; found = is_there o k (entries_of n l) }
+    let here : RecordAt = record { index = i; at = records_length i l } in
+    cond (is_there o k (entries_of n l)) (Ok here) (Err here)
 
 -- how many keys of the n records of a slot are not above a key, and where the last of these lies, else the first of all
 unfoldable pub last_in : ℕ → List ℕ → ℕ → List ℕ → Last
@@ -75,6 +76,36 @@ read_head v used block by_id =
       id = cond by_id v.oid 0;
       dirty = 0;
       dead = 0;
+    }
+
+-- the words of a slot with another block, or with none
+abbrev pub with_block : Head → Option ℕ → Head
+with_block h block =
+    record {
+      level = h.level;
+      count = h.count;
+      used = h.used;
+      placed = cond (is_some block) 1 0;
+      block = unwrap_or block 0;
+      named = h.named;
+      id = h.id;
+      dirty = h.dirty;
+      dead = h.dead;
+    }
+
+-- with another id, or with none
+abbrev pub with_id : Head → Option ℕ → Head
+with_id h id =
+    record {
+      level = h.level;
+      count = h.count;
+      used = h.used;
+      placed = h.placed;
+      block = h.block;
+      named = cond (is_some id) 1 0;
+      id = unwrap_or id 0;
+      dirty = h.dirty;
+      dead = h.dead;
     }
 
 -- a length that a value of this mark can have

@@ -3,7 +3,7 @@ use Rattle.node.specs.laws.slot.Passed.{passed_none, passed_lies, passed_next, b
 use Rattle.node.proofs.led.run_while.Goals as goal
 
 pub loop-i-init : goal.loop-i-init
-loop-i-init g c = record { passed = passed_none _ _ _ _; ahead = omega arith }
+loop-i-init g c = record { passed = passed_none _ _ _ _ _ refl refl refl; ahead = omega arith }
 
 pub overflow_add-at : goal.overflow_add-at
 overflow_add-at g c =

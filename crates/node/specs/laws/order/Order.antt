@@ -381,3 +381,18 @@ pair_key_lem k l h = record { holds = eq-eqb (length k) 16 l; bytes = h }
 
 pub key_known : (o : ℕ) (k : List ℕ) → keyed o k ≡ true → Bytes k → Key o k
 key_known o k t h = record { holds = t; bytes = h }
+
+-- ---- the empty key
+
+bytes_below : (k : List ℕ) → byte_less k [] ≡ false
+unfolding byte_less
+bytes_below [] = refl
+bytes_below (x ∷ xs) = refl
+
+-- no key is below it, of whatever order
+pub none_below : (o : ℕ) (k : List ℕ) → less o k [] ≡ false
+unfolding less keyed keyed_length
+none_below o k =
+    by_test (eqb o 0)
+    (λ z. by_test (eqb (length k) 16) (λ y. rw (z, y) (bytes_below k)) (λ y. rw (z, y) (bytes_below k)))
+    (λ z. rw z (bytes_below k))

@@ -1,11 +1,11 @@
 -- Reading with bounds: accepted exactly where it is accepted without them and the keys are within them. Assumes nothing.
-use Rattle.std.specs.Prelude.{◌≡◌, false, ◌↔◌, ℕ, length, eqb}
+use Rattle.std.specs.Prelude.{◌≡◌, false, ◌↔◌, ℕ}
 use Rattle.std.proofs.Math.Path.{refl, ap}
 use Rattle.std.proofs.Common.{sym, ◌∙◌}
 use mathlib.Core.List.{List, [], ◌∷◌}
 use Rattle.std.proofs.Math.Bool.{true}
 use Rattle.node.specs.Result.{ok}
-use Rattle.node.specs.Order.{byte_less, less, keyed, keyed_length}
+use Rattle.node.specs.laws.order.Order.{none_below}
 use Rattle.node.specs.Entry.{Entry, every}
 use Rattle.node.specs.Read.{OnDisk, on_disk, parsed, flags_hold, layout_holds, entries_hold, entries_from, in_bounds, keys_rise, keys_within, keys_hold, read_node}
 use Rattle.node.specs.laws.base.Tests.{by_test, and_right, and_both}
@@ -18,21 +18,9 @@ use Rattle.node.specs.Place.{Place}
 unfoldable pub unbounded_place : Place → Place
 unbounded_place p = record { root = p.root; oid = p.oid; parent = p.parent; ksize = p.ksize; vsize = p.vsize; bounded = false }
 
-least_key : (k : List ℕ) → byte_less k [] ≡ false
-unfolding byte_less
-least_key [] = refl
-least_key (x ∷ xs) = refl
-
-least : (o : ℕ) (k : List ℕ) → less o k [] ≡ false
-unfolding less keyed keyed_length
-least o k =
-    by_test (eqb o 0)
-    (λ z. by_test (eqb (length k) 16) (λ y. rw (z, y) (least_key k)) (λ y. rw (z, y) (least_key k)))
-    (λ z. rw z (least_key k))
-
 any_bounds : (o : ℕ) (p : Place) (k : List ℕ) → in_bounds o (unbounded_place p) [] [] k ≡ true
 unfolding in_bounds unbounded_place
-any_bounds o p k = by_test p.root (λ z. rw z) (λ z. rw (z, least o k))
+any_bounds o p k = by_test p.root (λ z. rw z) (λ z. rw (z, none_below o k))
 
 pub within_unbounded : (o : ℕ) (p : Place) (es : List Entry) → keys_within o (unbounded_place p) [] [] es ≡ true
 unfolding keys_within every

@@ -1,5 +1,5 @@
 -- Laws of a node's keys on disk: entry by entry, in order, within bounds. Assumes nothing.
-use Rattle.std.specs.Prelude.{◌≡◌, refl, Bool, ◌&&◌, ◌||◌, not, Option, MatchOption, IsTrue}
+use Rattle.std.specs.Prelude.{◌≡◌, refl, Bool, ◌&&◌, ◌||◌, not, Option, Some, None, is_none, MatchOption, IsTrue}
 use Rattle.std.specs.List.{range_with_len, list_all}
 use Rattle.std.proofs.Math.Path.{sym, ap, ap₂}
 use Rattle.std.proofs.Common.{◌∙◌, add-zero, zero-add, not-suc-le-zero, le_of_suc-le-suc}
@@ -15,7 +15,7 @@ use Rattle.seal.specs.Bytes.{window, u64_at}
 use Rattle.node.specs.laws.base.Tests.{and_left, and_right, and-false}
 use Rattle.node.specs.laws.base.Bytes.{Bytes, bytes_window}
 use Rattle.node.specs.Order.{less, keyed, keyed_length}
-use Rattle.node.specs.laws.order.Order.{key_known}
+use Rattle.node.specs.laws.order.Order.{key_known, none_below}
 use Rattle.node.specs.Entry.{Entry, leaf, disk, rise_after, rising, every}
 use Rattle.node.specs.laws.order.Rising.{every_and, Rises, rise_step, rise_end, Keys, KeyBytes, keys_known, last_key, rising_lower, rising_upper}
 use Rattle.node.specs.Slot.{child_means, value_means}
@@ -24,7 +24,7 @@ use Rattle.node.specs.internal.ReadSteps.{Sound}
 use Rattle.node.specs.laws.read.Read.{held_key, held_start, held_end, held_no_ghost, held_eight, part_window}
 use Rattle.node.specs.declared.read.Node.{Node}
 use Rattle.node.specs.declared.read.Span.{Span}
-use Rattle.node.specs.Place.{Place}
+use Rattle.node.specs.Place.{Place, lent_key}
 use Rattle.node.specs.declared.val.Val.TheVariants.{Ghost, Leaf, Child}
 use Rattle.node.specs.declared.val.Child.TheVariants.{Disk}
 
@@ -156,18 +156,28 @@ unfolding every
 every_all [] = refl
 every_all (e ∷ es) = every_all es
 
-module _ (o : ℕ) (e : Entry) (es : List Entry) (ks : Keys o (e ∷ es)) (up : rising o (e ∷ es) ≡ true) (bound : List ℕ) (bb : Bytes bound) where
-  pub lower_first : (t : Bool) → (t || keyed o bound) ≡ true → every (λ (x : Entry). t || not (less o x.key bound)) (e ∷ es) ≡
-      (t || not (less o e.key bound))
-  lower_first true k = every_all (e ∷ es)
-  lower_first false k = rising_lower o bound (key_known o bound k bb) e es ks up
+least_all : (o : ℕ) (es : List Entry) → every (λ (x : Entry). not (less o x.key [])) es ≡ true
+unfolding every
+least_all o [] = refl
+least_all o (e ∷ es) = rw (none_below o e.key) (least_all o es)
 
-  pub upper_last : (t : Bool) → (t || keyed o bound) ≡ true → every (λ (x : Entry). t || less o x.key bound) (e ∷ es) ≡
-      (t || less o (last_key e.key es) bound)
-  upper_last true k = every_all (e ∷ es)
-  upper_last false k = rising_upper o bound (key_known o bound k bb) e es ks up
+module _ (o : ℕ) (e : Entry) (es : List Entry) (ks : Keys o (e ∷ es)) (up : rising o (e ∷ es) ≡ true) where
+  pub lower_first : (t : Bool) (lo : Option (Bor (List ℕ))) → Bytes (lent_key lo) → (is_none lo || keyed o (lent_key lo)) ≡ true
+      → every (λ (x : Entry). t || not (less o x.key (lent_key lo))) (e ∷ es) ≡ (t || not (less o e.key (lent_key lo)))
+  lower_first true lo bb k = every_all (e ∷ es)
+  lower_first false None bb k = least_all o (e ∷ es) ∙ sym (rw (none_below o e.key))
+  lower_first false (Some x) bb k = rising_lower o x.now (key_known o x.now k bb) e es ks up
 
-module _ (o : ℕ) (p : Place) (lower upper : List ℕ) (v : Node) (b : List ℕ) (bb : Bytes b) (bl : Bytes lower) (bu : Bytes upper) where
+  pub upper_last : (bound : List ℕ) → Bytes bound → (t : Bool) → (t || keyed o bound) ≡ true
+      → every (λ (x : Entry). t || less o x.key bound) (e ∷ es) ≡ (t || less o (last_key e.key es) bound)
+  upper_last bound bb true k = every_all (e ∷ es)
+  upper_last bound bb false k = rising_upper o bound (key_known o bound k bb) e es ks up
+
+module _ (o : ℕ) (p : Place) (lo : Option (Bor (List ℕ))) (upper : List ℕ) (v : Node) (b : List ℕ) (bb : Bytes b) (bl : Bytes (lent_key lo))
+    (bu : Bytes upper) where
+  abbrev lower : List ℕ
+  lower = lent_key lo
+
   abbrev is_above : List ℕ → Bool
   is_above k = p.root || not (less o k lower)
 
@@ -185,9 +195,10 @@ module _ (o : ℕ) (p : Place) (lower upper : List ℕ) (v : Node) (b : List ℕ
     unfolding keys_rise
     rising_of = and_right (every (λ (x : Entry). keyed o x.key) (entries_from v b 0 (suc n))) (rising o (entries_from v b 0 (suc n))) h
 
-    above_all : (p.root || keyed o lower) ≡ true → every (λ (x : Entry). is_above x.key) (entries_from v b 0 (suc n)) ≡ is_above (entry_at v b 0).key
+    above_all : (is_none lo || keyed o (lent_key lo)) ≡ true
+        → every (λ (x : Entry). is_above x.key) (entries_from v b 0 (suc n)) ≡ is_above (entry_at v b 0).key
     unfolding entries_from
-    above_all u = lower_first o (entry_at v b 0) (entries_from v b 1 n) keys_of rising_of lower bl p.root u
+    above_all u = lower_first o (entry_at v b 0) (entries_from v b 1 n) keys_of rising_of p.root lo bl u
 
     below_all : (not p.bounded || keyed o upper) ≡ true → every (λ (x : Entry). is_below x.key) (entries_from v b 0 (suc n)) ≡ is_below
         (entry_at v b n).key
@@ -199,7 +210,7 @@ module _ (o : ℕ) (p : Place) (lower upper : List ℕ) (v : Node) (b : List ℕ
         upper_last o (entry_at v b 0) (entries_from v b 1 n) keys_of rising_of upper bu (not p.bounded) u ∙ ap is_below l
 
     -- of n + 1 keys that rise
-    ends_all : (p.root || keyed o lower) ≡ true → (not p.bounded || keyed o upper) ≡ true
+    ends_all : (is_none lo || keyed o (lent_key lo)) ≡ true → (not p.bounded || keyed o upper) ≡ true
         → keys_within o p lower upper (entries_from v b 0 (suc n)) ≡ (is_above (entry_at v b 0).key && is_below (entry_at v b n).key)
     unfolding keys_within in_bounds
     ends_all u t =
@@ -207,7 +218,7 @@ module _ (o : ℕ) (p : Place) (lower upper : List ℕ) (v : Node) (b : List ℕ
         ∙ ap₂ (λ (x y : Bool). x && y) (above_all u) (below_all t)
 
     -- the first and the last speak for all
-    ends : (p.root || keyed o lower) ≡ true → (not p.bounded || keyed o upper) ≡ true
+    ends : (is_none lo || keyed o (lent_key lo)) ≡ true → (not p.bounded || keyed o upper) ≡ true
         → in_bounds o p lower upper (entry_at v b 0).key ≡ true → in_bounds o p lower upper (entry_at v b n).key ≡ keys_within o p lower upper
         (entries_from v b 0 (suc n))
     unfolding in_bounds
@@ -219,7 +230,7 @@ module _ (o : ℕ) (p : Place) (lower upper : List ℕ) (v : Node) (b : List ℕ
         ap (λ (q : Bool). q && is_below (entry_at v b n).key) (z ∙ sym a) ∙ sym (ends_all u t)
 
   pub within_ends : (u : Bool) (x y : List ℕ) (r q : Bool) → (v.nkeys ≡ 0 → ⊥) → keys_rise o (entries_from v b 0 v.nkeys) ≡ true
-      → u ≡ ((p.root || keyed o lower) && (not p.bounded || keyed o upper)) → u ≡ true
+      → u ≡ ((is_none lo || keyed o (lent_key lo)) && (not p.bounded || keyed o upper)) → u ≡ true
       → x ≡ (entry_at v b 0).key → r ≡ in_bounds o p lower upper x → r ≡ true
       → y ≡ (entry_at v b (v.nkeys - 1)).key → q ≡ in_bounds o p lower upper y
       → q ≡ keys_within o p lower upper (entries_from v b 0 v.nkeys)
@@ -229,8 +240,8 @@ module _ (o : ℕ) (p : Place) (lower upper : List ℕ) (v : Node) (b : List ℕ
       let first : in_bounds o p lower upper (entry_at v b 0).key ≡ true = ap (in_bounds o p lower upper) (sym ex) ∙ sym er ∙ nr in
       let h' : keys_rise o (entries_from v b 0 (suc n)) ≡ true = ap (λ (z : ℕ). keys_rise o (entries_from v b 0 z)) (sym m) ∙ h in
       eq ∙ ap (in_bounds o p lower upper) ey
-      ∙ ends n h' (and_left (p.root || keyed o lower) (not p.bounded || keyed o upper) (sym eu ∙ nu))
-      (and_right (p.root || keyed o lower) (not p.bounded || keyed o upper) (sym eu ∙ nu)) first
+      ∙ ends n h' (and_left (is_none lo || keyed o (lent_key lo)) (not p.bounded || keyed o upper) (sym eu ∙ nu))
+      (and_right (is_none lo || keyed o (lent_key lo)) (not p.bounded || keyed o upper) (sym eu ∙ nu)) first
       ∙ ap (λ (z : ℕ). keys_within o p lower upper (entries_from v b 0 z)) (sym m)
 
 -- ---- a value in place

@@ -69,6 +69,16 @@ module _ (v : Node) (size : ℕ) (s : Span) where
   pub held_eight : span_holds v size s ≡ true → (v.level ≡ 0 → ⊥) → s.vlen ≡ 8
   held_eight h n = eqb-true s.vlen 8 (and_right (not (is_ghost s)) (eqb s.vlen 8) (held_child_lem h n))
 
+-- how long its key and its value are together
+pub held_length : (v : Node) (size : ℕ) (s : Span) (h : Bool) → h ≡ span_holds v size s → not h ≡ false → size ≤ 65536 → span_length s ≤ 131072
+unfolding span_length is_ghost
+held_length v size s h e n small =
+    let holds : span_holds v size s ≡ true = sym e ∙ not-false h n in
+    let k : s.klen ≤ 65536 = omega (arith, held_key v size s holds) in
+    by_test (is_ghost s)
+    (λ g. rw g (omega (arith, k)))
+    (λ g. rw g (omega (arith, k, held_end v size s holds (eqb-false s.voff 65535 g))))
+
 -- the bytes of an entry's key, and of a leaf's value
 pub key_counts : (v : Node) (b : List ℕ) (s : Span) → span_holds v (length b) s ≡ true → length (window s.key s.klen b) ≡ s.klen
 key_counts v b s h = length_window s.key s.klen b (held_key v (length b) s h)
@@ -154,4 +164,4 @@ rest_done w v b n i sum space e h g =
     let m : n - i ≡ 0 = omega arith in
     sym (e ∙ rw (m, add-zero, le-leb sum space g))
 
-pub ruleset entries = (entries_none_root, entries_none_other, entries_whole, rest_start, rest_outside, rest_long, rest_turn, rest_done)
+pub ruleset entries = (held_length, entries_none_root, entries_none_other, entries_whole, rest_start, rest_outside, rest_long, rest_turn, rest_done)

@@ -1,7 +1,8 @@
--- Laws of a key searched in a block: one for each turn and each way out, and the entry that is found. Assumes nothing.
-use Rattle.std.specs.Prelude.{◌≡◌, refl, List, [], ◌∷◌, Bool, true, false, take, drop}
-use Rattle.std.proofs.Math.Path.{ap}
-use Rattle.std.proofs.Common.{◌∙◌, add-zero, add-one}
+-- Laws of a key searched in a block, and the entry that is found. Assumes nothing.
+use Rattle.std.specs.Prelude.{◌≡◌, refl, List, [], ◌∷◌, Bool, true, false, take, drop, Option, Some, None, MatchOption}
+use Rattle.std.proofs.Math.Path.{sym, ap}
+use Rattle.std.specs.Option.{unwrap_or}
+use Rattle.std.proofs.Common.{◌∙◌, add-zero, zero-add}
 use Prim.Native.Nat.{ℕ, zero, suc, ◌+◌, ◌-◌, ◌≤◌, ◌<◌}
 use Rattle.std.proofs.Math.Nat.{sub-zero}
 use native.Mathlib.Omega.{arith}
@@ -13,42 +14,36 @@ use Rattle.node.specs.laws.read.Loaded.{entries_length}
 use Rattle.node.specs.declared.read.Node.{Node}
 
 module _ (v : Node) (b : List ℕ) (o : ℕ) (k : List ℕ) where
-  abbrev all : ℕ
-  all = not_above o k (entries_from v b 0 v.nkeys)
+  -- whether entry i is above the key
+  abbrev pub Above : ℕ → Bool → Type 0
+  Above i t = t ≡ less o k (entry_at v b i).key
 
-  abbrev rest : ℕ → ℕ
-  rest i = not_above o k (entries_from v b i (v.nkeys - i))
-
-  module _ (i : ℕ) (key : List ℕ) (t : Bool) (h : i < v.nkeys) (inv : i + rest i ≡ all)
-      (ek : key ≡ (entry_at v b i).key) (et : t ≡ less o k key) where
-    test_is : t ≡ less o k (entry_at v b i).key
-    test_is = et ∙ ap (less o k) ek
-
-    more : v.nkeys - i ≡ suc (v.nkeys - (i + 1))
-    more = omega arith
-
-    pub search_here : t ≡ true → i ≡ all
-    unfolding not_above entries_from
-    search_here q =
-        let z : rest i ≡ 0 = rw (more, ← test_is, q) in
-        omega (arith, inv, z)
-
-    pub search_next : t ≡ false → i + 1 + rest (i + 1) ≡ all
-    unfolding not_above entries_from
-    search_next q =
-        let z : rest i ≡ suc (not_above o k (entries_from v b (suc i) (v.nkeys - (i + 1)))) = rw (more, ← test_is, q) in
-        let y : rest (i + 1) ≡ not_above o k (entries_from v b (suc i) (v.nkeys - (i + 1))) = ap
-        (λ (j : ℕ). not_above o k (entries_from v b j (v.nkeys - (i + 1)))) (add-one i) in
-        omega (arith, inv, z, y)
-
-  pub search_none : (i : ℕ) → v.nkeys ≤ i → i + rest i ≡ all → i ≡ all
+  not_one : (i m : ℕ) → ((j : ℕ) → i ≤ j → j < i + m → Above j false) → not_above o k (entries_from v b i m) ≡ m
   unfolding not_above entries_from
-  search_none i h inv =
-      let m : v.nkeys - i ≡ 0 = omega arith in
-      let z : rest i ≡ 0 = rw m in
-      omega (arith, inv, z)
+  not_one i zero none = refl
+  not_one i (suc m) none =
+      let first : less o k (entry_at v b i).key ≡ false = sym (none i (omega arith) (omega arith)) in
+      rw first (ap suc (not_one (suc i) m (λ j g h. none j (omega arith) (omega arith))))
 
-pub ruleset search = (search_here, search_next, search_none)
+  one : (i m n : ℕ) → m < n → Above (i + m) true → ((j : ℕ) → i ≤ j → j < i + m → Above j false)
+      → not_above o k (entries_from v b i n) ≡ m
+  unfolding not_above entries_from
+  one i m zero lt is none = absurd (omega arith)
+  one i zero (suc n) lt is none =
+      let here : less o k (entry_at v b i).key ≡ true = sym (rw add-zero at is) in
+      rw here
+  one i (suc m) (suc n) lt is none =
+      let first : less o k (entry_at v b i).key ≡ false = sym (none i (omega arith) (omega arith)) in
+      let e : i + suc m ≡ suc i + m = omega arith in
+      rw first (ap suc (one (suc i) m n (omega arith) (rw e at is) (λ j g h. none j (omega arith) (omega arith))))
+
+  -- the first entry that is above it, if there is one
+  pub search_found : (r : Option ℕ)
+      → MatchOption r ((j : ℕ) → 0 ≤ j → j < v.nkeys → Above j false)
+      (λ i. (0 ≤ i) × (i < v.nkeys) × Above i true × ((j : ℕ) → 0 ≤ j → j < i → Above j false))
+      → (unwrap_or r v.nkeys ≡ not_above o k (entries_from v b 0 v.nkeys)) × (unwrap_or r v.nkeys ≤ v.nkeys)
+  search_found None none = (sym (not_one 0 v.nkeys (λ j g h. none j g (omega arith))), omega arith)
+  search_found (Some i) m = (sym (one 0 i v.nkeys m.1 (rw zero-add m.2) (λ j g h. m.3 j g (omega arith))), omega (arith, m.1))
 
 -- ---- the entry that is found
 

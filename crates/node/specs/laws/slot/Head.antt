@@ -1,9 +1,8 @@
 -- Laws of a slot's words: stored and loaded. Assumes nothing.
-use Rattle.std.specs.Prelude.{◌≡◌, refl, List, [], ◌∷◌, Bool, true, false, cond, ℕ, ◌+◌, ◌*◌, ◌≤◌, ◌<◌, length, get_or, set, ltb, eqb, Option, option_to_list}
+use Rattle.std.specs.Prelude.{◌≡◌, refl, List, [], ◌∷◌, Bool, true, false, cond, ℕ, zero, suc, ◌+◌, ◌*◌, ◌/◌, ◌≤◌, ◌<◌, length, get_or, take, drop, ltb, eqb, Option, option_to_list}
 use Rattle.std.specs.Bool.{then_some}
-use Rattle.std.proofs.Common.{sym, ap, ◌∙◌, add-zero, add-one, arith, ltb-true, ltb-false}
-use Rattle.std.proofs.Math.Numerals.{add-two, add-three, add-four, add_five, add_six, add_seven, add_eight}
-use Rattle.std.proofs.lemmas.List.Edits.{sets-eq}
+use Rattle.std.specs.Simd.{first_chunks}
+use Rattle.std.proofs.Common.{sym, ap, ◌∙◌, add-zero, arith, drop-drop, ltb-true, ltb-false}
 use Rattle.seal.specs.Bytes.{window, splice}
 use Rattle.seal.specs.laws.WindowLaws.{get_d_window, window_splice_same, window_splice_before, window_splice_after}
 use Rattle.node.specs.laws.base.Tests.{by_test}
@@ -13,24 +12,13 @@ use Rattle.node.specs.internal.SlotSteps.{read_head}
 use Rattle.node.specs.declared.head.Head.{Head}
 use Rattle.node.specs.declared.read.Node.{Node}
 
-pub head_stored : (ws : List ℕ) (a : ℕ) (h : Head) → a + 9 ≤ length ws
-    → set
-    (set (set (set (set (set (set (set (set ws a h.level) (a + 1) h.count) (a + 2) h.used) (a + 3) h.placed) (a + 4) h.block) (a + 5)
-    h.named) (a + 6) h.id) (a + 7) h.dirty)
-    (a + 8)
-    h.dead
-    ≡ splice ws a (head_words h)
-unfolding splice head_words
-head_stored ws a h r = rw (add-one a, add-two a, add-three a, add-four a, add_five a, add_six a, add_seven a, add_eight a)
-    (sets-eq (head_words h) ws a r)
-
 -- a number under its mark, as an `Option`
 pub marked_is : (m x : ℕ) (o : Option ℕ) → o ≡ then_some (eqb m 1) x → option_to_list o ≡ marked m x
 unfolding marked
 marked_is m x o e = by_test (eqb m 1) (λ t. rw (e, t)) (λ t. rw (e, t))
 
 -- nine words as a head
-words_head : List ℕ → Head
+abbrev words_head : List ℕ → Head
 words_head w =
     record {
       level = get_or w 0 0;
@@ -45,7 +33,7 @@ words_head w =
     }
 
 head_window : (ws : List ℕ) (s : ℕ) → words_head (window (s * 9) 9 ws) ≡ head_at ws s
-unfolding words_head head_at
+unfolding head_at
 head_window ws s =
     let at : (k : ℕ) → k < 9 → get_or (window (s * 9) 9 ws) k 0 ≡ get_or ws (s * 9 + k) 0 = λ k h. get_d_window (s * 9) 9 ws k h in
     let z : get_or (window (s * 9) 9 ws) 0 0 ≡ get_or ws (s * 9) 0 = at 0 (omega arith) ∙ ap (λ (k : ℕ). get_or ws k 0) (add-zero (s * 9)) in
@@ -61,9 +49,23 @@ head_window ws s =
       at 8 (omega arith),
     )
 
+-- each nine words are a slot's
+chunk_window : (ws : List ℕ) (k s : ℕ) → s < k → get_or (first_chunks 9 k ws) s [] ≡ window (s * 9) 9 ws
+unfolding window
+chunk_window ws zero s h = absurd (omega arith)
+chunk_window ws (suc k) zero h = refl
+chunk_window ws (suc k) (suc s) h =
+    let q : 9 + s * 9 ≡ suc s * 9 = omega arith in
+    chunk_window (drop 9 ws) k s (omega arith) ∙ ap (take 9) (drop-drop (s * 9) 9 ws ∙ ap (λ (j : ℕ). drop j ws) q)
+
+pub head_chunk : (ws : List ℕ) (words : List (List ℕ)) (s : ℕ) → words ≡ first_chunks 9 (length ws / 9) ws → (s + 1) * 9 ≤ length ws
+    → words_head (get_or words s []) ≡ head_at ws s
+head_chunk ws words s e r =
+    ap (λ (w : List (List ℕ)). words_head (get_or w s [])) e ∙ ap words_head (chunk_window ws (length ws / 9) s (omega arith)) ∙ head_window ws s
+
 -- a slot's words are those that were stored
 pub head_same : (ws : List ℕ) (s : ℕ) (h : Head) → (s + 1) * 9 ≤ length ws → head_at (splice ws (s * 9) (head_words h)) s ≡ h
-unfolding words_head head_words
+unfolding head_words
 head_same ws s h r =
     sym (head_window (splice ws (s * 9) (head_words h)) s) ∙ ap words_head (window_splice_same ws (s * 9) (head_words h) (omega arith))
 

@@ -1,5 +1,5 @@
 -- A search among records: those that it passes at once, then one at a time. Assumes nothing.
-use Rattle.std.specs.Prelude.{◌≡◌, refl, List, [], Bool, true, false, not, ◌&&◌, ◌||◌, ℕ, suc, ◌+◌, ◌-◌, ◌≤◌, ◌<◌, length, drop, ltb, eqb}
+use Rattle.std.specs.Prelude.{◌≡◌, refl, List, [], Bool, true, false, not, ◌&&◌, ◌||◌, ℕ, suc, ◌+◌, ◌-◌, ◌≤◌, ◌<◌, length, drop, ltb, eqb, Result, Ok, Err}
 use Rattle.std.proofs.Common.{sym, ap, ◌∙◌, arith, zero-add, drop_of_length-le, ltb-true, le-ltb, eq-eqb, ne_eqb, eqb-true}
 use mathlib.Core.List.{◌∷◌}
 use Rattle.std.specs.declared.cmp.Ordering.{Ordering}
@@ -9,9 +9,10 @@ use Rattle.node.specs.Order.{pair, byte, keyed, pair_less, byte_less, less}
 use Rattle.node.specs.Entry.{Entry}
 use Rattle.node.specs.Records.{mark_length, record_length, records_length, entry_of, entries_of}
 use Rattle.node.specs.Find.{place_of, is_there, not_above}
-use Rattle.node.specs.declared.slot.Found.{Found}
+use Rattle.node.specs.declared.slot.RecordAt.{RecordAt}
 use Rattle.node.specs.declared.slot.Last.{Last}
 use Rattle.node.specs.internal.SlotSteps.{found_in, last_in}
+use Rattle.node.specs.declared.slot.Run.{Run}
 use Rattle.node.specs.internal.Sought.{compared, Below, Passed}
 use Rattle.node.specs.laws.order.Compared.{compared_lt}
 use Rattle.node.specs.laws.base.Tests.{by_test, or_right, and_left, and_right}
@@ -152,16 +153,35 @@ module _ (o : ℕ) (k : List ℕ) (n : ℕ) (l : List ℕ) where
           → i + 1 + not_above o k (drop (i + 1) es) ≡ not_above o k es
       above_turn t q r = above_past (sym said_gt ∙ sym q ∙ r)
 
-      pub found_here : (t u : Bool) → t ≡ is_lt c → t ≡ false → u ≡ is_eq c → i + place_of o k (drop i es) ≡ place_of o k es
-          → is_there o k (drop i es) ≡ is_there o k es → ◌≡◌ {A = Found} (record { index = i; at = at; found = u }) (found_in o k n l)
-      unfolding place_of is_there found_in
-      found_here t u q r s v w =
-          let x : less o key k ≡ false = sym said_lt ∙ sym q ∙ r in
-          let y : place_of o k (drop i es) ≡ 0 = ap (place_of o k) (entries_head i n at l hi p) ∙ rw x in
+      place_here : is_lt c ≡ false → i + place_of o k (drop i es) ≡ place_of o k es → i ≡ place_of o k es
+      unfolding place_of
+      place_here q v =
+          let y : place_of o k (drop i es) ≡ 0 = ap (place_of o k) (entries_head i n at l hi p) ∙ rw (sym said_lt ∙ q) in
+          omega arith
+
+      there_here : is_lt c ≡ false → is_there o k (drop i es) ≡ is_there o k es → is_eq c ≡ is_there o k es
+      unfolding is_there
+      there_here q w =
+          let x : less o key k ≡ false = sym said_lt ∙ q in
           let z : is_there o k (drop i es) ≡ not (less o k key) = ap (is_there o k) (entries_head i n at l hi p) ∙ rw x in
-          let a : i ≡ place_of o k es = omega arith in
-          let f : u ≡ is_there o k es = s ∙ ap is_eq e ∙ compared_eq o key k x ∙ sym z ∙ w in
-          rw (p, a, f)
+          ap is_eq e ∙ compared_eq o key k x ∙ sym z ∙ w
+
+      -- the record has the key, or is the first above it
+      pub found_here : (t u : Bool) → t ≡ is_lt c → t ≡ false → u ≡ is_eq c → i + place_of o k (drop i es) ≡ place_of o k es
+          → is_there o k (drop i es) ≡ is_there o k es → u ≡ true
+          → ◌≡◌ {A = Result RecordAt RecordAt} (Ok (record { index = i; at = at })) (found_in o k n l)
+      unfolding found_in
+      found_here t u q r s v w b =
+          let f : true ≡ is_there o k es = sym b ∙ s ∙ there_here (sym q ∙ r) w in
+          rw (p, ← f, place_here (sym q ∙ r) v)
+
+      pub found_above : (t u : Bool) → t ≡ is_lt c → t ≡ false → u ≡ is_eq c → i + place_of o k (drop i es) ≡ place_of o k es
+          → is_there o k (drop i es) ≡ is_there o k es → u ≡ false
+          → ◌≡◌ {A = Result RecordAt RecordAt} (Err (record { index = i; at = at })) (found_in o k n l)
+      unfolding found_in
+      found_above t u q r s v w b =
+          let f : false ≡ is_there o k es = sym b ∙ s ∙ there_here (sym q ∙ r) w in
+          rw (p, ← f, place_here (sym q ∙ r) v)
 
       pub last_here : (t : Bool) (last : ℕ) → t ≡ is_gt c → t ≡ true → last ≡ records_length (i - 1) l
           → i + not_above o k (drop i es) ≡ not_above o k es → ◌≡◌ {A = Last} (record { count = i; at = last }) (last_in o k n l)
@@ -174,7 +194,7 @@ module _ (o : ℕ) (k : List ℕ) (n : ℕ) (l : List ℕ) where
 
   -- no record is left
   pub found_none : (i at : ℕ) → n ≤ i → i ≤ n → at ≡ records_length i l → i + place_of o k (drop i es) ≡ place_of o k es
-      → is_there o k (drop i es) ≡ is_there o k es → ◌≡◌ {A = Found} (record { index = n; at = at; found = false }) (found_in o k n l)
+      → is_there o k (drop i es) ≡ is_there o k es → ◌≡◌ {A = Result RecordAt RecordAt} (Err (record { index = n; at = at })) (found_in o k n l)
   unfolding place_of is_there found_in
   found_none i at h m p v w =
       let y : place_of o k (drop i es) ≡ 0 = ap (place_of o k) (none_left i h) in
@@ -199,16 +219,16 @@ last_kept l i at p = let e : i ≡ i + 1 - 1 = omega arith in p ∙ ap (λ (x : 
 
 -- ---- records that are passed at once
 
-pub passed_none : (o : ℕ) (k : List ℕ) (n : ℕ) (l : List ℕ) → Passed o k n l (record { count = 0; at = 0; last = 0 })
+pub passed_none : (o : ℕ) (k : List ℕ) (n : ℕ) (l : List ℕ) (r : Run) → r.count ≡ 0 → r.at ≡ 0 → r.last ≡ 0 → Passed o k n l r
 unfolding records_length
-passed_none o k n l =
+passed_none o k n l r c a p =
     record {
       upto = omega arith;
-      start = refl;
-      last = refl;
-      place = zero-add (place_of o k (entries_of n l));
-      there = refl;
-      not_above = zero-add (not_above o k (entries_of n l));
+      start = rw (c, a) refl;
+      last = rw (c, p) refl;
+      place = rw c (zero-add (place_of o k (entries_of n l)));
+      there = rw c refl;
+      not_above = rw c (zero-add (not_above o k (entries_of n l)));
     }
 
 module _ (o : ℕ) (k : List ℕ) (n : ℕ) (l : List ℕ) (i at last : ℕ) (h : records_length n l ≤ length l) (hi : i < n)
@@ -237,6 +257,6 @@ bare_next l at after klen mark bare more k m e a =
 
 -- ---- what the searches take of these
 
-pub ruleset place = (at_next, place_turn, there_turn, found_here, found_none)
+pub ruleset place = (at_next, place_turn, there_turn, found_here, found_above, found_none)
 
 pub ruleset above = (above_turn, last_kept, last_here, last_none)
