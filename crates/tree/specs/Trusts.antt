@@ -81,27 +81,25 @@ abbrev pub OpenedTrusts : List ℕ → Lent → List ℕ → List ℕ → std.Re
 OpenedTrusts image l heads bytes (Err x) = Unit {0}
 OpenedTrusts image l heads bytes (Ok t) = Trusts image l t heads bytes
 
--- a refused get leaves the tree as it was, an accepted one a tree to be trusted
-abbrev pub GotCalled : List ℕ → Lent → Tree → List ℕ → List ℕ → List ℕ → List ℕ → std.Result (Tree × Option Copied) Refusal → Type 0
-GotCalled image l t heads bytes heads' bytes' (Err x) = Stays l t heads bytes heads' bytes'
-GotCalled image l t heads bytes heads' bytes' (Ok (u, c)) = Trusts image l u heads' bytes'
+-- a refused call leaves the tree as it was, an accepted one a tree to be trusted, which is in its answer
+abbrev pub CalledBy : {T : Type 0} → (T → Tree) → List ℕ → Lent → Tree → List ℕ → List ℕ → List ℕ → List ℕ → std.Result T Refusal → Type 0
+CalledBy tree image l t heads bytes heads' bytes' (Err x) = Stays l t heads bytes heads' bytes'
+CalledBy tree image l t heads bytes heads' bytes' (Ok y) = Trusts image l (tree y) heads' bytes'
 
--- a refused floor leaves the tree as it was, an accepted one a tree to be trusted
-abbrev pub FloorCalled : List ℕ → Lent → Tree → List ℕ → List ℕ → List ℕ → List ℕ → std.Result (Tree × Option ℕ) Refusal → Type 0
-FloorCalled image l t heads bytes heads' bytes' (Err x) = Stays l t heads bytes heads' bytes'
-FloorCalled image l t heads bytes heads' bytes' (Ok (u, n)) = Trusts image l u heads' bytes'
-
--- a refused range leaves the tree as it was, an accepted one a tree to be trusted
-abbrev pub RangeCalled : List ℕ → Lent → Tree → List ℕ → List ℕ → List ℕ → List ℕ → std.Result Ranged Refusal → Type 0
-RangeCalled image l t heads bytes heads' bytes' (Err x) = Stays l t heads bytes heads' bytes'
-RangeCalled image l t heads bytes heads' bytes' (Ok r) = Trusts image l r.tree heads' bytes'
-
--- a refused edit leaves the tree as it was, an accepted one a tree to be trusted
+-- of an edit
 abbrev pub EditedCalled : List ℕ → Lent → Tree → List ℕ → List ℕ → List ℕ → List ℕ → std.Result Tree Refusal → Type 0
-EditedCalled image l t heads bytes heads' bytes' (Err x) = Stays l t heads bytes heads' bytes'
-EditedCalled image l t heads bytes heads' bytes' (Ok u) = Trusts image l u heads' bytes'
+EditedCalled image l t heads bytes heads' bytes' r = CalledBy (λ u. u) image l t heads bytes heads' bytes' r
 
--- the same of remove
+-- of a range
+abbrev pub RangeCalled : List ℕ → Lent → Tree → List ℕ → List ℕ → List ℕ → List ℕ → std.Result Ranged Refusal → Type 0
+RangeCalled image l t heads bytes heads' bytes' r = CalledBy (λ y. y.tree) image l t heads bytes heads' bytes' r
+
+-- of a get, a floor and a remove, which answer more than the tree
+abbrev pub GotCalled : List ℕ → Lent → Tree → List ℕ → List ℕ → List ℕ → List ℕ → std.Result (Tree × Option Copied) Refusal → Type 0
+GotCalled image l t heads bytes heads' bytes' r = CalledBy (λ y. y.0) image l t heads bytes heads' bytes' r
+
+abbrev pub FloorCalled : List ℕ → Lent → Tree → List ℕ → List ℕ → List ℕ → List ℕ → std.Result (Tree × Option ℕ) Refusal → Type 0
+FloorCalled image l t heads bytes heads' bytes' r = CalledBy (λ y. y.0) image l t heads bytes heads' bytes' r
+
 abbrev pub RemovedCalled : List ℕ → Lent → Tree → List ℕ → List ℕ → List ℕ → List ℕ → std.Result (Tree × Bool) Refusal → Type 0
-RemovedCalled image l t heads bytes heads' bytes' (Err x) = Stays l t heads bytes heads' bytes'
-RemovedCalled image l t heads bytes heads' bytes' (Ok (u, there)) = Trusts image l u heads' bytes'
+RemovedCalled image l t heads bytes heads' bytes' r = CalledBy (λ y. y.0) image l t heads bytes heads' bytes' r

@@ -29,7 +29,7 @@ pub const SLOT_BLOCKS: usize = 4;
 pub fn live_of(h: Head) -> Head
     ensures { result ≡ live h }
 {
-    if h.dead == 1 {
+    if h.is_dead() {
         return Head {
             count: 0,
             used: 0,

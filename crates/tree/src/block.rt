@@ -15,22 +15,15 @@ use node::head::Head;
 use node::{pack, room};
 
 // The node of slot n was written: its new block, its id, clean.
-#[tactic(auto, using(crate::specs::laws::slots::Block::words_written))]
+#[tactic(auto, unfolding(crate::specs::internal::Block::written_head))]
 pub fn rewrite(heads: &mut [u64], n: usize, a: u64, id: Option<u64>)
     requires { (n + 1) * 9 ≤ length heads.old }
     ensures { heads.new
         ≡ splice heads.old (n * 9) (head_words (written_head (head_at heads.old n) a id)) }
 {
     let h = Head::load(heads, n);
-    let w = Head {
-        placed: 1,
-        block: a,
-        named: u64::from(id.is_some()),
-        id: id.unwrap_or(0),
-        dirty: 0,
-        ..h
-    };
-    w.store(heads, n);
+    let w = Head { dirty: 0, ..h };
+    w.with_block(Some(a)).with_id(id).store(heads, n);
 }
 
 impl<'h, 'b> View<'h, 'b> {
@@ -73,13 +66,5 @@ impl Tree {
         ensures { (result ≡ data_space self.info.node_size true) × (0 < result) }
     {
         room::data_space(self.info.node_size, true)
-    }
-
-    // How many keys the tree has.
-    pub fn key_count(self) -> u64
-        ensures { result ≡ self.info.key_count }
-    {
-        let info = self.info;
-        info.key_count
     }
 }

@@ -1,6 +1,6 @@
 // Cuts (`split_up` of write/tree.rs): on a way, bottom up, each node that does not fit is cut in two.
 ghost use Rattle.std.specs.Prelude.{◌≡◌, [], true, ◌+◌, ◌≤◌, ◌<◌, ◌^◌, length};
-ghost use Rattle.node.specs.Fit.{Sized};
+ghost use Rattle.node.specs.Fit.{Sized, fits};
 ghost use Rattle.tree.specs.Lent.{lent_of};
 ghost use Rattle.tree.specs.State.{node_at};
 ghost use Rattle.tree.specs.Edit.{parted, grow_root, new_root_holds, cut_at, cut_node, cuts};
@@ -10,18 +10,16 @@ ghost use Rattle.tree.specs.Trusts.{Ready};
 ghost use Rattle.tree.specs.internal.Undo.{Follows};
 ghost use Rattle.tree.specs.internal.Index.{Rewritten};
 ghost use Rattle.tree.specs.internal.Way.{steps_in};
-ghost use Rattle.tree.specs.internal.Edits.{CutFits, CutsFit, ReadyEdited};
+ghost use Rattle.tree.specs.internal.Edits.{CutFits, CutsFit, EditedFrom};
 ghost use Rattle.tree.specs.internal.Cutting.{up_of, room_of, counted, stays_whole, child_put, ChildFits, root_added, RootFits, CutIs};
 ghost use Rattle.tree.specs.internal.View.{seen};
 
-use crate::editor::Tree;
+use crate::editor::{Position, Tree};
 use crate::floor::Spot;
 use crate::lent::Lent;
 use crate::view::{View, view};
-use crate::way::Step;
 use crate::writers::DirtyMark;
 use crate::{bank, undo, writers};
-use node::cut::CutAt;
 use node::head::Head;
 use node::read::MAX_DEPTH;
 use node::refusal::{Refusal, check};
@@ -29,14 +27,25 @@ use node::room::Shape;
 use node::val::{Child, Val};
 
 impl<'h, 'b> View<'h, 'b> {
+    // Whether the node of a slot fits, as a root or not.
+    #[tactic(auto, using(crate::specs::laws::slots::Records::node_used))]
+    pub fn fits(self, n: usize, root: bool) -> bool
+        requires { (n < self.tree.used) × (Sized self.tree.info) }
+        ensures { result
+            ≡ fits self.entry.tree.info root (node_at (seen self.entry) n).level
+            (node_at (seen self.entry) n).entries }
+    {
+        let h = bank::live_at(self.heads, n);
+        self.slot_node(n, root).fits(h.used)
+    }
+
     // Whether the node of a slot needs no cut: it is dead, or it fits.
     #[tactic(auto, using(crate::specs::laws::slots::Records::node_used, crate::specs::laws::cut::Asked::fits_at_laws))]
     pub fn fits_at(self, n: usize) -> bool
         requires sized { Sized self.tree.info × (n < self.tree.used) }
         ensures { result ≡ stays_whole (seen self.entry) n }
     {
-        let h = bank::live_at(self.heads, n);
-        h.dead == 1 || self.slot_node(n, n == self.tree.root).fits(h.used)
+        bank::live_at(self.heads, n).is_dead() || self.fits(n, n == self.tree.root)
     }
 
     // 15: whether a root above slot n, cut after so many entries, fits and is not at level 33.
@@ -95,20 +104,15 @@ impl Tree {
         ensures { Rewritten lent.size lent.slots self heads.old bytes.old heads.new bytes.new
             (child_put (state_of lent.size self heads.old bytes.old) n i c) }
     {
-        let len = view!(self, heads, bytes, lent).first_key(c, scratch);
-        let at = view!(self, heads, bytes, lent).offset_at(n, i);
-        let spot = Spot {
-            slot: n,
-            index: i,
-            at,
-        };
+        let key = view!(self, heads, bytes, lent).first_key(c, scratch);
+        let spot = view!(self, heads, bytes, lent).spot_of(n, i);
         writers::insert_at(
             heads,
             bytes,
             lent,
             self.used,
             spot,
-            &scratch[..len],
+            key,
             Val::Child(Child::Mem(c as u64)),
             DirtyMark::Set,
         );
@@ -136,14 +140,7 @@ impl Tree {
             ..h
         };
         top.store(heads, c);
-        let left = Head {
-            placed: 0,
-            block: 0,
-            named: 0,
-            id: 0,
-            ..h
-        };
-        left.store(heads, n);
+        h.with_block(None).with_id(None).store(heads, n);
         self.root = c;
         self.used = c + 1;
         self
@@ -172,68 +169,54 @@ impl Tree {
         t
     }
 
-    // Slot n, the root, cut after so many entries: 15, 17, 11.
+    // The root cut at a spot: 15, 17, 11.
     #[tactic(auto, using(crate::specs::laws::base::Refused::handed_on, crate::specs::laws::cut::CutAt::cut_root_laws))]
     fn cut_root(
         self,
         heads: &mut [u64],
         bytes: &mut [u8],
         lent: Lent,
-        n: usize,
-        found: CutAt,
+        spot: Spot,
         scratch: &mut [u8],
     ) -> Result<Tree, Refusal>
         requires ready { (Ready lent.size lent.slots self.used heads.old bytes.old) × (lent.size ≤ length scratch.old) }
-        requires room { (CutFits lent.size (state_of lent.size self heads.old bytes.old) [] n)
-            × (CutIs lent.size self heads.old bytes.old n found.place found.at) }
+        requires room { (CutFits lent.size (state_of lent.size self heads.old bytes.old) [] spot.slot)
+            × (CutIs lent.size self heads.old bytes.old spot.slot spot.index spot.at) }
         ensures answer { edited_of lent.size heads.new bytes.new result
-            ≡ cut_at (lent_of [] lent) [] n found.place (state_of lent.size self heads.old bytes.old) }
-        ensures ready { ReadyEdited lent.size lent.slots heads.new bytes.new result }
-        ensures follows { Follows lent.size lent.slots self.used heads.old bytes.old heads.new bytes.new }
+            ≡ cut_at (lent_of [] lent) [] spot.slot spot.index (state_of lent.size self heads.old bytes.old) }
+        ensures left { EditedFrom lent.size lent.slots self.used heads.old bytes.old heads.new bytes.new result }
     {
-        let holds = view!(self, heads, bytes, lent).new_root_holds(n, found.place as u64);
+        let holds = view!(self, heads, bytes, lent).new_root_holds(spot.slot, spot.index);
         check(Refusal::NewRoot, holds)?;
         self.room_for(lent.slots, 2)?;
         let r = self.used;
-        let spot = Spot {
-            slot: n,
-            index: found.place as u64,
-            at: found.at,
-        };
         let t = self.part(heads, bytes, lent, spot);
-        let top = t.grow_root(heads, bytes, lent, n, r, scratch);
+        let top = t.grow_root(heads, bytes, lent, spot.slot, r, scratch);
         Ok(top.more_nodes(2))
     }
 
-    // Slot n, a child, cut after so many entries: 17, 11. Its right part stands after it.
+    // A child cut at a spot: 17, 11. Its right part stands after it.
     #[tactic(auto, using(crate::specs::laws::base::Refused::handed_on, crate::specs::laws::cut::CutAt::child_full))]
     fn cut_child(
         self,
         heads: &mut [u64],
         bytes: &mut [u8],
         lent: Lent,
-        up: Step,
-        n: usize,
-        found: CutAt,
+        up: Position,
+        spot: Spot,
         scratch: &mut [u8],
     ) -> Result<Tree, Refusal>
         requires ready { (Ready lent.size lent.slots self.used heads.old bytes.old) × (lent.size ≤ length scratch.old) }
-        requires room { (CutFits lent.size (state_of lent.size self heads.old bytes.old) (up_of (Some up)) n)
-            × (CutIs lent.size self heads.old bytes.old n found.place found.at) }
+        requires room { (CutFits lent.size (state_of lent.size self heads.old bytes.old) (up_of (Some up)) spot.slot)
+            × (CutIs lent.size self heads.old bytes.old spot.slot spot.index spot.at) }
         ensures answer { edited_of lent.size heads.new bytes.new result
-            ≡ cut_at (lent_of [] lent) (up_of (Some up)) n found.place (state_of lent.size self heads.old bytes.old) }
-        ensures ready { ReadyEdited lent.size lent.slots heads.new bytes.new result }
-        ensures follows { Follows lent.size lent.slots self.used heads.old bytes.old heads.new bytes.new }
+            ≡ cut_at (lent_of [] lent) (up_of (Some up)) spot.slot spot.index (state_of lent.size self heads.old bytes.old) }
+        ensures left { EditedFrom lent.size lent.slots self.used heads.old bytes.old heads.new bytes.new result }
     {
         self.room_for(lent.slots, 1)?;
         let r = self.used;
-        let spot = Spot {
-            slot: n,
-            index: found.place as u64,
-            at: found.at,
-        };
         let t = self.part(heads, bytes, lent, spot);
-        t.link_child(heads, bytes, lent, up.slot, up.child + 1, r, scratch);
+        t.link_child(heads, bytes, lent, up.slot, up.index + 1, r, scratch);
         Ok(t.more_nodes(1))
     }
 
@@ -244,7 +227,7 @@ impl Tree {
         heads: &mut [u64],
         bytes: &mut [u8],
         lent: Lent,
-        up: Option<Step>,
+        up: Option<Position>,
         n: usize,
         scratch: &mut [u8],
     ) -> Result<Tree, Refusal>
@@ -252,17 +235,21 @@ impl Tree {
         requires room { CutFits lent.size (state_of lent.size self heads.old bytes.old) (up_of up) n }
         ensures answer { edited_of lent.size heads.new bytes.new result
             ≡ cut_node (lent_of [] lent) (up_of up) n (state_of lent.size self heads.old bytes.old) }
-        ensures ready { ReadyEdited lent.size lent.slots heads.new bytes.new result }
-        ensures follows { Follows lent.size lent.slots self.used heads.old bytes.old heads.new bytes.new }
+        ensures left { EditedFrom lent.size lent.slots self.used heads.old bytes.old heads.new bytes.new result }
     {
         if view!(self, heads, bytes, lent).fits_at(n) {
             return Ok(self);
         }
         let node = view!(self, heads, bytes, lent).slot_node(n, n == self.root);
         let found = node.cut()?;
+        let spot = Spot {
+            slot: n,
+            index: found.place as u64,
+            at: found.at,
+        };
         match up {
-            None => self.cut_root(heads, bytes, lent, n, found, scratch),
-            Some(up) => self.cut_child(heads, bytes, lent, up, n, found, scratch),
+            None => self.cut_root(heads, bytes, lent, spot, scratch),
+            Some(up) => self.cut_child(heads, bytes, lent, up, spot, scratch),
         }
     }
 
@@ -273,7 +260,7 @@ impl Tree {
         heads: &mut [u64],
         bytes: &mut [u8],
         lent: Lent,
-        way: &[Step],
+        way: &[Position],
         scratch: &mut [u8],
     ) -> Result<Tree, Refusal>
         requires ready { Ready lent.size lent.slots self.used heads.old bytes.old }
@@ -282,8 +269,7 @@ impl Tree {
         ensures answer { edited_of lent.size heads.new bytes.new result
             ≡ cuts (lent_of [] lent) [] (steps_in way.now) (state_of lent.size self
             heads.old bytes.old) }
-        ensures ready { ReadyEdited lent.size lent.slots heads.new bytes.new result }
-        ensures follows { Follows lent.size lent.slots self.used heads.old bytes.old heads.new bytes.new }
+        ensures left { EditedFrom lent.size lent.slots self.used heads.old bytes.old heads.new bytes.new result }
     {
         let mut t = self;
         for [up, step] in way.array_windows::<2>().rev() {

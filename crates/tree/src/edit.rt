@@ -1,5 +1,5 @@
 // What edits share: dirty marks, a node cut in two.
-ghost use Rattle.std.specs.Prelude.{◌≡◌, ◌+◌, ◌*◌, ◌^◌, ◌≤◌, ◌<◌, length, take};
+ghost use Rattle.std.specs.Prelude.{◌≡◌, ◌+◌, ◌*◌, ◌^◌, ◌≤◌, ◌<◌, length};
 ghost use Rattle.node.specs.Find.{key_at};
 ghost use Rattle.node.specs.Slot.{head_at};
 ghost use Rattle.tree.specs.Workspace.{state_of};
@@ -13,11 +13,10 @@ ghost use Rattle.tree.specs.internal.Way.{steps_in, WayIn, Dirtied, Touched};
 ghost use Rattle.tree.specs.internal.Index.{key_differs, key_put, Rewritten, KeyRoom, IndexRoom};
 ghost use Rattle.tree.specs.internal.View.{seen};
 
-use crate::editor::Tree;
+use crate::editor::{Position, Tree};
 use crate::floor::Spot;
 use crate::lent::Lent;
 use crate::view::{View, view};
-use crate::way::Step;
 use crate::writers::DirtyMark;
 use crate::{bank, undo, writers};
 use node::bytes;
@@ -32,25 +31,22 @@ impl<'h, 'b> View<'h, 'b> {
         self.count_at(c) != 0 && i < self.count_at(n) && self.key_at(n, i) != self.key_at(c, 0)
     }
 
-    // The first key of a slot, copied out. The answer is its length.
+    // The first key of a slot, copied into the scratch.
     #[tactic(auto, using(crate::specs::laws::cut::IndexKey::first_key_laws))]
-    pub fn first_key(self, c: usize, scratch: &mut [u8]) -> usize
-        requires c_in_bounds { length (key_at (node_at (seen self) c).entries 0)
-            ≤ length scratch.old }
-        ensures long { result ≤ length scratch.new }
-        ensures key { take result scratch.new
-            ≡ key_at (node_at (seen self.entry) c).entries 0 }
+    pub fn first_key<'s>(self, c: usize, scratch: &'s mut [u8]) -> &'s [u8]
+        requires { length (key_at (node_at (seen self) c).entries 0) ≤ length scratch.old }
+        ensures { result.now ≡ key_at (node_at (seen self.entry) c).entries 0 }
     {
         let key = self.key_at(c, 0);
         bytes::copy_to(key, scratch, 0);
-        key.len()
+        &scratch[..key.len()]
     }
 }
 
 impl Tree {
     // Every slot of a way dirty.
     #[tactic(auto, using(crate::specs::laws::slots::Touch::mark_way_laws))]
-    pub fn mark_way(self, heads: &mut [u64], bytes: &mut [u8], lent: Lent, way: &[Step])
+    pub fn mark_way(self, heads: &mut [u64], bytes: &mut [u8], lent: Lent, way: &[Position])
         requires { (Ready lent.size lent.slots self.used heads.old bytes.old) × (WayIn self.used way.now) }
         ensures { Dirtied lent.size lent.slots self way.now (length way.now) heads.old bytes.old
             heads.new bytes.new }
@@ -62,7 +58,7 @@ impl Tree {
 
     // The leaf and the root; in a physical tree the whole way.
     #[tactic(auto, using(crate::specs::laws::slots::Touch::touch_laws))]
-    pub fn touch(self, heads: &mut [u64], bytes: &mut [u8], lent: Lent, way: &[Step])
+    pub fn touch(self, heads: &mut [u64], bytes: &mut [u8], lent: Lent, way: &[Position])
         requires ready { (Ready lent.size lent.slots self.used heads.old bytes.old) × (WayIn self.used way.now) }
         requires root_lt_used { (self.root < self.used) × (1 ≤ length way.now) }
         ensures { Touched lent.size lent.slots self way.now heads.old bytes.old
@@ -94,17 +90,13 @@ impl Tree {
         let rest = h.used as usize - spot.at;
         bytes::shift(bytes, spot.slot * w + spot.at, c * w, rest);
         let right = Head {
-            level: h.level,
             count: h.count - spot.index,
             used: rest as u64,
-            placed: 0,
-            block: 0,
-            named: 0,
-            id: 0,
             dirty: 1,
             dead: 0,
+            ..h
         };
-        right.store(heads, c);
+        right.with_block(None).with_id(None).store(heads, c);
         let left = Head {
             count: spot.index,
             used: spot.at as u64,
@@ -145,12 +137,7 @@ impl Tree {
         ensures { Rewritten lent.size lent.slots self heads.old bytes.old heads.new bytes.new
             (key_put (state_of lent.size self heads.old bytes.old) n i key.now) }
     {
-        let at = view!(self, heads, bytes, lent).offset_at(n, i);
-        let spot = Spot {
-            slot: n,
-            index: i,
-            at,
-        };
+        let spot = view!(self, heads, bytes, lent).spot_of(n, i);
         writers::rekey_at(heads, bytes, lent, self.used, spot, key, DirtyMark::Set);
     }
 
@@ -172,8 +159,8 @@ impl Tree {
             (set_index_key (state_of lent.size self heads.old bytes.old) n i c) }
     {
         if view!(self, heads, bytes, lent).key_differs(n, i, c) {
-            let len = view!(self, heads, bytes, lent).first_key(c, scratch);
-            self.rekey(heads, bytes, lent, n, i, &scratch[..len]);
+            let key = view!(self, heads, bytes, lent).first_key(c, scratch);
+            self.rekey(heads, bytes, lent, n, i, key);
         }
     }
     // On a way, bottom up: each index key is its child's first key.
@@ -183,7 +170,7 @@ impl Tree {
         heads: &mut [u64],
         bytes: &mut [u8],
         lent: Lent,
-        way: &[Step],
+        way: &[Position],
         scratch: &mut [u8],
     )
         requires ready { (Ready lent.size lent.slots self.used heads.old bytes.old) × (WayIn self.used way.now) }
@@ -197,7 +184,7 @@ impl Tree {
                 bytes,
                 lent,
                 above.slot,
-                above.child,
+                above.index,
                 below.slot,
                 scratch,
             );

@@ -9,21 +9,22 @@ ghost use Rattle.tree.specs.Lent.{block_at, lent_of};
 ghost use Rattle.tree.specs.State.{node_at};
 ghost use Rattle.tree.specs.Load.{tighter_lower, tighter_upper, child_bounds, load_child};
 ghost use Rattle.tree.specs.Trusts.{Ready};
-ghost use Rattle.tree.specs.internal.Bank.{HasEntry};
+ghost use Rattle.tree.specs.internal.Bank.{HasEntry, ReadyAfter};
 ghost use Rattle.tree.specs.internal.Brought.{brought};
 ghost use Rattle.tree.specs.internal.Undo.{Follows};
 ghost use Rattle.tree.specs.Workspace.{state_of};
-ghost use Rattle.tree.specs.internal.Tree.{child_of, bound_of, edge_of, BoundIn, BoundsIn, bounds_of, read_child, fetched_at, loaded_of, ReadyAfter};
+ghost use Rattle.node.specs.internal.Children.{child_of};
+ghost use Rattle.tree.specs.internal.Tree.{bound_of, edge_of, BoundIn, BoundsIn, bounds_of, read_child, fetched_at, loaded_of};
 ghost use Rattle.tree.specs.internal.View.{seen};
 
+use crate::bank;
 use crate::lent::Lent;
 use crate::mapped::Blocks;
 use crate::view::{View, view};
-use crate::{bank, kids};
 use node::head::Head;
 use node::info::BTreeInfo;
 use node::order::Order;
-use node::read::{Place, ReadNode};
+use node::read::{Parent, Place, ReadNode};
 use node::refusal::{Refusal, check};
 use node::val::Child;
 
@@ -41,7 +42,7 @@ pub struct Tree {
 }
 
 // An entry of a slot; as a bound, the key that it has there.
-#[derive(Clone, Copy)]
+#[derive(Clone, Copy, Default, Drop)]
 pub struct Position {
     pub slot: usize,
     pub index: u64,
@@ -67,11 +68,10 @@ impl<'h, 'b> View<'h, 'b> {
         ensures { result.now
             ≡ key_at (node_at (seen self.entry) n).entries i }
     {
-        let records = self.records(n);
-        if records.count <= i {
-            return &self.bytes[..0];
+        match self.records(n).get(i) {
+            Some(r) => r.key(),
+            None => &[],
         }
-        records.record(i).key()
     }
 
     // The child of an entry of a slot.
@@ -80,11 +80,7 @@ impl<'h, 'b> View<'h, 'b> {
         ensures { result
             ≡ child_of (val_at (node_at (seen self.entry) n).entries i) }
     {
-        let records = self.records(n);
-        if records.count <= i {
-            return None;
-        }
-        kids::child_of(records.record(i).value())
+        self.records(n).get(i)?.value().child()
     }
 
     // How many entries a slot holds; none where there is no such slot.
@@ -185,13 +181,15 @@ impl<'h, 'b> View<'h, 'b> {
         let lower = self.bound_key(b.lower);
         let upper = self.bound_key(b.upper);
         let info = self.tree.info;
-        let place = Place {
-            root: false,
-            oid: r,
-            parent: self.level_at(n),
+        let parent = Parent {
+            level: self.level_at(n),
             ksize: info.key_size,
             vsize: info.val_size,
             lower,
+        };
+        let place = Place {
+            oid: r,
+            parent: Some(parent),
             upper,
         };
         let lent = self.lent;

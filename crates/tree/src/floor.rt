@@ -6,10 +6,11 @@ ghost use Rattle.tree.specs.Lookup.{last_from, floor_from, floor_in};
 ghost use Rattle.tree.specs.Workspace.{slot_bytes, state_of};
 ghost use Rattle.tree.specs.Answers.{floor_means, floored_in, floored_output, floored_leaves};
 ghost use Rattle.tree.specs.Trusts.{Ready, Trusts, FloorCalled};
+ghost use Rattle.tree.specs.internal.Bank.{ReadyAfter};
 ghost use Rattle.tree.specs.internal.Tree.{bounds_of, BoundsIn};
 ghost use Rattle.tree.specs.internal.Undo.{Follows};
 ghost use Rattle.tree.specs.internal.Floor.{entry_in, got_last, last_means, EntryReady, AtEntry, LastReady, last_at, floor_at, left_from};
-ghost use Rattle.tree.specs.internal.Floor.{floored_of, floor_way, FloorReady, SpotIs};
+ghost use Rattle.tree.specs.internal.Floor.{floored_of, floor_way, SpotIs};
 ghost use Rattle.tree.specs.internal.View.{seen};
 
 use crate::editor::{Bounds, Position, Tree, UNBOUNDED};
@@ -20,6 +21,7 @@ use node::bytes;
 use node::order::Order;
 use node::record::Record;
 use node::refusal::{Refusal, check};
+use node::slot::RecordAt;
 
 // An entry of a slot, and where its record starts.
 #[derive(Clone, Copy)]
@@ -27,6 +29,19 @@ pub struct Spot {
     pub slot: usize,
     pub index: u64,
     pub at: usize,
+}
+
+impl Spot {
+    // The entry of a slot that a record is.
+    pub fn of(slot: usize, r: RecordAt) -> Spot
+        ensures { result ≡ record { slot = slot; index = r.index; at = r.at } }
+    {
+        Spot {
+            slot,
+            index: r.index,
+            at: r.at,
+        }
+    }
 }
 
 impl<'h, 'b> View<'h, 'b> {
@@ -63,7 +78,7 @@ impl<'h, 'b> View<'h, 'b> {
         ensures output { out.new
             ≡ floored_output out.old (floored_of (length out.old)
             (entry_in (seen self.entry) spot.slot spot.index)) }
-        ensures ready { FloorReady self.entry.lent.size self.entry.lent.slots self.entry.heads.now self.entry.bytes.now result }
+        ensures ready { ReadyAfter self.entry.lent.size self.entry.lent.slots self.entry.heads.now self.entry.bytes.now result }
     {
         let part = bank::slot_of(self.bytes, self.lent.size, spot.slot);
         let at = spot.at;
@@ -83,7 +98,7 @@ impl<'h, 'b> View<'h, 'b> {
         ensures output { out.new
             ≡ floored_output out.old (floored_of (length out.old)
             (entry_in (seen self.entry) n i)) }
-        ensures ready { FloorReady self.entry.lent.size self.entry.lent.slots self.entry.heads.now self.entry.bytes.now result }
+        ensures ready { ReadyAfter self.entry.lent.size self.entry.lent.slots self.entry.heads.now self.entry.bytes.now result }
     {
         let spot = Spot {
             slot: n,
@@ -237,7 +252,7 @@ impl Tree {
         ensures output { out.new
             ≡ floored_output out.old (floor_way (lent_of image.now lent) (state_of lent.size self
             heads.old bytes.old) (length out.old) key.now) }
-        ensures ready { FloorReady lent.size lent.slots heads.new bytes.new result }
+        ensures ready { ReadyAfter lent.size lent.slots heads.new bytes.new result }
         ensures follows { Follows lent.size lent.slots self.used heads.old
             bytes.old heads.new bytes.new }
     {

@@ -12,11 +12,12 @@ ghost use Rattle.tree.specs.internal.View.{seen};
 
 use crate::bank;
 use crate::editor::Tree;
+use crate::floor::Spot;
 use crate::view::View;
 use node::fit::SlotNode;
 use node::order::Order;
 use node::room::Shape;
-use node::slot::{Found, Records};
+use node::slot::Records;
 
 impl<'h, 'b> View<'h, 'b> {
     // The records of slot n; none where there is no such slot.
@@ -62,13 +63,16 @@ impl<'h, 'b> View<'h, 'b> {
         }
     }
 
-    // Where a key stands among the entries of slot n, or would stand.
-    pub fn found_at(self, n: usize, key: &[u8]) -> Found
+    // The entry of slot n that has a key, or else where it would stand.
+    pub fn found_at(self, n: usize, key: &[u8]) -> Result<Spot, Spot>
         requires { (n < self.tree.used) }
         ensures { FoundAt self.entry.lent.size (seen self.entry) self.entry.heads.now
             self.entry.bytes.now n key.now result }
     {
         let order = self.tree.order;
-        self.records(n).below(order, key)
+        match self.records(n).below(order, key) {
+            Ok(r) => Ok(Spot::of(n, r)),
+            Err(r) => Err(Spot::of(n, r)),
+        }
     }
 }

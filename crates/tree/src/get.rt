@@ -9,8 +9,9 @@ ghost use Rattle.tree.specs.Lookup.{held, get_in};
 ghost use Rattle.tree.specs.Workspace.{state_of};
 ghost use Rattle.tree.specs.Answers.{got_means, got_in, got_output, got_leaves};
 ghost use Rattle.tree.specs.Trusts.{Ready, Trusts, GotCalled};
+ghost use Rattle.tree.specs.internal.Bank.{ReadyAfter};
 ghost use Rattle.tree.specs.internal.Undo.{Follows};
-ghost use Rattle.tree.specs.internal.Get.{held_means, got_at, got_way, got_of, ReadyGot};
+ghost use Rattle.tree.specs.internal.Get.{held_means, got_at, got_way, got_of};
 ghost use Rattle.tree.specs.internal.View.{seen};
 
 use crate::editor::Tree;
@@ -37,13 +38,10 @@ fn held_in<'s>(records: Records<'s>, order: Order, key: &[u8]) -> Option<Val<'s>
     ensures { held_means result
         ≡ held order.code key.now (entries_of records.entry.count records.entry.slot.now) }
 {
-    let f = records.below(order, key);
-    if !f.found {
-        return None;
-    }
+    let here = records.below(order, key).ok()?;
     let r = Record {
         slot: records.slot,
-        at: f.at,
+        at: here.at,
     };
     Some(r.value())
 }
@@ -59,7 +57,7 @@ impl<'h, 'b> View<'h, 'b> {
         ensures output { out.new
             ≡ got_output out.old (got_at (seen self.entry)
             (length out.old) n key.now) }
-        ensures ready { ReadyGot self.entry.lent.size self.entry.lent.slots self.entry.heads.now self.entry.bytes.now
+        ensures ready { ReadyAfter self.entry.lent.size self.entry.lent.slots self.entry.heads.now self.entry.bytes.now
             (got_of self.entry.tree result) }
     {
         let order = self.tree.order;
@@ -90,7 +88,7 @@ impl<'h, 'b> View<'h, 'b> {
         ensures output { out.new
             ≡ got_output out.old (got_at (seen self.entry)
             (length out.old) n key.now) }
-        ensures ready { ReadyGot self.entry.lent.size self.entry.lent.slots self.entry.heads.now self.entry.bytes.now result }
+        ensures ready { ReadyAfter self.entry.lent.size self.entry.lent.slots self.entry.heads.now self.entry.bytes.now result }
     {
         let copied = self.copy_out(n, key, out)?;
         Ok((self.tree, copied))
@@ -116,13 +114,12 @@ impl Tree {
         ensures output { out.new
             ≡ got_output out.old (got_way (lent_of image.now lent) (state_of lent.size self
             heads.old bytes.old) (length out.old) key.now) }
-        ensures ready { ReadyGot lent.size lent.slots heads.new bytes.new result }
+        ensures ready { ReadyAfter lent.size lent.slots heads.new bytes.new result }
         ensures follows { Follows lent.size lent.slots self.used heads.old bytes.old heads.new bytes.new }
     {
         let level = view!(self, heads, bytes, lent).level_at(self.root);
         let w = self.way(image, heads, bytes, lent, level, key)?;
-        let n = w.steps[w.count - 1].slot;
-        view!(w.tree, heads, bytes, lent).copy_held(n, key, out)
+        view!(w.tree, heads, bytes, lent).copy_held(w.leaf(), key, out)
     }
 
     // get on slots that are trusted, whatever of the way is loaded.

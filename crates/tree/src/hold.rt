@@ -8,9 +8,9 @@ ghost use Rattle.tree.specs.Trusts.{number_holds, words_hold};
 ghost use Rattle.tree.specs.internal.Marks.{mark_slot, mark_of};
 ghost use Rattle.tree.specs.internal.Holding.{Laid, count_holds, place_holds, body_holds, child_stands, link_value, link_entries, hold_slot, hold_slots};
 
-use crate::bank;
 use crate::editor::Tree;
 use crate::lent::Lent;
+use crate::{bank, kids};
 use node::head::Head;
 use node::order::Order;
 use node::read::MAX_DEPTH;
@@ -18,23 +18,6 @@ use node::record::Record;
 use node::room::Shape;
 use node::slot::Records;
 use node::stands;
-use node::val::{Child, Val};
-
-// Slot k marked; false where it is marked already.
-#[tactic(auto, using(crate::specs::laws::refusal1::Marks::mark_slot_laws))]
-fn mark_slot(k: usize, used: usize, marks: &mut [u8]) -> bool
-    requires { used ≤ length marks.old }
-    ensures { mark_of result marks.new ≡ mark_slot used k marks.old }
-{
-    if used <= k {
-        return true;
-    }
-    if marks[k] != 0 {
-        return false;
-    }
-    marks[k] = 1;
-    true
-}
 
 // A number without its mark is 0.
 #[tactic(auto, unfolding(crate::specs::Trusts::number_holds))]
@@ -83,7 +66,7 @@ impl<'h, 'b> Slots<'h, 'b> {
         requires { (h.count < 2 ^ 32) × (room < 2 ^ 32) }
         ensures { result ≡ place_holds self.entry.tree root h room }
     {
-        if h.dirty == 1 {
+        if h.is_dirty() {
             let shape = Shape {
                 info: self.tree.info,
                 root,
@@ -124,34 +107,39 @@ impl<'h, 'b> Slots<'h, 'b> {
             return false;
         }
         let h = Head::load(self.heads, c as usize);
-        h.dead != 1 && level != 0 && h.level == level - 1
+        !h.is_dead() && level != 0 && h.level == level - 1
+    }
+
+    // Slot k marked, if it is one in use; false where it is marked already.
+    #[tactic(auto, using(crate::specs::laws::refusal1::Marks::mark_slot_laws))]
+    fn mark_slot(self, k: usize, marks: &mut [u8; 4096]) -> bool
+        ensures { mark_of result marks.new ≡ mark_slot self.entry.tree.used k marks.old }
+    {
+        if self.tree.used <= k {
+            return true;
+        }
+        if marks[k] != 0 {
+            return false;
+        }
+        marks[k] = 1;
+        true
     }
 
     // The child in a slot that a record names, if it names one, holds and is marked; false where it does not, or is marked already.
     #[tactic(auto, using(crate::specs::laws::refusal1::Links::link_value_laws))]
-    fn link_value(self, r: Record<'_>, level: u64, marks: &mut [u8]) -> bool
-        requires { self.tree.used ≤ length marks.old }
+    fn link_value(self, r: Record<'_>, level: u64, marks: &mut [u8; 4096]) -> bool
         ensures { mark_of result marks.new
             ≡ link_value self.entry.heads.now self.entry.tree.used level (entry_of (drop r.entry.at r.entry.slot.now)).value marks.old }
     {
-        match r.value() {
-            Val::Child(c) => match c {
-                Child::Disk(_) => true,
-                Child::Mem(s) => {
-                    if !self.child_holds(level, s) {
-                        return false;
-                    }
-                    mark_slot(s as usize, self.tree.used, marks)
-                }
-            },
-            _ => true,
+        match kids::kid_of(r) {
+            None => true,
+            Some(s) => self.child_holds(level, s as u64) && self.mark_slot(s, marks),
         }
     }
 
     // The same of the entries of a slot.
     #[tactic(auto, using(crate::specs::laws::refusal1::Links::link_entries_laws))]
-    fn link_entries(self, records: Records<'_>, level: u64, marks: &mut [u8]) -> bool
-        requires { self.tree.used ≤ length marks.old }
+    fn link_entries(self, records: Records<'_>, level: u64, marks: &mut [u8; 4096]) -> bool
         ensures { mark_of result marks.new
             ≡ link_entries self.entry.heads.now self.entry.tree.used level (entries_of records.entry.count records.entry.slot.now) marks.old }
     {
@@ -165,8 +153,8 @@ impl<'h, 'b> Slots<'h, 'b> {
 
     // Slot n holds; unless it is dead, its node holds, and its children are marked. A leaf has none.
     #[tactic(auto, using(crate::specs::laws::refusal1::Pass::hold_slot_laws))]
-    fn hold_slot(self, n: usize, marks: &mut [u8]) -> bool
-        requires { (n < self.tree.used) × (self.tree.used ≤ length marks.old) }
+    fn hold_slot(self, n: usize, marks: &mut [u8; 4096]) -> bool
+        requires { n < self.tree.used }
         ensures { mark_of result marks.new
             ≡ hold_slot self.entry.lent.size self.entry.heads.now self.entry.bytes.now
             (state_of self.entry.lent.size self.entry.tree self.entry.heads.now self.entry.bytes.now) self.entry.tree.used n marks.old }
@@ -175,7 +163,7 @@ impl<'h, 'b> Slots<'h, 'b> {
         if !words_hold(h) {
             return false;
         }
-        if h.dead == 1 {
+        if h.is_dead() {
             return true;
         }
         let most = (2 * self.lent.size) as u64;
@@ -198,8 +186,7 @@ impl<'h, 'b> Slots<'h, 'b> {
 
     // The same of every slot in use.
     #[tactic(auto, using(crate::specs::laws::refusal1::Pass::hold_slots_laws))]
-    fn hold_slots(self, marks: &mut [u8]) -> bool
-        requires { self.tree.used ≤ length marks.old }
+    fn hold_slots(self, marks: &mut [u8; 4096]) -> bool
         ensures { mark_of result marks.new
             ≡ hold_slots self.entry.lent.size self.entry.heads.now self.entry.bytes.now
             (state_of self.entry.lent.size self.entry.tree self.entry.heads.now self.entry.bytes.now)
@@ -224,7 +211,7 @@ impl<'h, 'b> Slots<'h, 'b> {
             return false;
         }
         let h = Head::load(self.heads, root);
-        if h.dead == 1 {
+        if h.is_dead() {
             return false;
         }
         let mut marks = [0u8; 4096];

@@ -1,30 +1,18 @@
-// The child that a value is.
+// The slots of loaded children.
 ghost use Rattle.std.specs.Prelude.{◌≡◌, drop};
 ghost use Rattle.node.specs.Records.{entry_of};
 ghost use Rattle.node.specs.Slot.{value_means};
 ghost use Rattle.tree.specs.internal.Kids.{kid_means, slots_of};
-ghost use Rattle.tree.specs.internal.Tree.{child_of};
 
 use node::record::Record;
 use node::val::{Child, Val};
 
-// The child, if a value is one.
-#[tactic(auto, unfolding(crate::specs::internal::Tree::child_of, node::specs::Slot::value_means, node::specs::Slot::child_means))]
-pub fn child_of(v: Val<'_>) -> Option<Child>
-    ensures { result ≡ child_of (value_means v.entry) }
-{
-    match v {
-        Val::Child(c) => Some(c),
-        _ => None,
-    }
-}
-
-// Its slot, if it is loaded.
+// The slot of the child that a value is, if it is one that is loaded.
 #[tactic(auto, using(crate::specs::laws::slots::Kids::kid_none, crate::specs::laws::slots::Kids::kid_disk))]
 pub fn slot_of(v: Val<'_>) -> Option<usize>
     ensures { kid_means result ≡ slots_of (value_means v.entry) }
 {
-    match child_of(v)? {
+    match v.child()? {
         Child::Mem(s) => Some(s as usize),
         Child::Disk(_) => None,
     }

@@ -1,5 +1,5 @@
 // What is lent to a call beside the image and the slots; of refusal 1, its sizes and the tree's numbers.
-ghost use Rattle.std.specs.Prelude.{◌≡◌, List, cond, ◌&&◌, ℕ, ◌≤◌, eqb, length, option_to_list};
+ghost use Rattle.std.specs.Prelude.{◌≡◌, List, cond, ◌&&◌, ℕ, ◌+◌, ◌*◌, ◌≤◌, leb, eqb, length, option_to_list};
 ghost use Rattle.tree.specs.Lent.{is_size, sizes_hold, lent_of};
 ghost use Rattle.tree.specs.Hold.{info_holds, numbers_hold, lent_holds};
 ghost use Rattle.tree.specs.Workspace.{state_of, workspace_holds, scratch_holds};
@@ -46,6 +46,37 @@ pub fn is_size(n: usize) -> bool
     matches!(n, 512 | 1024 | 2048 | 4096 | 8192 | 16384 | 32768 | 65536)
 }
 
+// So many slots as a call takes.
+pub fn is_slots(slots: usize) -> bool
+    ensures { result ≡ leb 1 slots && leb slots 4096 }
+{
+    (1..=MOST_SLOTS).contains(&slots)
+}
+
+// Words of so many slots.
+pub fn head_words(slots: usize) -> usize
+    requires { slots ≤ 4096 }
+    ensures { result ≡ slots * 19 }
+{
+    slots * WORDS_EACH
+}
+
+// Bytes of so many slots and their shadows.
+pub fn slot_bytes(slots: usize, size: usize) -> usize
+    requires { (slots ≤ 4096) × (size ≤ 65536) }
+    ensures { result ≡ (slots + slots) * (4 * size) }
+{
+    (slots + slots) * (bank::SLOT_BLOCKS * size)
+}
+
+// Bytes of the scratch for so many slots.
+pub fn scratch_bytes(slots: usize, size: usize) -> usize
+    requires { (slots ≤ 4096) × (size ≤ 65536) }
+    ensures { result ≡ (2 * slots + 2) * size }
+{
+    (SCRATCH_EACH * slots + SCRATCH_EACH) * size
+}
+
 // 1: lent sizes.
 #[tactic(auto, unfolding(crate::specs::Lent::sizes_hold, crate::specs::Lent::blocks, crate::specs::Lent::lent_of))]
 pub fn sizes_hold(image: &[u8], lent: Lent) -> bool
@@ -55,7 +86,7 @@ pub fn sizes_hold(image: &[u8], lent: Lent) -> bool
     is_size(size)
         && image.len() % size == 0
         && (1..=MOST_BLOCKS).contains(&(image.len() / size))
-        && (1..=MOST_SLOTS).contains(&lent.slots)
+        && is_slots(lent.slots)
 }
 
 // 1: the tree's lengths and flags are u32.
@@ -99,10 +130,9 @@ pub fn room_holds(heads: &[u64], bytes: &[u8], used: usize, lent: Lent) -> bool
     requires { (lent.size ≤ 65536) × (lent.slots ≤ 4096) }
     ensures { result ≡ room_holds lent.size lent.slots used heads.now bytes.now }
 {
-    let slots = lent.slots;
-    heads.len() == slots * WORDS_EACH
-        && bytes.len() == (slots + slots) * (4 * lent.size)
-        && used <= slots
+    heads.len() == head_words(lent.slots)
+        && bytes.len() == slot_bytes(lent.slots, lent.size)
+        && used <= lent.slots
 }
 
 // 1, of the workspace and of a call that is lent no bitmap.
@@ -129,12 +159,13 @@ pub fn edit_holds(
     image: &[u8],
     heads: &[u64],
     bytes: &[u8],
-    scratch: &[u8],
     lent: Lent,
+    scratch: &[u8],
 ) -> bool
     ensures { result ≡ (workspace_holds lent.size lent.slots t.used heads.now bytes.now
         && lent_holds (lent_of image.now lent) (state_of lent.size t heads.now bytes.now))
         && scratch_holds lent.size lent.slots scratch.now }
 {
-    lent_holds(t, image, heads, bytes, lent) && scratch.len() == (2 * lent.slots + 2) * lent.size
+    lent_holds(t, image, heads, bytes, lent)
+        && scratch.len() == scratch_bytes(lent.slots, lent.size)
 }

@@ -2,13 +2,14 @@
 ghost use Rattle.std.specs.Prelude.{◌≤◌, Some};
 ghost use Rattle.node.specs.Records.{entries_of};
 ghost use Rattle.tree.specs.State.{node_at};
-ghost use Rattle.tree.specs.internal.Loaded.{TakenOf, LedLeaf, LeafIs, Walked};
+ghost use Rattle.tree.specs.internal.Loaded.{TakenOf, TakenBy, LedLeaf, LeafIs, Walked};
 ghost use Rattle.tree.specs.internal.View.{seen};
 
-use crate::editor::Tree;
+use crate::editor::{Position, Tree};
 use crate::kids;
 use crate::view::View;
-use crate::way::{NO_STEP, STEPS, Step, Way};
+use crate::way::Way;
+use arrayvec::ArrayVec;
 use node::order::Order;
 use node::record::Record;
 use node::slot::Records;
@@ -20,10 +21,10 @@ pub struct Taken {
     pub slot: usize,
 }
 
-// The entry of a node that a key goes on by, if its child is loaded.
+// The entry of a node that a key goes on by, and its record, if its child is loaded.
 #[tactic(auto, using(crate::specs::laws::load::LoadedWay::taken_in_laws))]
-fn taken_in(records: Records<'_>, order: Order, key: &[u8]) -> Option<Taken>
-    ensures { TakenOf order.code key.now (entries_of records.entry.count records.entry.slot.now) result }
+fn taken_in<'s>(records: Records<'s>, order: Order, key: &[u8]) -> Option<(Record<'s>, Taken)>
+    ensures { TakenBy order.code key.now (entries_of records.entry.count records.entry.slot.now) result }
 {
     if records.count == 0 {
         return None;
@@ -34,20 +35,31 @@ fn taken_in(records: Records<'_>, order: Order, key: &[u8]) -> Option<Taken>
         at: last.at,
     };
     let slot = kids::slot_of(r.value())?;
-    Some(Taken {
+    let t = Taken {
         index: last.count.saturating_sub(1),
         slot,
-    })
+    };
+    Some((r, t))
 }
 
 impl<'h, 'b> View<'h, 'b> {
-    // The entry of slot n that a key goes on by, if its child is loaded.
-    fn taken(self, n: usize, key: &[u8]) -> Option<Taken>
-        ensures { TakenOf self.entry.tree.order.code key.now
+    // The same of slot n.
+    pub fn taken_by(self, n: usize, key: &[u8]) -> Option<(Record<'b>, Taken)>
+        ensures { TakenBy self.entry.tree.order.code key.now
             (node_at (seen self.entry) n).entries result }
     {
         let order = self.tree.order;
         taken_in(self.records(n), order, key)
+    }
+
+    // The same without the record.
+    #[tactic(auto, using(crate::specs::laws::load::LoadedWay::taken_laws))]
+    fn taken(self, n: usize, key: &[u8]) -> Option<Taken>
+        ensures { TakenOf self.entry.tree.order.code key.now
+            (node_at (seen self.entry) n).entries result }
+    {
+        let (_, t) = self.taken_by(n, key)?;
+        Some(t)
     }
 
     // The leaf that a key's way ends in, if each of its steps is one that the closure gives; none where one is not, or where the key is not one of
@@ -90,20 +102,18 @@ impl<'h, 'b> View<'h, 'b> {
         ensures { Walked self.entry.lent.size self.entry.tree self.entry.heads.now self.entry.bytes.now level key.now result }
     {
         let mut n = self.tree.root;
-        let mut steps = [NO_STEP; STEPS];
-        let last = level as usize;
-        for k in 0..last {
+        let mut steps = ArrayVec::new();
+        for _k in 0..level {
             let t = self.taken(n, key)?;
-            steps[k] = Step {
+            steps.push(Position {
                 slot: n,
-                child: t.index,
-            };
+                index: t.index,
+            });
             n = t.slot;
         }
-        steps[last] = Step { slot: n, child: 0 };
+        steps.push(Position { slot: n, index: 0 });
         Some(Way {
             tree: self.tree,
-            count: last + 1,
             steps,
         })
     }

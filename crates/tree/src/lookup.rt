@@ -4,13 +4,13 @@ ghost use Rattle.tree.specs.Lent.{lent_of};
 ghost use Rattle.tree.specs.Lookup.{opened};
 ghost use Rattle.tree.specs.Answers.{opened_of, opened_in, opened_leaves};
 ghost use Rattle.tree.specs.Trusts.{OpenedTrusts};
-ghost use Rattle.tree.specs.internal.Open.{opened_root, ReadyOpened};
+ghost use Rattle.tree.specs.internal.Bank.{ReadyTree};
+ghost use Rattle.tree.specs.internal.Open.{opened_root};
 
 use crate::editor::Tree;
 use crate::lent::Lent;
 use crate::mapped::Blocks;
 use crate::{bank, lent};
-use node::info::BTreeInfo;
 use node::order::Order;
 use node::read::Place;
 use node::refusal::{Refusal, check};
@@ -31,21 +31,11 @@ fn open_at(
         ≡ (blocks.lent.slots + blocks.lent.slots) * (4 * blocks.lent.size)) }
     ensures answer { opened_of blocks.entry.lent.size heads.new bytes.new result
         ≡ opened_root (lent_of blocks.entry.image.now blocks.entry.lent) r order.code xid a }
-    ensures ready { ReadyOpened blocks.entry.lent.size blocks.entry.lent.slots heads.new bytes.new result }
+    ensures ready { ReadyTree blocks.entry.lent.size blocks.entry.lent.slots heads.new bytes.new result }
 {
-    let place = Place {
-        root: true,
-        oid: r,
-        parent: 0,
-        ksize: 0,
-        vsize: 0,
-        lower: None,
-        upper: None,
-    };
-    let read = blocks.load_block(order, place, a)?;
+    let read = blocks.load_block(order, Place::root(r), a)?;
     let by_id = blocks.lent.map.is_some();
-    check(Refusal::Root, blocks.root_holds(a, by_id, read.node))?;
-    let info = BTreeInfo::parse(read.block);
+    let info = blocks.root_info(a, by_id, read.node)?;
     bank::adopt_into(read, heads, bytes, blocks.lent.size, 0, by_id, a);
     Ok(Tree {
         root: 0,

@@ -1,12 +1,14 @@
 // The object map: a physical tree of pairs, its nodes read where they lie in the image.
-ghost use Rattle.std.specs.Prelude.{◌≡◌, ◌*◌, ◌/◌, ◌≤◌, ◌<◌, length, take, drop, ◌-◌, IfOk, OnOk};
+ghost use Rattle.std.specs.Prelude.{◌≡◌, ◌*◌, ◌/◌, ◌≤◌, ◌<◌, length, take, drop, ◌-◌, IfOk, OnOk, MatchResult, true, false, unwrap_or};
 ghost use Rattle.node.specs.Bytes.{window};
 ghost use Rattle.node.specs.Order.{pair};
 ghost use Rattle.node.specs.Find.{key_at, val_at};
-ghost use Rattle.node.specs.Place.{place_of, lent_key};
-ghost use Rattle.node.specs.Read.{read_of, map_ok, on_disk};
+ghost use Rattle.node.specs.Place.{place_of, lower_of, lent_key};
+ghost use Rattle.node.specs.laws.base.Bytes.{Bytes};
+ghost use Rattle.node.specs.Read.{read_of, map_ok, on_disk, info_at};
+ghost use Rattle.node.specs.declared.refusal.Refusal.TheVariants.{Root};
 ghost use Rattle.tree.specs.Lent.{block_at, lent_of};
-ghost use Rattle.tree.specs.Load.{disk_number, tighter_lower, tighter_upper, child_bounds, root_holds, map_last, map_floor, mapping, map_root_holds, map_address, address_of};
+ghost use Rattle.tree.specs.Load.{disk_number, tighter_lower, tighter_upper, child_bounds, root_holds, map_last, map_floor, mapping, map_address, address_of};
 ghost use Rattle.tree.specs.internal.Tree.{edge_of, edges_of};
 ghost use Rattle.tree.specs.internal.Map.{load_at, map_read, map_child_at, map_loaded_of, leftward, found_of, spotted_of, address_at, looked_up};
 
@@ -15,13 +17,19 @@ use crate::mapped::{Blocks, MapNode, Mapped};
 use node::info::BTreeInfo;
 use node::obj::OBJ_PHYSICAL;
 use node::order::Order;
-use node::read::{Node, Place, ReadNode};
+use node::read::{Block, Node, Parent, Place, ReadNode};
 use node::refusal::{Refusal, check};
 use node::val::Val;
-use node::{bytes, read};
+use node::{bytes, flag, read};
 
 // Fixed lengths of the map's keys and values (`omap_key_t`, `omap_val_t`).
 pub const PAIR_SIZE: u64 = 16;
+
+// No bounds of keys: a root's, as `editor::UNBOUNDED` of positions. An associated constant of both would be a call in a proof.
+pub const UNBOUNDED: Bounds<&[u8]> = Bounds {
+    lower: None,
+    upper: None,
+};
 
 // A mapping's flag for an encrypted object.
 const OMAP_VAL_ENCRYPTED: u64 = 4;
@@ -30,7 +38,7 @@ const OMAP_VAL_ENCRYPTED: u64 = 4;
 #[tactic(auto, using(crate::specs::laws::load::MapNode::in_image))]
 pub fn block_of(image: &[u8], size: usize, a: u64) -> &[u8]
     requires { a < length image.now / size }
-    ensures { result.now ≡ window (a * size) size image.now }
+    ensures { (result.now ≡ window (a * size) size image.now) × Bytes result.now }
 {
     let start = a as usize * size;
     let end = start + size;
@@ -43,26 +51,35 @@ impl<'i> Blocks<'i> {
     pub fn load_block(self, order: Order, place: Place<'_>, a: u64) -> Result<ReadNode<'i>, Refusal>
         ensures answer { read_of (block_at (lent_of self.entry.image.now self.entry.lent) a) (map_ok (λ r. r.node) result)
             ≡ load_at (lent_of self.entry.image.now self.entry.lent) order.code (place_of place.entry)
-            (lent_key place.entry.lower) (lent_key place.entry.upper) a }
+            (lent_key (lower_of place.entry)) (lent_key place.entry.upper) a }
         ensures block { IfOk result (λ r. r.block.now ≡ window (a * self.entry.lent.size) self.entry.lent.size self.entry.image.now) }
         ensures inside { OnOk result (a < length self.entry.image.now / self.entry.lent.size) }
     {
         let size = self.lent.size;
         check(Refusal::Address, a < (self.image.len() / size) as u64)?;
-        read::read_node(block_of(self.image, size, a), order, place)
+        let block = Block {
+            held: block_of(self.image, size, a),
+        };
+        read::read_node(block, order, place)
     }
 
-    // 10: a root's storage class, or its stored node size. A class is how often OBJ_PHYSICAL goes into a type: 0 virtual, 1 physical.
+    // 10: the numbers that a root stores, if its storage class and its node size hold. A class is how often OBJ_PHYSICAL goes into a
+    // type: 0 virtual, 1 physical.
     #[tactic(auto, using(crate::specs::laws::load::MapAddress::roots))]
-    pub fn root_holds(self, a: u64, by_id: bool, v: Node) -> bool
+    pub fn root_info(self, a: u64, by_id: bool, v: Node) -> Result<BTreeInfo, Refusal>
         requires { a < length self.image.now / self.lent.size }
-        ensures { result
-            ≡ root_holds (lent_of self.entry.image.now self.entry.lent) a by_id
-            (on_disk v (block_at (lent_of self.entry.image.now self.entry.lent) a)) }
+        ensures { MatchResult result
+            (λ info. (root_holds (lent_of self.entry.image.now self.entry.lent) a by_id
+            (on_disk v (block_at (lent_of self.entry.image.now self.entry.lent) a)) ≡ true)
+            × (info ≡ info_at (block_at (lent_of self.entry.image.now self.entry.lent) a)))
+            (λ refusal. (root_holds (lent_of self.entry.image.now self.entry.lent) a by_id
+            (on_disk v (block_at (lent_of self.entry.image.now self.entry.lent) a)) ≡ false) × (refusal ≡ Root)) }
     {
+        check(Refusal::Root, v.otype / OBJ_PHYSICAL == u64::from(!by_id))?;
         let size = self.lent.size;
         let info = BTreeInfo::parse(block_of(self.image, size, a));
-        v.otype / OBJ_PHYSICAL == u64::from(!by_id) && info.node_size == size as u64
+        check(Refusal::Root, info.node_size == size as u64)?;
+        Ok(info)
     }
 }
 
@@ -100,15 +117,15 @@ impl<'i> MapNode<'i> {
         self.read.entry(i as usize).key()
     }
 
-    // The number of a child; 0 where there is no child.
+    // The number of a child, if there is one.
     #[tactic(auto, using(crate::specs::laws::load::MapNode::numbers))]
-    fn number_at(self, i: u64) -> u64
-        ensures { result ≡ disk_number (val_at (map_read self.entry).entries i) }
+    fn number_at(self, i: u64) -> Option<u64>
+        ensures { unwrap_or result 0 ≡ disk_number (val_at (map_read self.entry).entries i) }
     {
         if self.read.node.nkeys <= i || self.read.node.level == 0 {
-            return 0;
+            return None;
         }
-        self.read.entry(i as usize).child()
+        Some(self.read.entry(i as usize).child())
     }
 
     // The last of the first n entries, if there is one.
@@ -151,14 +168,16 @@ impl<'i> Blocks<'i> {
             ≡ map_child_at (lent_of self.entry.image.now self.entry.lent) d.entry.read.node.level (edges_of b.entry)
             (disk_number (val_at (map_read d.entry).entries i)) }
     {
-        let a = d.number_at(i);
-        let place = Place {
-            root: false,
-            oid: a,
-            parent: d.read.node.level,
+        let a = d.number_at(i).unwrap_or(0);
+        let parent = Parent {
+            level: d.read.node.level,
             ksize: PAIR_SIZE,
             vsize: PAIR_SIZE,
             lower: b.lower,
+        };
+        let place = Place {
+            oid: a,
+            parent: Some(parent),
             upper: b.upper,
         };
         let read = self.load_block(Order::PAIR_ORDER, place, a)?;
@@ -246,23 +265,11 @@ fn mapping(found: Option<Mapped<'_>>, id: u64) -> Result<u64, Refusal>
         return Err(Refusal::Unmapped);
     };
     let flags = bytes::field_at::<4>(value, 0);
-    check(Refusal::Encrypted, flags / OMAP_VAL_ENCRYPTED % 2 != 1)?;
+    check(Refusal::Encrypted, !flag(flags, OMAP_VAL_ENCRYPTED))?;
     Ok(bytes::field_at::<8>(value, 8))
 }
 
 impl<'i> Blocks<'i> {
-    // 10 of the map's root.
-    #[tactic(auto, using(crate::specs::laws::load::MapAddress::map_root), unfolding(crate::specs::Load::map_root_holds))]
-    fn map_root_holds(self, a: u64, v: Node) -> bool
-        requires { a < length self.image.now / self.lent.size }
-        ensures { result
-            ≡ map_root_holds (lent_of self.entry.image.now self.entry.lent) a
-            (on_disk v (block_at (lent_of self.entry.image.now self.entry.lent) a)) }
-    {
-        let info = BTreeInfo::parse(block_of(self.image, self.lent.size, a));
-        self.root_holds(a, false, v) && info.key_size == PAIR_SIZE && info.val_size == PAIR_SIZE
-    }
-
     // The mapping of an id as seen from a transaction, from the map's root on.
     #[tactic(auto, using(crate::specs::laws::load::MapAddress::lookup))]
     fn map_lookup(self, d: MapNode<'i>, xid: u64, id: u64) -> Result<u64, Refusal>
@@ -270,11 +277,7 @@ impl<'i> Blocks<'i> {
             ≡ looked_up (lent_of self.entry.image.now self.entry.lent) (map_read d.entry) xid id }
     {
         let key = Order::pair_key(id, xid);
-        let all = Bounds {
-            lower: None,
-            upper: None,
-        };
-        let found = self.map_floor(d, all, &key, d.read.node.level)?;
+        let found = self.map_floor(d, UNBOUNDED, &key, d.read.node.level)?;
         mapping(found, id)
     }
 
@@ -283,17 +286,10 @@ impl<'i> Blocks<'i> {
     fn map_address(self, xid: u64, id: u64, m: u64) -> Result<u64, Refusal>
         ensures { address_at result ≡ map_address (lent_of self.entry.image.now self.entry.lent) xid id m }
     {
-        let place = Place {
-            root: true,
-            oid: m,
-            parent: 0,
-            ksize: 0,
-            vsize: 0,
-            lower: None,
-            upper: None,
-        };
-        let read = self.load_block(Order::PAIR_ORDER, place, m)?;
-        check(Refusal::Root, self.map_root_holds(m, read.node))?;
+        let read = self.load_block(Order::PAIR_ORDER, Place::root(m), m)?;
+        let info = self.root_info(m, false, read.node)?;
+        check(Refusal::Root, info.key_size == PAIR_SIZE)?;
+        check(Refusal::Root, info.val_size == PAIR_SIZE)?;
         self.map_lookup(MapNode { read }, xid, id)
     }
 

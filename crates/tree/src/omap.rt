@@ -6,9 +6,8 @@ ghost use Rattle.tree.specs.Omap.{is_omap, versions_end, remove_all, dropped, om
 ghost use Rattle.tree.specs.Workspace.{state_of, edits};
 ghost use Rattle.tree.specs.Answers.{edited_of, edited_leaves};
 ghost use Rattle.tree.specs.Trusts.{Trusts, EditedCalled};
-ghost use Rattle.tree.specs.internal.Undo.{Follows};
 ghost use Rattle.tree.specs.internal.Range.{end_of};
-ghost use Rattle.tree.specs.internal.Edits.{ReadyEdited};
+ghost use Rattle.tree.specs.internal.Edits.{EditedFrom};
 ghost use Rattle.tree.specs.internal.Dropping.{put_anew};
 
 use crate::editor::{Tree, UNBOUNDED};
@@ -59,9 +58,7 @@ impl Tree {
         ensures answer { edited_of lent.size heads.new bytes.new result
             ≡ remove_all (lent_of image.now lent) (entries_of records.entry.count records.entry.slot.now)
             (state_of lent.size self heads.old bytes.old) }
-        ensures ready { ReadyEdited lent.size lent.slots heads.new bytes.new result }
-        ensures follows { Follows lent.size lent.slots self.used heads.old bytes.old
-            heads.new bytes.new }
+        ensures left { EditedFrom lent.size lent.slots self.used heads.old bytes.old heads.new bytes.new result }
     {
         let mut t = self;
         for (_, r) in records.walk() {
@@ -79,16 +76,14 @@ impl Tree {
         heads: &mut [u64],
         bytes: &mut [u8],
         lent: Lent,
-        scratch: &mut [u8],
         id: u64,
+        scratch: &mut [u8],
     ) -> Result<Tree, Refusal>
         requires trusts { Trusts image.now lent self heads.old bytes.old }
         requires room { length scratch.old ≡ (2 * lent.slots + 2) * lent.size }
         ensures answer { edited_of lent.size heads.new bytes.new result
             ≡ dropped (lent_of image.now lent) (state_of lent.size self heads.old bytes.old) id }
-        ensures ready { ReadyEdited lent.size lent.slots heads.new bytes.new result }
-        ensures follows { Follows lent.size lent.slots self.used heads.old bytes.old
-            heads.new bytes.new }
+        ensures left { EditedFrom lent.size lent.slots self.used heads.old bytes.old heads.new bytes.new result }
     {
         let lo = Order::pair_key(id, 0);
         let mut end = [0u8; 16];
@@ -115,8 +110,8 @@ impl Tree {
         heads: &mut [u64],
         bytes: &mut [u8],
         lent: Lent,
-        scratch: &mut [u8],
         id: u64,
+        scratch: &mut [u8],
     ) -> Result<Tree, Refusal>
         requires trusts { Trusts image.now lent self heads.old bytes.old }
         requires room { length scratch.old ≡ (2 * lent.slots + 2) * lent.size }
@@ -130,7 +125,7 @@ impl Tree {
             heads,
             bytes,
             lent,
-            &mut |heads, bytes| self.dropped(image, heads, bytes, lent, scratch, id),
+            &mut |heads, bytes| self.dropped(image, heads, bytes, lent, id, scratch),
         )
     }
 
@@ -142,10 +137,10 @@ impl Tree {
         heads: &mut [u64],
         bytes: &mut [u8],
         lent: Lent,
-        scratch: &mut [u8],
         id: u64,
         key: &[u8],
         value: &[u8],
+        scratch: &mut [u8],
     ) -> Result<Tree, Refusal>
         requires trusts { Trusts image.now lent self heads.old bytes.old }
         requires omap { is_omap (state_of lent.size self heads.old bytes.old) ≡ true }
@@ -154,11 +149,9 @@ impl Tree {
         ensures answer { edited_of lent.size heads.new bytes.new result
             ≡ put_anew (lent_of image.now lent) (state_of lent.size self heads.old bytes.old)
             id key.now value.now }
-        ensures ready { ReadyEdited lent.size lent.slots heads.new bytes.new result }
-        ensures follows { Follows lent.size lent.slots self.used heads.old bytes.old
-            heads.new bytes.new }
+        ensures left { EditedFrom lent.size lent.slots self.used heads.old bytes.old heads.new bytes.new result }
     {
-        let t = self.dropped(image, heads, bytes, lent, scratch, id)?;
+        let t = self.dropped(image, heads, bytes, lent, id, scratch)?;
         let keys = 2 * lent.size;
         t.upserted(
             image,
@@ -178,11 +171,11 @@ impl Tree {
         heads: &mut [u64],
         bytes: &mut [u8],
         lent: Lent,
-        scratch: &mut [u8],
         id: u64,
         xid: u64,
         address: u64,
         size: u64,
+        scratch: &mut [u8],
     ) -> Result<Tree, Refusal>
         requires trusts { Trusts image.now lent self heads.old bytes.old }
         requires room { length scratch.old ≡ (2 * lent.slots + 2) * lent.size }
@@ -201,7 +194,7 @@ impl Tree {
             heads,
             bytes,
             lent,
-            &mut |heads, bytes| self.put(image, heads, bytes, lent, scratch, id, &key, &value),
+            &mut |heads, bytes| self.put(image, heads, bytes, lent, id, &key, &value, scratch),
         )
     }
 
@@ -211,9 +204,9 @@ impl Tree {
         image: &[u8],
         heads: &mut [u64],
         bytes: &mut [u8],
-        scratch: &mut [u8],
         lent: Lent,
         id: u64,
+        scratch: &mut [u8],
     ) -> Result<Tree, Refusal>
         ensures answer { edited_of lent.size heads.new bytes.new result
             ≡ edits lent.size lent.slots self heads.old bytes.old scratch.old
@@ -223,9 +216,9 @@ impl Tree {
     {
         check(
             Refusal::Lent,
-            lent::edit_holds(self, image, heads, bytes, scratch, lent),
+            lent::edit_holds(self, image, heads, bytes, lent, scratch),
         )?;
-        self.omap_drop_in(image, heads, bytes, lent, scratch, id)
+        self.omap_drop_in(image, heads, bytes, lent, id, scratch)
     }
 
     // An id's mapping: its versions taken out, the new one put.
@@ -234,12 +227,12 @@ impl Tree {
         image: &[u8],
         heads: &mut [u64],
         bytes: &mut [u8],
-        scratch: &mut [u8],
         lent: Lent,
         id: u64,
         xid: u64,
         address: u64,
         size: u64,
+        scratch: &mut [u8],
     ) -> Result<Tree, Refusal>
         ensures answer { edited_of lent.size heads.new bytes.new result
             ≡ edits lent.size lent.slots self heads.old bytes.old scratch.old
@@ -249,8 +242,8 @@ impl Tree {
     {
         check(
             Refusal::Lent,
-            lent::edit_holds(self, image, heads, bytes, scratch, lent),
+            lent::edit_holds(self, image, heads, bytes, lent, scratch),
         )?;
-        self.omap_put_in(image, heads, bytes, lent, scratch, id, xid, address, size)
+        self.omap_put_in(image, heads, bytes, lent, id, xid, address, size, scratch)
     }
 }

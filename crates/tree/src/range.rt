@@ -9,9 +9,10 @@ ghost use Rattle.tree.specs.Trust.{trusted};
 ghost use Rattle.tree.specs.Workspace.{state_of};
 ghost use Rattle.tree.specs.Answers.{range_means, ranged_in, ranged_output, ranged_length, ranged_leaves};
 ghost use Rattle.tree.specs.Trusts.{Ready, Roomy, Trusts, RangeCalled};
+ghost use Rattle.tree.specs.internal.Bank.{ReadyBy};
 ghost use Rattle.tree.specs.internal.Tree.{bounds_of, BoundsIn};
 ghost use Rattle.tree.specs.internal.Undo.{Follows};
-ghost use Rattle.tree.specs.internal.Range.{end_of, lies_between, next_entered, both, found_in, counted, ranged_of, ReadyRanged};
+ghost use Rattle.tree.specs.internal.Range.{end_of, lies_between, next_entered, both, found_in, counted, ranged_of};
 ghost use Rattle.tree.specs.internal.Range.{range_held, range_way};
 ghost use Rattle.tree.specs.internal.View.{seen};
 
@@ -71,16 +72,15 @@ impl Asked<'_, '_> {
         !order.less(key, self.lo) && self.ends_above(order, key)
     }
 
-    // Whether range looks into child i, whose record starts at an offset: its key lies below the end, and the next, if any, above lo.
+    // Whether range looks into child i, whose record is lent: its key lies below the end, and the next, if any, above lo.
     #[tactic(auto, using(crate::specs::laws::lookup::RangeFirstChild::entered))]
-    fn enters(self, order: Order, records: Records<'_>, i: u64, at: usize) -> bool
-        requires { (i < records.count) × (at ≡ records_length i records.slot.now) }
+    fn enters(self, order: Order, records: Records<'_>, i: u64, r: Record<'_>) -> bool
+        requires { (i < records.count) × (r.at ≡ records_length i records.slot.now) × (r.slot.now ≡ records.slot.now) }
         ensures { result
             ≡ range_enters order.code self.entry.lo.now (end_of self.entry.hi)
             (entries_of records.entry.count records.entry.slot.now) i }
     {
         let slot = records.slot;
-        let r = Record { slot, at };
         self.ends_above(order, r.key())
             && (records.count <= i + 1 || order.less(self.lo, Record { slot, at: r.next() }.key()))
     }
@@ -102,7 +102,7 @@ impl<'h, 'b> View<'h, 'b> {
             return None;
         }
         for (i, r) in records.walk_from(from, records.offset_of(from)) {
-            if asked.enters(order, records, i, r.at) {
+            if asked.enters(order, records, i, r) {
                 return Some(i);
             }
         }
@@ -181,7 +181,7 @@ impl<'h, 'b> View<'h, 'b> {
         let records = self.records(n);
         let mut end = from;
         for (i, r) in records.walk() {
-            if asked.enters(order, records, i, r.at)
+            if asked.enters(order, records, i, r)
                 && let Some(c) = kids::kid_of(r)
             {
                 end = self.range_out(c, d - 1, asked, out, end);
@@ -211,7 +211,7 @@ impl Tree {
             ≡ counted (range_from d (lent_of image.now lent) asked.entry.lo.now (end_of asked.entry.hi)
             (state_of lent.size self heads.old bytes.old)
             (bounds_of (state_of lent.size self heads.old bytes.old) b) n) }
-        ensures ready { ReadyRanged lent.size lent.slots heads.new bytes.new result }
+        ensures ready { ReadyBy (λ r. r.tree) lent.size lent.slots heads.new bytes.new result }
         ensures follows { Follows lent.size lent.slots self.used heads.old bytes.old heads.new bytes.new }
     {
         if d == 0 {
@@ -255,7 +255,7 @@ impl Tree {
             ≡ ranged_output out.old (range_way (lent_of image.now lent) (state_of lent.size self
             heads.old bytes.old) (length out.old) lo.now hi.now) }
         ensures long { ranged_length out.new result }
-        ensures ready { ReadyRanged lent.size lent.slots heads.new bytes.new result }
+        ensures ready { ReadyBy (λ r. r.tree) lent.size lent.slots heads.new bytes.new result }
         ensures follows { Follows lent.size lent.slots self.used heads.old bytes.old heads.new bytes.new }
     {
         let root = self.root;
@@ -269,7 +269,7 @@ impl Tree {
     }
 
     // range on slots that are trusted: 12 of both ends; the loads; 20. Refused, every slot is as it was.
-    #[tactic(auto, using(crate::specs::laws::lookup::RangeCall::range_in_laws))]
+    #[tactic(auto, using(crate::specs::laws::lookup::RangeCall::range_in_laws, crate::specs::laws::lookup::RangeLeaves::ranged_undone))]
     pub fn range_in(
         self,
         image: &[u8],

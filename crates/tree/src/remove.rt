@@ -1,48 +1,33 @@
 // Remove: the entry of a key taken out, emptied nodes dropped, the root's place handed down.
 ghost use Rattle.std.specs.Prelude.{◌≡◌, true, ◌-◌, ◌*◌, ◌≤◌, ◌<◌, length};
-ghost use Rattle.node.specs.Fit.{Sized, fits};
-ghost use Rattle.node.specs.Records.{records_length};
-ghost use Rattle.node.specs.Slot.{head_at, node_of};
+ghost use Rattle.std.specs.Int.{from_bool};
+ghost use Rattle.node.specs.Slot.{node_of};
 ghost use Rattle.tree.specs.Lent.{lent_of};
-ghost use Rattle.tree.specs.State.{node_at};
 ghost use Rattle.tree.specs.Trust.{trusted};
 ghost use Rattle.tree.specs.Remove.{drop_node, drop_emptied, leveled_root, has_only_child, hand_down, removed, remove_in, remove};
 ghost use Rattle.tree.specs.Workspace.{slot_bytes, state_of, edits};
 ghost use Rattle.tree.specs.Answers.{edited_of, removed_of, removed_leaves};
 ghost use Rattle.tree.specs.Trusts.{live, Lies, Ready, Trusts, RemovedCalled};
-ghost use Rattle.tree.specs.internal.Bank.{Put};
+ghost use Rattle.tree.specs.internal.Bank.{Put, ReadyAfter};
 ghost use Rattle.tree.specs.internal.Undo.{Follows};
 ghost use Rattle.tree.specs.internal.Way.{steps_in, nth_step, WayIn};
 ghost use Rattle.tree.specs.internal.Index.{Rewritten};
-ghost use Rattle.tree.specs.internal.Edits.{ReadyEdited, ReadyRemoved};
+ghost use Rattle.tree.specs.internal.Edits.{EditedFrom};
 ghost use Rattle.tree.specs.internal.Removing.{dead_put, child_dropped, DropFits, DropRoom, Emptied, taken_on, shrunk_at, removed_at, OnWay, SameUsed, Handed};
 ghost use Rattle.tree.specs.internal.View.{seen};
+ghost use Rattle.tree.specs.internal.Writers.{SpotIn};
 
-use crate::editor::{Tree, UNBOUNDED};
+use crate::editor::{Position, Tree, UNBOUNDED};
 use crate::floor::Spot;
 use crate::lent::Lent;
 use crate::view::{View, view};
-use crate::way::Step;
 use crate::writers::DirtyMark;
 use crate::{bank, lent, undo, writers};
 use node::head::Head;
 use node::order::Order;
 use node::refusal::{Refusal, check};
-use node::slot::Found;
 
 impl<'h, 'b> View<'h, 'b> {
-    // Whether the node of a slot fits as root.
-    #[tactic(auto, using(crate::specs::laws::slots::Records::node_used))]
-    fn fits_as_root(self, n: usize) -> bool
-        requires { (n < self.tree.used) × (Sized self.tree.info) }
-        ensures { result
-            ≡ fits self.entry.tree.info true (node_at (seen self.entry) n).level
-            (node_at (seen self.entry) n).entries }
-    {
-        let h = bank::live_at(self.heads, n);
-        self.slot_node(n, true).fits(h.used)
-    }
-
     // An index root with one child.
     #[tactic(auto, using(crate::specs::laws::remove::Reads::only_none, crate::specs::laws::remove::Reads::only_count))]
     pub fn has_only_child(self) -> bool
@@ -84,7 +69,7 @@ impl Tree {
 
     // On a way, bottom up: emptied nodes are dropped, never the root. The answer is how many.
     #[tactic(auto, using(crate::specs::laws::remove::Drops::drop_emptied_laws, crate::specs::laws::cut::Pairs::drop_emptied_laws))]
-    fn drop_emptied(self, heads: &mut [u64], bytes: &mut [u8], lent: Lent, way: &[Step]) -> u64
+    fn drop_emptied(self, heads: &mut [u64], bytes: &mut [u8], lent: Lent, way: &[Position]) -> u64
         requires ready { (Ready lent.size lent.slots self.used heads.old bytes.old) × (WayIn self.used way.now) }
         requires room { DropRoom (state_of lent.size self heads.old bytes.old) way.now }
         ensures { Emptied lent.size lent.slots self heads.old bytes.old heads.new bytes.new
@@ -92,12 +77,13 @@ impl Tree {
     {
         let mut dropped: u64 = 0;
         for [above, below] in way.array_windows::<2>().rev() {
-            dropped += self.drop_if_empty(heads, bytes, lent, above.slot, above.child, below.slot);
+            let empty = self.drop_if_empty(heads, bytes, lent, above.slot, above.index, below.slot);
+            dropped += u64::from(empty);
         }
         dropped
     }
 
-    // Slot c, if it is empty, is dead, and slot n loses child i. The answer is how many nodes were dropped.
+    // Slot c, if it is empty, is dead, and slot n loses child i. The answer is whether it was.
     #[tactic(auto, using(crate::specs::laws::remove::Drops::none_dropped, crate::specs::laws::remove::Drops::one_dropped))]
     fn drop_if_empty(
         self,
@@ -107,20 +93,19 @@ impl Tree {
         n: usize,
         i: u64,
         c: usize,
-    ) -> u64
+    ) -> bool
         requires ready { Ready lent.size lent.slots self.used heads.old bytes.old }
         requires place { (n < self.used) × (c < self.used) × (DropFits (state_of lent.size self heads.old bytes.old) n i c) }
-        ensures dropped { Emptied lent.size lent.slots self heads.old bytes.old heads.new bytes.new
+        ensures { Emptied lent.size lent.slots self heads.old bytes.old heads.new bytes.new
             (drop_node (record { slot = n; child = i }) c
-            (record { state = state_of lent.size self heads.old bytes.old; nodes = 0 })) result }
-        ensures few { result ≤ 1 }
+            (record { state = state_of lent.size self heads.old bytes.old; nodes = 0 })) (from_bool result) }
     {
         let count = view!(self, heads, bytes, lent).count_at(c);
         if count != 0 {
-            return 0;
+            return false;
         }
         self.drop_node(heads, bytes, lent, n, i, c);
-        1
+        true
     }
 
     // Slot c is dead, and slot n loses child i.
@@ -132,12 +117,7 @@ impl Tree {
             (child_dropped (state_of lent.size self heads.old bytes.old) n i c) }
     {
         self.mark_dead(heads, bytes, lent, c);
-        let at = view!(self, heads, bytes, lent).offset_at(n, i);
-        let spot = Spot {
-            slot: n,
-            index: i,
-            at,
-        };
+        let spot = view!(self, heads, bytes, lent).spot_of(n, i);
         writers::remove_at(heads, bytes, lent, self.used, spot, DirtyMark::Set);
     }
 
@@ -202,8 +182,7 @@ impl Tree {
         requires trust { trusted (lent_of image.now lent) (state_of lent.size self heads.old bytes.old) ≡ true }
         ensures answer { edited_of lent.size heads.new bytes.new result
             ≡ hand_down n (lent_of image.now lent) (state_of lent.size self heads.old bytes.old) }
-        ensures ready { ReadyEdited lent.size lent.slots heads.new bytes.new result }
-        ensures follows { Follows lent.size lent.slots self.used heads.old bytes.old heads.new bytes.new }
+        ensures left { EditedFrom lent.size lent.slots self.used heads.old bytes.old heads.new bytes.new result }
     {
         let mut t = self;
         for _i in 0..n {
@@ -211,7 +190,7 @@ impl Tree {
                 return Ok(t);
             }
             let (u, c) = t.load_child(image, heads, bytes, lent, UNBOUNDED, t.root, 0)?;
-            if !view!(u, heads, bytes, lent).fits_as_root(c) {
+            if !view!(u, heads, bytes, lent).fits(c, true) {
                 return Ok(u);
             }
             check(Refusal::Count, 0 < u.info.node_count)?;
@@ -227,36 +206,28 @@ impl Tree {
         heads: &mut [u64],
         bytes: &mut [u8],
         lent: Lent,
-        way: &[Step],
-        f: Found,
+        way: &[Position],
+        spot: Spot,
     ) -> Result<Tree, Refusal>
         requires ready { (Ready lent.size lent.slots self.used heads.old bytes.old) × (WayIn self.used way.now) }
         requires steps { (1 ≤ length way.now) × (self.root < self.used) }
-        requires leaf { (f.index < (live (head_at heads.old (nth_step way.now (length way.now - 1)).slot)).count)
-            × (f.at ≡ records_length f.index (slot_bytes lent.size bytes.old (nth_step way.now (length way.now - 1)).slot)) }
-        requires room { DropRoom (taken_on f.index (steps_in way.now) (state_of lent.size self heads.old bytes.old))
+        requires leaf { (spot.slot ≡ (nth_step way.now (length way.now - 1)).slot) × SpotIn lent.size self.used heads.old bytes.old spot }
+        requires room { DropRoom (taken_on spot.index (steps_in way.now) (state_of lent.size self heads.old bytes.old))
             way.now }
         ensures answer { edited_of lent.size heads.new bytes.new result
-            ≡ shrunk_at f.index (record {
+            ≡ shrunk_at spot.index (record {
               state = state_of lent.size self heads.old bytes.old;
               steps = steps_in way.now;
             }) }
-        ensures ready { (ReadyEdited lent.size lent.slots heads.new bytes.new result) × (SameUsed self.used result) }
-        ensures follows { Follows lent.size lent.slots self.used heads.old bytes.old heads.new bytes.new }
+        ensures used { SameUsed self.used result }
+        ensures left { EditedFrom lent.size lent.slots self.used heads.old bytes.old heads.new bytes.new result }
     {
         self.touch(heads, bytes, lent, way);
-        let n = way[way.len() - 1].slot;
-        let spot = Spot {
-            slot: n,
-            index: f.index,
-            at: f.at,
-        };
         writers::remove_at(heads, bytes, lent, self.used, spot, DirtyMark::Kept);
         let dropped = self.drop_emptied(heads, bytes, lent, way);
-        check(Refusal::Count, 0 < self.info.key_count)?;
-        check(Refusal::Count, dropped <= self.info.node_count)?;
-        self.info.key_count -= 1;
-        self.info.node_count -= dropped;
+        let info = self.info;
+        self.info.key_count = info.key_count.checked_sub(1).ok_or(Refusal::Count)?;
+        self.info.node_count = info.node_count.checked_sub(dropped).ok_or(Refusal::Count)?;
         self.level_root(heads, bytes, lent);
         Ok(self)
     }
@@ -269,25 +240,23 @@ impl Tree {
         heads: &mut [u64],
         bytes: &mut [u8],
         lent: Lent,
-        way: &[Step],
-        f: Found,
+        way: &[Position],
+        spot: Spot,
         scratch: &mut [u8],
     ) -> Result<Tree, Refusal>
         requires ready { Ready lent.size lent.slots self.used heads.old bytes.old }
         requires way { OnWay (lent_of image.now lent) (state_of lent.size self heads.old bytes.old)
-            (steps_in way.now) f.index }
-        requires leaf { (f.index < (live (head_at heads.old (nth_step way.now (length way.now - 1)).slot)).count)
-            × (f.at ≡ records_length f.index (slot_bytes lent.size bytes.old (nth_step way.now (length way.now - 1)).slot)) }
+            (steps_in way.now) spot.index }
+        requires leaf { (spot.slot ≡ (nth_step way.now (length way.now - 1)).slot) × SpotIn lent.size self.used heads.old bytes.old spot }
         requires room { 2 * lent.size ≤ length scratch.old }
         ensures answer { edited_of lent.size heads.new bytes.new result
-            ≡ removed_at (lent_of image.now lent) f.index (record {
+            ≡ removed_at (lent_of image.now lent) spot.index (record {
               state = state_of lent.size self heads.old bytes.old;
               steps = steps_in way.now;
             }) }
-        ensures ready { ReadyEdited lent.size lent.slots heads.new bytes.new result }
-        ensures follows { Follows lent.size lent.slots self.used heads.old bytes.old heads.new bytes.new }
+        ensures left { EditedFrom lent.size lent.slots self.used heads.old bytes.old heads.new bytes.new result }
     {
-        let t = self.shrink(heads, bytes, lent, way, f)?;
+        let t = self.shrink(heads, bytes, lent, way, spot)?;
         t.index_keys(heads, bytes, lent, way, scratch);
         let u = t.cuts(heads, bytes, lent, way, scratch)?;
         let level = view!(u, heads, bytes, lent).level_at(u.root);
@@ -310,18 +279,16 @@ impl Tree {
         ensures answer { removed_of lent.size heads.new bytes.new result
             ≡ removed (lent_of image.now lent) (state_of lent.size self heads.old bytes.old)
             key.now }
-        ensures ready { ReadyRemoved lent.size lent.slots heads.new bytes.new result }
+        ensures ready { ReadyAfter lent.size lent.slots heads.new bytes.new result }
         ensures follows { Follows lent.size lent.slots self.used heads.old bytes.old heads.new bytes.new }
     {
         let level = view!(self, heads, bytes, lent).level_at(self.root);
         let w = self.way(image, heads, bytes, lent, level, key)?;
         let t = w.tree;
-        let n = w.steps[w.count - 1].slot;
-        let f = view!(t, heads, bytes, lent).found_at(n, key);
-        if !f.found {
+        let Ok(spot) = view!(t, heads, bytes, lent).found_at(w.leaf(), key) else {
             return Ok((t, false));
-        }
-        let u = t.remove_on(image, heads, bytes, lent, &w.steps[..w.count], f, scratch)?;
+        };
+        let u = t.remove_on(image, heads, bytes, lent, w.steps.as_slice(), spot, scratch)?;
         Ok((u, true))
     }
 
@@ -385,9 +352,9 @@ impl Tree {
         image: &[u8],
         heads: &mut [u64],
         bytes: &mut [u8],
-        scratch: &mut [u8],
         lent: Lent,
         key: &[u8],
+        scratch: &mut [u8],
     ) -> Result<(Tree, bool), Refusal>
         ensures answer { removed_of lent.size heads.new bytes.new result
             ≡ edits lent.size lent.slots self heads.old bytes.old scratch.old
@@ -395,7 +362,7 @@ impl Tree {
         ensures left { removed_leaves lent.size lent.slots self heads.old bytes.old
             heads.new bytes.new result }
     {
-        let holds = lent::edit_holds(self, image, heads, bytes, scratch, lent);
+        let holds = lent::edit_holds(self, image, heads, bytes, lent, scratch);
         check(Refusal::Lent, holds)?;
         // All slots were looked at, so that a short way would save nothing.
         self.remove_down(image, heads, bytes, lent, key, scratch)

@@ -9,15 +9,20 @@ ghost use Rattle.tree.specs.internal.Still.{Settled, StillOf, StillLeaf, StaysAb
 ghost use Rattle.tree.specs.internal.View.{seen};
 
 use crate::editor::Tree;
-use crate::floor::Spot;
 use crate::lent::Lent;
 use crate::loaded::Taken;
 use crate::view::{View, view};
+use crate::writers;
 use crate::writers::DirtyMark;
-use crate::{kids, writers};
 use node::head::Head;
-use node::order::Order;
-use node::record::Record;
+
+// A view whose slots stand together, and whose tree's numbers the code can compute with.
+#[derive(Clone, Copy)]
+struct Standing<'h, 'b> {
+    view: View<'h, 'b>,
+    ghost together: { stand_together (seen view) ≡ true },
+    ghost sized: { Sized view.tree.info },
+}
 
 impl<'h, 'b> View<'h, 'b> {
     // Whether slot n is dirty.
@@ -26,61 +31,7 @@ impl<'h, 'b> View<'h, 'b> {
         requires { (n + 1) * 9 ≤ length self.heads.now }
         ensures { result ≡ (node_in self.entry.lent.size self.entry.heads.now self.entry.bytes.now n).dirty }
     {
-        let h = Head::load(self.heads, n);
-        h.dirty == 1
-    }
-
-    // Whether slot n of a way needs no cut and, in a physical tree, no dirty mark. A dirty node fits, and is not looked at.
-    #[tactic(auto, using(crate::specs::laws::remove::LeafAloneSteps::settling))]
-    fn settled(self, n: usize) -> bool
-        requires ready { (n < self.tree.used) }
-        requires bytes_value { (stand_together (seen self) ≡ true) × (Sized self.tree.info) }
-        ensures { result ≡ true → Settled (seen self.entry) n }
-    {
-        self.dirty_at(n) || (self.tree.by_id && self.fits_at(n))
-    }
-
-    // The child of slot n that a key goes on by, if it is loaded, its index key is its first key, and slot n is settled.
-    fn still_at(self, n: usize, key: &[u8]) -> Option<Taken>
-        requires bytes_value { (stand_together (seen self) ≡ true) × (Sized self.tree.info) }
-        ensures { StillOf (seen self.entry) key.now n result }
-    {
-        if self.tree.used <= n || !self.settled(n) {
-            return None;
-        }
-        let records = self.records(n);
-        if records.count == 0 {
-            return None;
-        }
-        let order = self.tree.order;
-        let last = records.not_above(order, key);
-        let r = Record {
-            slot: records.slot,
-            at: last.at,
-        };
-        let slot = kids::slot_of(r.value())?;
-        if r.key() != self.key_at(slot, 0) {
-            return None;
-        }
-        Some(Taken {
-            index: last.count.saturating_sub(1),
-            slot,
-        })
-    }
-
-    // The leaf that a key's way ends in, if the way stays as it is.
-    fn still_leaf_of(self, key: &[u8]) -> Option<usize>
-        requires bytes_value { (stand_together (seen self) ≡ true) × (Sized self.tree.info) }
-        ensures { StillLeaf self.entry.tree.used (seen self.entry)
-            key.now result }
-    {
-        self.leaf_by(
-            key,
-            |n|
-                requires { (stand_together (seen self) ≡ true) × (Sized self.tree.info) }
-                ensures { StillOf (seen self.entry) key.entry.now n result }
-            { self.still_at(n, key) },
-        )
+        Head::load(self.heads, n).is_dirty()
     }
 
     // Whether a remove changes nothing above leaf n, from which it takes entry i: the leaf's first entry stays, leaf and root are dirty, a key is
@@ -97,9 +48,49 @@ impl<'h, 'b> View<'h, 'b> {
     }
 }
 
+impl<'h, 'b> Standing<'h, 'b> {
+    // Whether slot n of a way needs no cut and, in a physical tree, no dirty mark. A dirty node fits, and is not looked at.
+    #[tactic(auto, using(crate::specs::laws::remove::LeafAloneSteps::settling))]
+    fn settled(self, n: usize) -> bool
+        requires { n < self.view.tree.used }
+        ensures { result ≡ true → Settled (seen self.entry.view) n }
+    {
+        self.view.dirty_at(n) || (self.view.tree.by_id && self.view.fits_at(n))
+    }
+
+    // The child of slot n that a key goes on by, if it is loaded, its index key is its first key, and slot n is settled.
+    #[tactic(auto, using(crate::specs::laws::remove::LeafAloneSteps::still_at_laws, node::specs::laws::order::OrderSteps::unlike))]
+    fn still_at(self, n: usize, key: &[u8]) -> Option<Taken>
+        ensures { StillOf (seen self.entry.view) key.now n result }
+    {
+        if self.view.tree.used <= n || !self.settled(n) {
+            return None;
+        }
+        let (r, t) = self.view.taken_by(n, key)?;
+        if r.key() != self.view.key_at(t.slot, 0) {
+            return None;
+        }
+        Some(t)
+    }
+
+    // The leaf that a key's way ends in, if the way stays as it is.
+    #[tactic(auto, using(crate::specs::laws::remove::LeafAloneSteps::still_leaf))]
+    fn still_leaf_of(self, key: &[u8]) -> Option<usize>
+        ensures { StillLeaf self.entry.view.tree.used (seen self.entry.view)
+            key.now result }
+    {
+        self.view.leaf_by(
+            key,
+            |n|
+                ensures { StillOf (seen self.entry.view) key.entry.now n result }
+            { self.still_at(n, key) },
+        )
+    }
+}
+
 impl Tree {
     // The remove, if it changes nothing but an entry of its leaf; else nothing is written.
-    #[tactic(auto, using(crate::specs::laws::remove::LeafAloneSteps::root_used))]
+    #[tactic(auto, using(crate::specs::laws::remove::LeafAloneSteps::remove_still_laws), unfolding(crate::specs::State::with_counts))]
     pub fn remove_still(
         mut self,
         heads: &mut [u64],
@@ -112,19 +103,14 @@ impl Tree {
         ensures { StillRemoved lent.size lent.slots self heads.old bytes.old
             heads.new bytes.new key.now result }
     {
-        let n = view!(self, heads, bytes, lent).still_leaf_of(key)?;
-        let f = view!(self, heads, bytes, lent).found_at(n, key);
-        if !f.found {
-            return None;
-        }
-        if !view!(self, heads, bytes, lent).still_above(n, f.index) {
-            return None;
-        }
-        let spot = Spot {
-            slot: n,
-            index: f.index,
-            at: f.at,
+        let standing = Standing {
+            view: view!(self, heads, bytes, lent),
         };
+        let n = standing.still_leaf_of(key)?;
+        let spot = view!(self, heads, bytes, lent).found_at(n, key).ok()?;
+        if !view!(self, heads, bytes, lent).still_above(n, spot.index) {
+            return None;
+        }
         writers::take_at(heads, bytes, lent, self.used, spot, DirtyMark::Kept);
         self.info.key_count -= 1;
         Some(self)

@@ -17,21 +17,14 @@ use node::refusal::Refusal;
 // Words before the marks: a slot's and its shadow's.
 const MARKS_AT: usize = 18;
 
-// Zeros from a on, n of them.
-#[tactic(auto, using(node::specs::laws::base::Seal::part_cleared))]
-fn clear_words(s: &mut [u64], a: usize, n: usize)
-    requires { a + n ≤ length s.old }
-    ensures { s.new ≡ splice s.old a (replicate n 0) }
-{
-    s[a..a + n].fill(0);
-}
-
 // No slot in use is saved.
+#[tactic(auto, using(node::specs::laws::base::Seal::part_cleared))]
 pub fn clear_marks(heads: &mut [u64], slots: usize, used: usize)
     requires { (used ≤ slots) × (slots ≤ 4096) × (length heads.old ≡ slots * 19) }
     ensures { heads.new ≡ splice heads.old (slots * 18) (replicate used 0) }
 {
-    clear_words(heads, slots * MARKS_AT, used);
+    let at = slots * MARKS_AT;
+    heads[at..at + used].fill(0);
 }
 
 // Slot `to` is what slot `from` is. Either may be a shadow.

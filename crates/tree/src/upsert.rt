@@ -1,5 +1,5 @@
 // Upsert: the entry of a key replaced, or inserted in its place.
-ghost use Rattle.std.specs.Prelude.{◌≡◌, List, [], true, false, cond, ◌||◌, ℕ, ◌+◌, ◌-◌, ◌*◌, ◌^◌, ◌≤◌, ◌<◌, length, ltb};
+ghost use Rattle.std.specs.Prelude.{◌≡◌, List, [], true, false, cond, ◌||◌, ℕ, ◌+◌, ◌-◌, ◌*◌, ◌^◌, ◌≤◌, ◌<◌, length, ltb, is_ok};
 ghost use Rattle.node.specs.Fit.{greater};
 ghost use Rattle.node.specs.Entry.{value_length};
 ghost use Rattle.node.specs.Slot.{head_at, value_means};
@@ -14,21 +14,19 @@ ghost use Rattle.tree.specs.Answers.{lent_value, edited_of, edited_leaves};
 ghost use Rattle.tree.specs.Trusts.{live, Ready, Trusts, EditedCalled};
 ghost use Rattle.tree.specs.internal.Undo.{Follows};
 ghost use Rattle.tree.specs.internal.Way.{steps_in, nth_step};
-ghost use Rattle.tree.specs.internal.Found.{FoundAt};
-ghost use Rattle.tree.specs.internal.Edits.{ReadyEdited};
+ghost use Rattle.tree.specs.internal.Found.{spot_found, FoundAt};
+ghost use Rattle.tree.specs.internal.Edits.{EditedFrom};
 ghost use Rattle.tree.specs.internal.Upserting.{held_once, Gone, way_gone};
 
-use crate::editor::Tree;
+use crate::editor::{Position, Tree};
 use crate::floor::Spot;
 use crate::lent::Lent;
 use crate::view::{View, view};
-use crate::way::Step;
 use crate::writers::DirtyMark;
 use crate::{bank, lent, writers};
 use node::info::BTreeInfo;
 use node::order::Order;
 use node::refusal::{Refusal, check};
-use node::slot::Found;
 use node::stands;
 use node::val::Val;
 
@@ -41,24 +39,9 @@ struct Storable<'k, 'v> {
     ghost held: { Held (value_means value) } by { held_once (value_means value) },
 }
 
-// One key more, and longest lengths that only grow.
-#[tactic(auto, using(crate::specs::laws::upsert::PutInLeaf::grown_new_is))]
-fn grown_new(info: BTreeInfo, key: usize, value: usize) -> BTreeInfo
-    requires { info.key_count < 2 ^ 64 - 1 }
-    ensures { result ≡ with_longest (with_counts info (info.key_count + 1) info.node_count) (greater info.longest_key key)
-        (greater info.longest_val value) }
-{
-    BTreeInfo {
-        longest_key: info.longest_key.max(key as u64),
-        longest_val: info.longest_val.max(value as u64),
-        key_count: info.key_count + 1,
-        ..info
-    }
-}
-
-// The same of a value that is replaced.
-#[tactic(auto, using(crate::specs::laws::upsert::PutInLeaf::grown_old_is))]
-fn grown_old(info: BTreeInfo, value: usize) -> BTreeInfo
+// A value of so many bytes: the length of the longest only grows.
+#[tactic(auto, using(crate::specs::laws::upsert::PutInLeaf::with_value_is))]
+fn with_value(info: BTreeInfo, value: usize) -> BTreeInfo
     ensures { result ≡ with_longest (with_counts info info.key_count info.node_count) info.longest_key
         (greater info.longest_val value) }
 {
@@ -68,9 +51,23 @@ fn grown_old(info: BTreeInfo, value: usize) -> BTreeInfo
     }
 }
 
+// One key more, and its value.
+#[tactic(auto, using(crate::specs::laws::upsert::PutInLeaf::with_entry_is))]
+fn with_entry(info: BTreeInfo, key: usize, value: usize) -> BTreeInfo
+    requires { info.key_count < 2 ^ 64 - 1 }
+    ensures { result ≡ with_longest (with_counts info (info.key_count + 1) info.node_count) (greater info.longest_key key)
+        (greater info.longest_val value) }
+{
+    BTreeInfo {
+        longest_key: info.longest_key.max(key as u64),
+        key_count: info.key_count + 1,
+        ..with_value(info, value)
+    }
+}
+
 // 17: room in the key count for a key that is new.
 #[tactic(auto, using(crate::specs::laws::upsert::PutInLeaf::count_new))]
-fn count_holds(found: bool, keys: u64) -> bool
+fn room_for_key(found: bool, keys: u64) -> bool
     ensures { result ≡ (found || ltb keys (2 ^ 64 - 1)) }
 {
     found || keys != u64::MAX
@@ -116,74 +113,73 @@ impl Tree {
         heads: &mut [u64],
         bytes: &mut [u8],
         lent: Lent,
-        n: usize,
-        f: Found,
+        found: Result<Spot, Spot>,
         put: Storable<'_, '_>,
     ) -> Tree
         requires ready { Ready lent.size lent.slots self.used heads.old bytes.old }
-        requires place { (n < self.used) × ((node_at (state_of lent.size self heads.old bytes.old) n).dead ≡ false)
-            × (FoundAt lent.size (state_of lent.size self heads.old bytes.old) heads.old bytes.old n put.key.now f)
-            × (f.found ≡ false → self.info.key_count < 2 ^ 64 - 1) }
-        requires room { (live (head_at heads.old n)).used + (4 + length put.key.now + value_length (value_means put.value)) ≤ 4 * lent.size }
+        requires place { ((spot_found found).slot < self.used)
+            × ((node_at (state_of lent.size self heads.old bytes.old) (spot_found found).slot).dead ≡ false)
+            × (FoundAt lent.size (state_of lent.size self heads.old bytes.old) heads.old bytes.old (spot_found found).slot put.key.now found)
+            × (is_ok found ≡ false → self.info.key_count < 2 ^ 64 - 1) }
+        requires room { (live (head_at heads.old (spot_found found).slot)).used
+            + (4 + length put.key.now + value_length (value_means put.value)) ≤ 4 * lent.size }
         ensures after { state_of lent.size result heads.new bytes.new
-            ≡ put_in_leaf (state_of lent.size self heads.old bytes.old) n put.entry.key.now (value_means put.entry.value) }
+            ≡ put_in_leaf (state_of lent.size self heads.old bytes.old) (spot_found found).slot put.entry.key.now
+            (value_means put.entry.value) }
         ensures ready { (Ready lent.size lent.slots result.used heads.new bytes.new) × (result.used ≡ self.used) }
         ensures follows { Follows lent.size lent.slots self.used heads.old bytes.old heads.new bytes.new }
     {
         let Storable { key, value } = put;
-        let spot = Spot {
-            slot: n,
-            index: f.index,
-            at: f.at,
-        };
-        if f.found {
-            writers::revalue_at(heads, bytes, lent, self.used, spot, value, DirtyMark::Kept);
-            self.info = grown_old(self.info, value.len());
-            return self;
+        match found {
+            Ok(spot) => {
+                writers::revalue_at(heads, bytes, lent, self.used, spot, value, DirtyMark::Kept);
+                self.info = with_value(self.info, value.len());
+                self
+            }
+            Err(spot) => {
+                writers::insert_at(
+                    heads,
+                    bytes,
+                    lent,
+                    self.used,
+                    spot,
+                    key,
+                    value,
+                    DirtyMark::Kept,
+                );
+                self.info = with_entry(self.info, key.len(), value.len());
+                self
+            }
         }
-        writers::insert_at(
-            heads,
-            bytes,
-            lent,
-            self.used,
-            spot,
-            key,
-            value,
-            DirtyMark::Kept,
-        );
-        self.info = grown_new(self.info, key.len(), value.len());
-        self
     }
 
-    // The entry put in slot n, the leaf of a way that is loaded: dirty marks, the leaf, index keys, cuts.
+    // The entry put in the leaf of a way that is loaded: dirty marks, the leaf, index keys, cuts.
     #[tactic(auto, using(crate::specs::laws::upsert::Parts::follows_four, crate::specs::laws::upsert::Steps::on_done))]
     fn put_on(
         self,
         heads: &mut [u64],
         bytes: &mut [u8],
         lent: Lent,
-        way: &[Step],
-        n: usize,
-        f: Found,
+        way: &[Position],
+        found: Result<Spot, Spot>,
         put: Storable<'_, '_>,
         scratch: &mut [u8],
     ) -> Result<Tree, Refusal>
         requires gone { (Gone lent self heads.old bytes.old way.now put.key.now (value_means put.value))
-            × (n ≡ (nth_step way.now (length way.now - 1)).slot) }
-        requires found { (FoundAt lent.size (state_of lent.size self heads.old bytes.old) heads.old bytes.old n put.key.now f)
-            × (f.found ≡ false → self.info.key_count < 2 ^ 64 - 1) }
+            × ((spot_found found).slot ≡ (nth_step way.now (length way.now - 1)).slot) }
+        requires found { (FoundAt lent.size (state_of lent.size self heads.old bytes.old) heads.old bytes.old (spot_found found).slot
+            put.key.now found) × (is_ok found ≡ false → self.info.key_count < 2 ^ 64 - 1) }
         requires room { (4 + length put.key.now + value_length (value_means put.value) + 56 ≤ lent.size) × (2 * lent.size ≤ length scratch.old) }
         ensures answer { edited_of lent.size heads.new bytes.new result
             ≡ cuts (lent_of [] lent) [] (steps_in way.now)
             (index_keys (steps_in way.now)
             (put_in_leaf (touch (steps_in way.now)
-            (state_of lent.size self heads.old bytes.old)) n put.entry.key.now
+            (state_of lent.size self heads.old bytes.old)) (spot_found found).slot put.entry.key.now
             (value_means put.entry.value))) }
-        ensures ready { ReadyEdited lent.size lent.slots heads.new bytes.new result }
-        ensures follows { Follows lent.size lent.slots self.used heads.old bytes.old heads.new bytes.new }
+        ensures left { EditedFrom lent.size lent.slots self.used heads.old bytes.old heads.new bytes.new result }
     {
         self.touch(heads, bytes, lent, way);
-        let t = self.put_in_leaf(heads, bytes, lent, n, f, put);
+        let t = self.put_in_leaf(heads, bytes, lent, found, put);
         t.index_keys(heads, bytes, lent, way, scratch);
         t.cuts(heads, bytes, lent, way, scratch)
     }
@@ -196,7 +192,7 @@ impl Tree {
         heads: &mut [u64],
         bytes: &mut [u8],
         lent: Lent,
-        way: &[Step],
+        way: &[Position],
         key: &[u8],
         value: Option<&[u8]>,
         scratch: &mut [u8],
@@ -206,19 +202,19 @@ impl Tree {
         ensures answer { edited_of lent.size heads.new bytes.new result
             ≡ upsert_on (lent_of [] lent) key.now (lent_value value.entry)
             (way_gone lent.size self heads.old bytes.old way.now) }
-        ensures ready { ReadyEdited lent.size lent.slots heads.new bytes.new result }
-        ensures follows { Follows lent.size lent.slots self.used heads.old bytes.old heads.new bytes.new }
+        ensures left { EditedFrom lent.size lent.slots self.used heads.old bytes.old heads.new bytes.new result }
     {
         let n = way[way.len() - 1].slot;
-        let f = view!(self, heads, bytes, lent).found_at(n, key);
-        check(Refusal::Count, count_holds(f.found, self.info.key_count))?;
+        let found = view!(self, heads, bytes, lent).found_at(n, key);
+        let there = found.is_ok();
+        check(Refusal::Count, room_for_key(there, self.info.key_count))?;
         let value = value.map_or(Val::Ghost, Val::Leaf);
         if too_large(lent.size, key.len(), value.len()) {
             let h = bank::live_at(heads, n);
-            return Err(large_refusal(h.count, f.found));
+            return Err(large_refusal(h.count, there));
         }
         let put = Storable { key, value };
-        self.put_on(heads, bytes, lent, way, n, f, put, scratch)
+        self.put_on(heads, bytes, lent, way, found, put, scratch)
     }
 
     // Load; 17; cuts. Refused, it may leave slots changed.
@@ -239,12 +235,11 @@ impl Tree {
         ensures answer { edited_of lent.size heads.new bytes.new result
             ≡ upserted (lent_of image.now lent) (state_of lent.size self heads.old bytes.old)
             key.now (lent_value value.entry) }
-        ensures ready { ReadyEdited lent.size lent.slots heads.new bytes.new result }
-        ensures follows { Follows lent.size lent.slots self.used heads.old bytes.old heads.new bytes.new }
+        ensures left { EditedFrom lent.size lent.slots self.used heads.old bytes.old heads.new bytes.new result }
     {
         let level = view!(self, heads, bytes, lent).level_at(self.root);
         let w = self.way(image, heads, bytes, lent, level, key)?;
-        w.tree.upsert_on(heads, bytes, lent, &w.steps[..w.count], key, value, scratch)
+        w.tree.upsert_on(heads, bytes, lent, w.steps.as_slice(), key, value, scratch)
     }
 
     // upsert on slots that are trusted: 12; the edit. Refused, every slot is as it was.
@@ -283,10 +278,10 @@ impl Tree {
         image: &[u8],
         heads: &mut [u64],
         bytes: &mut [u8],
-        scratch: &mut [u8],
         lent: Lent,
         key: &[u8],
         value: Option<&[u8]>,
+        scratch: &mut [u8],
     ) -> Result<Tree, Refusal>
         ensures answer { edited_of lent.size heads.new bytes.new result
             ≡ edits lent.size lent.slots self heads.old bytes.old scratch.old
@@ -294,7 +289,7 @@ impl Tree {
         ensures left { edited_leaves lent.size lent.slots self heads.old bytes.old
             heads.new bytes.new result }
     {
-        let holds = lent::edit_holds(self, image, heads, bytes, scratch, lent);
+        let holds = lent::edit_holds(self, image, heads, bytes, lent, scratch);
         check(Refusal::Lent, holds)?;
         self.upsert_in(image, heads, bytes, lent, key, value, scratch)
     }

@@ -1,5 +1,5 @@
 // The way to a key: from the root down, children loaded as they are met.
-ghost use Rattle.std.specs.Prelude.{◌≡◌, ◌+◌, ◌≤◌};
+ghost use Rattle.std.specs.Prelude.{◌≡◌, ◌-◌, ◌≤◌, length};
 ghost use Rattle.node.specs.Find.{way_index};
 ghost use Rattle.tree.specs.Lent.{lent_of};
 ghost use Rattle.tree.specs.State.{node_at};
@@ -7,35 +7,36 @@ ghost use Rattle.tree.specs.Load.{unbounded};
 ghost use Rattle.tree.specs.Lookup.{way_from};
 ghost use Rattle.tree.specs.Trusts.{Ready};
 ghost use Rattle.tree.specs.Workspace.{state_of};
+ghost use Rattle.tree.specs.internal.Bank.{ReadyBy};
 ghost use Rattle.tree.specs.internal.Undo.{Follows};
-ghost use Rattle.tree.specs.internal.Way.{way_of, WayReady};
+ghost use Rattle.tree.specs.internal.Way.{nth_step, way_of};
 ghost use Rattle.tree.specs.internal.View.{seen};
 
-use crate::editor::{Tree, UNBOUNDED};
+use crate::editor::{Position, Tree, UNBOUNDED};
 use crate::lent::Lent;
 use crate::view::{View, view};
+use arrayvec::ArrayVec;
 use node::order::Order;
 use node::refusal::Refusal;
 
 // The most nodes on a way: levels 32 to 0, and one more.
 pub const STEPS: usize = 34;
 
-// A step of a way: a slot, and the entry of it that the key goes on by.
-#[derive(Clone, Copy)]
-pub struct Step {
-    pub slot: usize,
-    pub child: u64,
-}
-
-// A step that is not taken yet.
-pub const NO_STEP: Step = Step { slot: 0, child: 0 };
-
-// A way: the tree, what was loaded on it, and so many steps.
-#[derive(Clone, Copy)]
+// A way: the tree, what was loaded on it, and the steps, each the entry of a slot that the key goes on by.
+#[derive(Drop)]
 pub struct Way {
     pub tree: Tree,
-    pub count: usize,
-    pub steps: [Step; STEPS],
+    pub steps: ArrayVec<Position, STEPS>,
+}
+
+impl Way {
+    // The slot that it ends in.
+    pub fn leaf(&self) -> usize
+        requires { 1 ≤ length self.now.steps.items }
+        ensures { result ≡ (nth_step self.now.steps.items (length self.now.steps.items - 1)).slot }
+    {
+        self.steps[self.steps.len() - 1].slot
+    }
 }
 
 impl<'h, 'b> View<'h, 'b> {
@@ -66,32 +67,28 @@ impl Tree {
         requires level_bound { level ≤ 32 }
         ensures answer { way_of lent.size heads.new bytes.new result
             ≡ way_from level (lent_of image.now lent) (state_of lent.size self heads.old bytes.old) unbounded self.root key.now }
-        ensures ready { WayReady lent.size lent.slots heads.new bytes.new result }
+        ensures ready { ReadyBy (λ w. w.tree) lent.size lent.slots heads.new bytes.new result }
         ensures follows { Follows lent.size lent.slots self.used heads.old bytes.old heads.new bytes.new }
     {
         let mut b = UNBOUNDED;
         let mut t = self;
         let mut n = self.root;
-        let mut steps = [NO_STEP; STEPS];
-        let last = level as usize;
-        for k in 0..last {
+        let mut steps = ArrayVec::new();
+        for _k in 0..level {
             let i = view!(t, heads, bytes, lent).way_index(n, key);
             let inner = view!(t, heads, bytes, lent).child_bounds(b, n, i);
-            steps[k] = Step { slot: n, child: i };
+            steps.push(Position { slot: n, index: i });
             let (u, c) = t.load_child(image, heads, bytes, lent, b, n, i)?;
             t = u;
             n = c;
             b = inner;
         }
-        steps[last] = Step { slot: n, child: 0 };
-        Ok(Way {
-            tree: t,
-            count: last + 1,
-            steps,
-        })
+        steps.push(Position { slot: n, index: 0 });
+        Ok(Way { tree: t, steps })
     }
 
     // The way from the root down, so many levels; what is loaded is walked first.
+    #[tactic(auto, using(crate::specs::laws::lookup::LoadedCalls::way_laws))]
     pub fn way(
         self,
         image: &[u8],
@@ -105,7 +102,7 @@ impl Tree {
         requires level_bound { level ≤ 32 }
         ensures answer { way_of lent.size heads.new bytes.new result
             ≡ way_from level (lent_of image.now lent) (state_of lent.size self heads.old bytes.old) unbounded self.root key.now }
-        ensures ready { WayReady lent.size lent.slots heads.new bytes.new result }
+        ensures ready { ReadyBy (λ w. w.tree) lent.size lent.slots heads.new bytes.new result }
         ensures follows { Follows lent.size lent.slots self.used heads.old bytes.old heads.new bytes.new }
     {
         match view!(self, heads, bytes, lent).way_loaded(level, key) {

@@ -229,11 +229,15 @@ pub fn revalue_at(
 }
 
 impl<'h, 'b> View<'h, 'b> {
-    // Where entry i of slot n starts, or the bytes after its last entry.
-    pub fn offset_at(self, n: usize, i: u64) -> usize
+    // Where entry i of slot n stands, or would stand after its last.
+    pub fn spot_of(self, n: usize, i: u64) -> Spot
         requires n_lt_used { (n < self.tree.used) × (i ≤ (live (head_at self.heads.now n)).count) }
-        ensures { result ≡ records_length i (slot_bytes self.entry.lent.size self.entry.bytes.now n) }
+        ensures { result ≡ record { slot = n; index = i; at = records_length i (slot_bytes self.entry.lent.size self.entry.bytes.now n) } }
     {
-        self.records(n).offset_of(i)
+        Spot {
+            slot: n,
+            index: i,
+            at: self.records(n).offset_of(i),
+        }
     }
 }

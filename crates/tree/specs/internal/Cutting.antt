@@ -21,13 +21,13 @@ use Rattle.tree.specs.declared.editor.Tree.{Tree}
 use Rattle.tree.specs.declared.lent.Lent.{Lent}
 use Rattle.node.specs.declared.refusal.Refusal.{Refusal}
 use Rattle.node.specs.declared.refusal.Refusal.TheVariants as is
-use Rattle.tree.specs.declared.way.Step as code
+use Rattle.tree.specs.declared.editor.Position as code
 
 -- the step above a node; none above the root
-abbrev pub step_of : code.Step → Step
-step_of u = record { slot = u.slot; child = u.child }
+abbrev pub step_of : code.Position → Step
+step_of u = record { slot = u.slot; child = u.index }
 
-unfoldable pub up_of : Option code.Step → List Step
+unfoldable pub up_of : Option code.Position → List Step
 up_of u = option_to_list (option_map step_of u)
 
 -- 17 and 11: whether count and slots have room for n nodes made
@@ -101,7 +101,7 @@ pub record CutIs (size : ℕ) (t : Tree) (heads bytes : List ℕ) (n place at : 
   pub start : at ≡ records_length place (slot_bytes size bytes n)
 
 -- the cuts of a way are made from step j on
-pub record CutFrom (l : Lent) (t : Tree) (way : List code.Step) (j : ℕ) (heads bytes : List ℕ) (u : Tree) (heads' bytes' : List ℕ) : Type 0 where
+pub record CutFrom (l : Lent) (t : Tree) (way : List code.Position) (j : ℕ) (heads bytes : List ℕ) (u : Tree) (heads' bytes' : List ℕ) : Type 0 where
   pub state : cuts (lent_of [] l) (above_of way j) (steps_from way j (length way - j)) (state_of l.size t heads bytes)
       ≡ ok (state_of l.size u heads' bytes')
   pub more : t.used ≤ u.used

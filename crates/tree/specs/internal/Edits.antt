@@ -1,6 +1,5 @@
 -- Edits at work: what they leave, and the room that a cut finds.
-use Rattle.std.specs.Prelude.{◌≡◌, List, [], ◌∷◌, false, ℕ, zero, suc, ◌+◌, ◌-◌, ◌*◌, ◌≤◌, ◌<◌, length, Bool, Ok, Err}
-use Rattle.std.specs.Prelude as std
+use Rattle.std.specs.Prelude.{◌≡◌, List, [], ◌∷◌, false, ℕ, zero, suc, ◌+◌, ◌-◌, ◌*◌, ◌≤◌, ◌<◌, length, Result}
 use Rattle.node.specs.Result.{ok}
 use Rattle.node.specs.Find.{key_at}
 use Rattle.node.specs.Fit.{Sized}
@@ -10,30 +9,26 @@ use Rattle.tree.specs.Lent as lent
 use Rattle.tree.specs.State.{State, node_at}
 use Rattle.tree.specs.Lookup.{Step}
 use Rattle.tree.specs.Edit.{cuts}
-use Rattle.tree.specs.Trusts.{Ready}
 pub use Rattle.tree.specs.Trusts.{Trusts, EditedCalled, RemovedCalled}
+use Rattle.tree.specs.internal.Bank.{ReadyTree}
+use Rattle.tree.specs.internal.Undo.{Follows}
 use Rattle.tree.specs.internal.Index.{steps_from}
 use Rattle.tree.specs.declared.editor.Tree.{Tree}
-use Rattle.tree.specs.declared.way.Step as code
+use Rattle.tree.specs.declared.editor.Position as code
 use Rattle.tree.specs.internal.Way.{nth_step}
 
--- an accepted edit leaves the workspace ready
-abbrev pub ReadyEdited : ℕ → ℕ → List ℕ → List ℕ → std.Result Tree Refusal → Type 0
-ReadyEdited size slots heads bytes (Err x) = Unit {0}
-ReadyEdited size slots heads bytes (Ok t) = Ready size slots t.used heads bytes
-
--- the same of remove
-abbrev pub ReadyRemoved : ℕ → ℕ → List ℕ → List ℕ → std.Result (Tree × Bool) Refusal → Type 0
-ReadyRemoved size slots heads bytes (Err x) = Unit {0}
-ReadyRemoved size slots heads bytes (Ok (t, there)) = Ready size slots t.used heads bytes
+-- what an edit leaves: accepted, slots that are ready; either way, slots of which it can be told what they were when the call began
+pub record EditedFrom (size slots used : ℕ) (heads bytes heads' bytes' : List ℕ) (r : Result Tree Refusal) : Type 0 where
+  pub ready : ReadyTree size slots heads' bytes' r
+  pub follows : Follows size slots used heads bytes heads' bytes'
 
 -- ---- room for cuts
 
 -- step j of a way, and the step above it, none above the root
-unfoldable pub step_at : List code.Step → ℕ → Step
-step_at way j = record { slot = (nth_step way j).slot; child = (nth_step way j).child }
+unfoldable pub step_at : List code.Position → ℕ → Step
+step_at way j = record { slot = (nth_step way j).slot; child = (nth_step way j).index }
 
-unfoldable pub above_of : List code.Step → ℕ → List Step
+unfoldable pub above_of : List code.Position → ℕ → List Step
 above_of way zero = []
 above_of way (suc j) = step_at way j ∷ []
 
@@ -53,6 +48,6 @@ pub record CutFits (size : ℕ) (s : State) (up : List Step) (n : ℕ) : Type 0 
   pub parent : (x : Step) → up ≡ x ∷ [] → (node_at s n).dead ≡ false → ParentFits size s x n
 
 -- the same at every cut of a way, of the state that the cuts below leave
-pub record CutsFit (l : lent.Lent) (s : State) (way : List code.Step) : Type 0 where
+pub record CutsFit (l : lent.Lent) (s : State) (way : List code.Position) : Type 0 where
   pub turn : (j : ℕ) → j < length way → (u : State) → cuts l (step_at way j ∷ []) (steps_from way (suc j) (length way - suc j)) s ≡ ok u
       → CutFits l.size u (above_of way j) (nth_step way j).slot

@@ -87,8 +87,3 @@ pub record SpotIs (size slots : ℕ) (t : Tree) (heads bytes k : List ℕ) (e : 
   pub lies : e.at ≡ records_length e.index (slot_bytes size bytes e.slot)
   pub answer : (l : lent.Lent) (room : ℕ)
       → lookup.floor_in l (state_of size t heads bytes) room k ≡ floored_of room (entry_in (state_of size t heads bytes) e.slot e.index)
-
--- an accepted floor leaves the workspace ready
-abbrev pub FloorReady : ℕ → ℕ → List ℕ → List ℕ → std.Result (Tree × Option ℕ) Refusal → Type 0
-FloorReady size slots heads bytes (Err x) = Unit {0}
-FloorReady size slots heads bytes (Ok (t, n)) = Ready size slots t.used heads bytes

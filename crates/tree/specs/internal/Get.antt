@@ -9,7 +9,6 @@ use Rattle.node.specs.Entry.{Val}
 use Rattle.tree.specs.Lent as lent
 use Rattle.tree.specs.State.{State, node_at}
 use Rattle.tree.specs.Lookup as lookup
-use Rattle.tree.specs.Trusts.{Ready}
 pub use Rattle.tree.specs.Trusts.{GotCalled}
 use Rattle.tree.specs.declared.editor.Tree.{Tree}
 use Rattle.node.specs.declared.val.Val as Kept
@@ -40,8 +39,3 @@ got_way l s room k = lookup.way l s k >>= λ w. got_held w.state room
 abbrev pub got_of : Tree → std.Result (Option Copied) Refusal → std.Result (Tree × Option Copied) Refusal
 got_of t (Err x) = Err x
 got_of t (Ok c) = Ok (t, c)
-
--- an accepted get leaves the workspace ready
-abbrev pub ReadyGot : ℕ → ℕ → List ℕ → List ℕ → std.Result (Tree × Option Copied) Refusal → Type 0
-ReadyGot size slots heads bytes (Err x) = Unit {0}
-ReadyGot size slots heads bytes (Ok (t, c)) = Ready size slots t.used heads bytes

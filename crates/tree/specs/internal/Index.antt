@@ -11,7 +11,7 @@ use Rattle.tree.specs.Workspace.{state_of}
 use Rattle.tree.specs.internal.Bank.{live, Ready}
 use Rattle.tree.specs.internal.Undo.{Follows}
 use Rattle.tree.specs.declared.editor.Tree.{Tree}
-use Rattle.tree.specs.declared.way.Step as code
+use Rattle.tree.specs.declared.editor.Position as code
 use Rattle.tree.specs.internal.Way.{nth_step}
 
 -- whether the index key of child i of slot n is another than the first key of slot c; not where either is not there
@@ -43,15 +43,15 @@ pub record KeyFits (size : ℕ) (s : State) (n c scratch : ℕ) : Type 0 where
   pub copied : length (key_at (node_at s c).entries 0) ≤ scratch
 
 -- the steps of a way from step j on, m of them
-unfoldable pub steps_from : List code.Step → ℕ → ℕ → List Step
+unfoldable pub steps_from : List code.Position → ℕ → ℕ → List Step
 steps_from way j zero = []
-steps_from way j (suc m) = record { slot = (nth_step way j).slot; child = (nth_step way j).child } ∷ steps_from way (suc j) m
+steps_from way j (suc m) = record { slot = (nth_step way j).slot; child = (nth_step way j).index } ∷ steps_from way (suc j) m
 
 -- each index key on a way fits where it is set
-pub record IndexRoom (size : ℕ) (t : Tree) (heads bytes : List ℕ) (way : List code.Step) (scratch : ℕ) : Type 0 where
+pub record IndexRoom (size : ℕ) (t : Tree) (heads bytes : List ℕ) (way : List code.Position) (scratch : ℕ) : Type 0 where
   pub turn : (j : ℕ) → 0 < j → j < length way → KeyFits size (index_keys (steps_from way j (length way - j)) (state_of size t heads bytes))
       (nth_step way (j - 1)).slot (nth_step way j).slot scratch
 
 -- the index keys are set from step j on
-pub record Indexed (size slots : ℕ) (t : Tree) (way : List code.Step) (j : ℕ) (heads bytes heads' bytes' : List ℕ) : Type 0 where
+pub record Indexed (size slots : ℕ) (t : Tree) (way : List code.Position) (j : ℕ) (heads bytes heads' bytes' : List ℕ) : Type 0 where
   pub rest : Rewritten size slots t heads bytes heads' bytes' (index_keys (steps_from way j (length way - j)) (state_of size t heads bytes))

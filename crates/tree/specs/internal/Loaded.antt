@@ -1,8 +1,10 @@
 -- A key's way where every child on it is loaded.
-use Rattle.std.specs.Prelude.{◌≡◌, List, true, ℕ, zero, suc, ◌<◌, Option, Some, Ok}
+use Rattle.std.specs.Prelude.{◌≡◌, List, true, ℕ, zero, suc, ◌<◌, drop, Option, Some, Ok}
 use Rattle.node.specs.Order.{keyed}
 use Rattle.node.specs.Entry.{Entry, mem}
-use Rattle.node.specs.Find.{val_at, way_index}
+use Rattle.node.specs.Find.{key_at, val_at, way_index}
+use Rattle.node.specs.Records.{entry_of}
+use Rattle.node.specs.declared.record.Record.{Record}
 use Rattle.tree.specs.Lent.{Lent}
 use Rattle.tree.specs.State.{State, node_at}
 use Rattle.tree.specs.Load.{Bounds, unbounded}
@@ -17,6 +19,12 @@ use Rattle.tree.specs.declared.way.Way.{Way}
 pub record TakenOf (o : ℕ) (k : List ℕ) (es : List Entry) (r : Option Taken) : Type 0 where
   pub index : (t : Taken) → r ≡ Some t → t.index ≡ way_index o k es
   pub child : (t : Taken) → r ≡ Some t → val_at es (way_index o k es) ≡ mem t.slot
+
+-- the same with its record, whose key is the entry's
+pub record TakenBy (o : ℕ) (k : List ℕ) (es : List Entry) (r : Option (Record × Taken)) : Type 0 where
+  pub index : (x : Record × Taken) → r ≡ Some x → x.1.index ≡ way_index o k es
+  pub child : (x : Record × Taken) → r ≡ Some x → val_at es (way_index o k es) ≡ mem x.1.slot
+  pub key : (x : Record × Taken) → r ≡ Some x → (entry_of (drop x.0.at x.0.slot.now)).key ≡ key_at es (way_index o k es)
 
 -- the child of slot n that a key goes on by is loaded, and P holds of its slot
 pub record OnBy (s : State) (k : List ℕ) (n : ℕ) (P : ℕ → Type 0) : Type 0 where

@@ -14,7 +14,6 @@ use Rattle.tree.specs.State.{State, node_at}
 use Rattle.tree.specs.Workspace.{state_of}
 use Rattle.tree.specs.Load.{Bounds, unbounded, child_bounds, load_child}
 use Rattle.tree.specs.Lookup.{Got, ends_above, between, range_enters, range_from}
-use Rattle.tree.specs.Trusts.{Ready}
 pub use Rattle.tree.specs.Trusts.{RangeCalled}
 use Rattle.tree.specs.declared.editor.Tree.{Tree}
 use Rattle.tree.specs.declared.range.Ranged.{Ranged}
@@ -82,11 +81,6 @@ ahead a r = r >>= λ c. ok (record { state = c.state; sum = plus a c.sum })
 unfoldable pub ranged_of : ℕ → List ℕ → List ℕ → std.Result Ranged Refusal → Result Counted
 ranged_of size heads bytes (Err x) = refused (refusal.number_of x)
 ranged_of size heads bytes (Ok r) = ok (record { state = state_of size r.tree heads bytes; sum = record { count = r.count; length = r.length } })
-
--- an accepted range leaves the workspace ready
-abbrev pub ReadyRanged : ℕ → ℕ → List ℕ → List ℕ → std.Result Ranged Refusal → Type 0
-ReadyRanged size slots heads bytes (Err x) = Unit {0}
-ReadyRanged size slots heads bytes (Ok r) = Ready size slots r.tree.used heads bytes
 
 -- of `range_kids`, child i alone: loaded and looked into
 unfoldable pub range_child : (State → Bounds → ℕ → Result (Got Entry)) → lent.Lent → State → Bounds → ℕ → ℕ → Result (Got Entry)

@@ -20,7 +20,7 @@ use Rattle.tree.specs.internal.Room.{Roomy}
 use Rattle.tree.specs.internal.Index.{Rewritten, steps_from}
 use Rattle.tree.specs.declared.editor.Tree.{Tree}
 use Rattle.tree.specs.declared.lent.Lent.{Lent}
-use Rattle.tree.specs.declared.way.Step as code
+use Rattle.tree.specs.declared.editor.Position as code
 use Rattle.tree.specs.internal.Way.{nth_step}
 
 -- ---- nodes dropped
@@ -38,9 +38,9 @@ pub record DropFits (s : State) (n i c : ℕ) : Type 0 where
   pub child : i < length (node_at s n).entries
 
 -- the same at every step of a way, of the state that the drops below leave
-pub record DropRoom (s : State) (way : List code.Step) : Type 0 where
+pub record DropRoom (s : State) (way : List code.Position) : Type 0 where
   pub turn : (j : ℕ) → 0 < j → j < length way
-      → DropFits (drop_emptied (steps_from way j (length way - j)) s).state (nth_step way (j - 1)).slot (nth_step way (j - 1)).child
+      → DropFits (drop_emptied (steps_from way j (length way - j)) s).state (nth_step way (j - 1)).slot (nth_step way (j - 1)).index
       (nth_step way j).slot
 
 -- the slots are what drops leave, and so many nodes were dropped

@@ -3,7 +3,6 @@ use Rattle.std.specs.Prelude.{List, [], ◌∷◌, ℕ, ◌<◌, Option, Some, N
 use Rattle.std.specs.Prelude as std
 use Rattle.std.specs.Borrow.{Bor}
 use Rattle.node.specs.Result.{Result, ok, refused, ◌>>=◌}
-use Rattle.node.specs.Entry.{Val, ghost, leaf, disk, mem}
 use Rattle.node.specs.Find.{key_at}
 use Rattle.node.specs.Read.{OnDisk}
 use Rattle.tree.specs.Lent as lent
@@ -11,20 +10,11 @@ use Rattle.tree.specs.State.{State, node_at}
 use Rattle.tree.specs.Workspace.{state_of}
 use Rattle.tree.specs.Load as load
 use Rattle.tree.specs.internal.Brought.{brought}
-use Rattle.tree.specs.internal.Bank.{Ready}
 use Rattle.tree.specs.declared.editor.Position.{Position}
 use Rattle.tree.specs.declared.editor.Tree.{Tree}
 use Rattle.node.specs.Refusals.{number_of}
 use Rattle.node.specs.declared.refusal.Refusal.{Refusal}
-use Rattle.node.specs.declared.val.Child.{Child}
-use Rattle.node.specs.declared.val.Child.TheVariants as child
 use Rattle.tree.specs.declared.editor.Bounds.{Bounds}
-
-unfoldable pub child_of : Val → Option Child
-child_of ghost = None
-child_of (leaf v) = None
-child_of (disk r) = Some (child.Disk r)
-child_of (mem c) = Some (child.Mem c)
 
 unfoldable pub bound_of : State → Option Position → List (List ℕ)
 bound_of s None = []
@@ -61,8 +51,3 @@ fetched_at l s cs n i r a = read_child l s cs n r a >>= λ d. ok (brought s n i 
 unfoldable pub loaded_of : ℕ → List ℕ → List ℕ → std.Result (Tree × ℕ) Refusal → Result load.At
 loaded_of size heads bytes (Err x) = refused (number_of x)
 loaded_of size heads bytes (Ok (t, c)) = ok (record { state = state_of size t heads bytes; slot = c })
-
--- an accepted call leaves the bank ready
-abbrev pub ReadyAfter : ℕ → ℕ → List ℕ → List ℕ → std.Result (Tree × ℕ) Refusal → Type 0
-ReadyAfter size slots heads bytes (Err x) = Unit {0}
-ReadyAfter size slots heads bytes (Ok (t, c)) = Ready size slots t.used heads bytes

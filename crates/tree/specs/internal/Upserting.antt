@@ -15,7 +15,7 @@ use Rattle.tree.specs.internal.Room.{Roomy}
 use Rattle.tree.specs.internal.Way.{steps_in}
 use Rattle.tree.specs.declared.editor.Tree.{Tree}
 use Rattle.tree.specs.declared.lent.Lent.{Lent}
-use Rattle.tree.specs.declared.way.Step as code
+use Rattle.tree.specs.declared.editor.Position as code
 
 -- that a record can hold a value is a fact: it has one proof
 pub held_once : (v : Val) → IsProp (Held v)
@@ -25,11 +25,11 @@ held_once (disk r) = le_prop
 held_once (mem s) = le_prop
 
 -- the slots in use and the steps taken, as a way
-abbrev pub way_gone : ℕ → Tree → List ℕ → List ℕ → List code.Step → lookup.Way
+abbrev pub way_gone : ℕ → Tree → List ℕ → List ℕ → List code.Position → lookup.Way
 way_gone size t heads bytes way = record { state = state_of size t heads bytes; steps = steps_in way }
 
 -- the steps are the way to a key that was gone from slots to be trusted, into which the entry fits
-pub record Gone (l : Lent) (t : Tree) (heads bytes : List ℕ) (way : List code.Step) (key : List ℕ) (v : Val) : Type 0 where
+pub record Gone (l : Lent) (t : Tree) (heads bytes : List ℕ) (way : List code.Position) (key : List ℕ) (v : Val) : Type 0 where
   pub image : List ℕ
   pub from : State
   pub trust : trusted (lent_of image l) from ≡ true

@@ -27,17 +27,17 @@ use Rattle.tree.specs.internal.Cutting.{up_of, room_of, counted, stays_whole}
 use Rattle.tree.specs.laws.slots.Tree.{node_in_lem, used_nodes}
 use Rattle.tree.specs.declared.editor.Tree.{Tree}
 use Rattle.tree.specs.declared.lent.Lent.{Lent}
-use Rattle.tree.specs.declared.way.Step as code
+use Rattle.tree.specs.declared.editor.Position as code
 use Rattle.tree.specs.internal.Way.{nth_step}
 
 -- ---- the step above
 
-module _ (way : List code.Step) (j : ℕ) where
+module _ (way : List code.Position) (j : ℕ) where
   pub above_none : j ≡ 0 → up_of None ≡ above_of way j
   unfolding up_of above_of
   above_none e = rw e
 
-  pub above_some : (x : code.Step) → x ≡ nth_step way (j - 1) → 0 < j → up_of (Some x) ≡ above_of way j
+  pub above_some : (x : code.Position) → x ≡ nth_step way (j - 1) → 0 < j → up_of (Some x) ≡ above_of way j
   unfolding up_of above_of step_at
   above_some x e h = let z : j ≡ suc (j - 1) = omega arith in rw e (sym (ap (above_of way) z))
 

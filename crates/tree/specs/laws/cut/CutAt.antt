@@ -31,7 +31,7 @@ use Rattle.tree.specs.laws.load.Fetch.{count_is, count_few}
 use Rattle.tree.specs.laws.cut.Asked.{room_none, room_found, room_count, counted_state}
 use Rattle.tree.specs.declared.editor.Tree.{Tree}
 use Rattle.tree.specs.declared.lent.Lent.{Lent}
-use Rattle.tree.specs.declared.way.Step as code
+use Rattle.tree.specs.declared.editor.Position as code
 use Rattle.node.specs.declared.refusal.Refusal.{Refusal}
 use Rattle.node.specs.declared.refusal.Refusal.TheVariants as is
 
@@ -186,18 +186,18 @@ top_count l t t' v heads bytes h1 b1 h2 b2 n place u e a g =
 
 -- ---- a child cut
 
-up_is : (up : code.Step) → up_of (Some up) ≡ step_of up ∷ []
+up_is : (up : code.Position) → up_of (Some up) ≡ step_of up ∷ []
 unfolding up_of
 up_is up = refl
 
-module _ (l : Lent) (t : Tree) (heads bytes : List ℕ) (up : code.Step) (n place at : ℕ) where
+module _ (l : Lent) (t : Tree) (heads bytes : List ℕ) (up : code.Position) (n place at : ℕ) where
   -- its parent
   pub child_parent : CutFits l.size (state_of l.size t heads bytes) (up_of (Some up)) n → CutIs l.size t heads bytes n place at
       → ParentFits l.size (state_of l.size t heads bytes) (step_of up) n
   child_parent f k = f.parent (step_of up) (up_is up) k.alive
 
   pub child_next : Ready l.size l.slots t.used heads bytes → CutFits l.size (state_of l.size t heads bytes) (up_of (Some up)) n
-      → CutIs l.size t heads bytes n place at → up.child + 1 < 2 ^ 64
+      → CutIs l.size t heads bytes n place at → up.index + 1 < 2 ^ 64
   child_next r f k =
       let p : ParentFits l.size (state_of l.size t heads bytes) (step_of up) n = child_parent f k in
       let h : up.slot < t.used = omega (arith, p.within, used_nodes l.size t heads bytes) in
@@ -216,15 +216,15 @@ module _ (l : Lent) (t : Tree) (heads bytes : List ℕ) (up : code.Step) (n plac
 
   pub child_done : (u : ⊤) → Ok u ≡ room_of t.info.node_count t.used l.slots 1 → (t' v : Tree) (h1 b1 h2 b2 : List ℕ)
       → state_of l.size t' h1 b1 ≡ parted (state_of l.size t heads bytes) n place
-      → Rewritten l.size l.slots t' h1 b1 h2 b2 (child_put (state_of l.size t' h1 b1) up.slot (up.child + 1) t.used)
+      → Rewritten l.size l.slots t' h1 b1 h2 b2 (child_put (state_of l.size t' h1 b1) up.slot (up.index + 1) t.used)
       → v ≡ counted t' 1
       → edited_of l.size h2 b2 (Ok v) ≡ cut_at (lent_of [] l) (up_of (Some up)) n place (state_of l.size t heads bytes)
   unfolding edited_of cut_at link_right
   child_done u e t' v h1 b1 h2 b2 a w c =
       rw (up_is up, room_found l t heads bytes 1 u e)
       (ap ok (ap (λ (x : Tree). state_of l.size x h2 b2) c ∙ counted_state l.size 1 t' h2 b2
-      ∙ ap (λ (x : State). more_nodes x 1) (w.state ∙ ap (λ (x : State). child_put x up.slot (up.child + 1) t.used) a
-      ∙ ap₂ (λ (i k : ℕ). child_put (parted (state_of l.size t heads bytes) n place) up.slot i k) (add-one up.child)
+      ∙ ap (λ (x : State). more_nodes x 1) (w.state ∙ ap (λ (x : State). child_put x up.slot (up.index + 1) t.used) a
+      ∙ ap₂ (λ (i k : ℕ). child_put (parted (state_of l.size t heads bytes) n place) up.slot i k) (add-one up.index)
       (sym (used_nodes l.size t heads bytes)))))
 
 -- ---- what both leave

@@ -22,7 +22,7 @@ use Rattle.tree.specs.laws.slots.Tree.{used_nodes}
 use Rattle.tree.specs.laws.cut.Asked.{unfit_alive}
 use Rattle.tree.specs.declared.editor.Tree.{Tree}
 use Rattle.tree.specs.declared.lent.Lent.{Lent}
-use Rattle.tree.specs.declared.way.Step as code
+use Rattle.tree.specs.declared.editor.Position as code
 use Rattle.std.specs.Prelude as std
 use Rattle.node.specs.declared.refusal.Refusal.{Refusal}
 use Rattle.tree.specs.laws.slots.Undo.{follows_same}
@@ -74,7 +74,7 @@ module _ (l : Lent) (t : Tree) (heads bytes : List ℕ) (up : List Step) (n : �
 
 -- ---- the step above, if there is one
 
-module _ (l : Lent) (s : State) (n : ℕ) (o : Option code.Step) where
+module _ (l : Lent) (s : State) (n : ℕ) (o : Option code.Position) where
   none_above : o ≡ None → up_of o ≡ []
   unfolding up_of
   none_above e = rw e
@@ -82,14 +82,14 @@ module _ (l : Lent) (s : State) (n : ℕ) (o : Option code.Step) where
   pub top_fits : o ≡ None → CutFits l.size s (up_of o) n → CutFits l.size s [] n
   top_fits e f = subst (λ (x : List Step). CutFits l.size s x n) (none_above e) f
 
-  pub child_fits : (up : code.Step) → o ≡ Some up → CutFits l.size s (up_of o) n → CutFits l.size s (up_of (Some up)) n
+  pub child_fits : (up : code.Position) → o ≡ Some up → CutFits l.size s (up_of o) n → CutFits l.size s (up_of (Some up)) n
   child_fits up e f = rw e at f
 
   module _ (place : ℕ) (r : Result State) where
     pub top_answer : o ≡ None → r ≡ cut_at (lent_of [] l) [] n place s → r ≡ cut_at (lent_of [] l) (up_of o) n place s
     top_answer e a = a ∙ ap (λ (x : List Step). cut_at (lent_of [] l) x n place s) (sym (none_above e))
 
-    pub child_answer : (up : code.Step) → o ≡ Some up → r ≡ cut_at (lent_of [] l) (up_of (Some up)) n place s
+    pub child_answer : (up : code.Position) → o ≡ Some up → r ≡ cut_at (lent_of [] l) (up_of (Some up)) n place s
         → r ≡ cut_at (lent_of [] l) (up_of o) n place s
     child_answer up e a = rw e a
 

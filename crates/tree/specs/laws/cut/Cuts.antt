@@ -14,11 +14,11 @@ use Rattle.tree.specs.State.{State, with_root, with_info}
 use Rattle.tree.specs.Edit.{more_nodes, parted, link_right, grow_root, cut_node, cuts}
 use Rattle.tree.specs.Workspace.{state_of}
 use Rattle.tree.specs.Answers.{edited_of}
-use Rattle.tree.specs.internal.Bank.{Ready}
+use Rattle.tree.specs.internal.Bank.{Ready, ReadyTree}
 use Rattle.tree.specs.internal.Undo.{Follows}
 use Rattle.tree.specs.internal.Index.{steps_from}
 use Rattle.tree.specs.laws.cut.IndexKeys.{from_start}
-use Rattle.tree.specs.internal.Edits.{step_at, above_of, CutFits, CutsFit, ReadyEdited}
+use Rattle.tree.specs.internal.Edits.{step_at, above_of, CutFits, CutsFit}
 use Rattle.tree.specs.internal.Cutting.{step_of, up_of, CutFrom}
 use Rattle.tree.specs.laws.state.State.{put_count, add_count}
 use Rattle.tree.specs.laws.state.Edit.{parted_count}
@@ -31,7 +31,7 @@ use Rattle.std.specs.Prelude as std
 use Rattle.std.specs.Prelude.{Option, Some, None, Ok, Err}
 use Rattle.node.specs.Refusals.{number_of}
 use Rattle.node.specs.declared.refusal.Refusal.{Refusal}
-use Rattle.tree.specs.declared.way.Step as code
+use Rattle.tree.specs.declared.editor.Position as code
 use Rattle.tree.specs.internal.Way.{nth_step, steps_in}
 use Rattle.tree.specs.laws.cut.Pairs.{first_step, pairs_all, pairs_end}
 use Rattle.tree.specs.laws.cut.Asked.{above_none}
@@ -50,13 +50,13 @@ grow_count : (s : State) (n r : ℕ) → length (grow_root s n r).nodes ≡ suc 
 unfolding grow_root with_root
 grow_count s n r = add_count _ _ ∙ ap suc (put_count s n _)
 
-longer : (l : lent.Lent) (up : Option code.Step) (n : ℕ) (s : State) → n < length s.nodes
+longer : (l : lent.Lent) (up : Option code.Position) (n : ℕ) (s : State) → n < length s.nodes
     → Holds (λ (u : State). length s.nodes ≤ length u.nodes) (cut_node l (up_of up) n s)
 unfolding up_of
 longer l (Some up) n s h =
     by_cut (λ (u : State). length s.nodes ≤ length u.nodes) l (step_of up) n s (λ t. omega arith)
-    (λ c live ps room. let x : State = link_right (parted s n c) up.slot up.child (length s.nodes) in
-    omega (arith, more_count x 1, link_count (parted s n c) up.slot up.child (length s.nodes), parted_count s n c h))
+    (λ c live ps room. let x : State = link_right (parted s n c) up.slot up.index (length s.nodes) in
+    omega (arith, more_count x 1, link_count (parted s n c) up.slot up.index (length s.nodes), parted_count s n c h))
 longer l None n s h =
     by_top (λ (u : State). length s.nodes ≤ length u.nodes) l n s (λ t. omega arith)
     (λ c live ps holds room. let x : State = grow_root (parted s n c) n (length s.nodes) in
@@ -64,7 +64,7 @@ longer l None n s h =
 
 -- ---- the definition, from step j on
 
-module _ (l : lent.Lent) (way : List code.Step) (s : State) where
+module _ (l : lent.Lent) (way : List code.Position) (s : State) where
   cuts_cons : (up : List Step) (j : ℕ) → j < length way
       → cuts l up (steps_from way j (length way - j)) s
       ≡ (cuts l (step_at way j ∷ []) (steps_from way (suc j) (length way - suc j)) s >>= cut_node l up (nth_step way j).slot)
@@ -82,7 +82,7 @@ module _ (l : lent.Lent) (way : List code.Step) (s : State) where
 
 -- ---- the loop
 
-module _ (l : Lent) (t : Tree) (way : List code.Step) (h0 b0 : List ℕ) where
+module _ (l : Lent) (t : Tree) (way : List code.Position) (h0 b0 : List ℕ) where
   abbrev s : State
   s = state_of l.size t h0 b0
 
@@ -115,7 +115,7 @@ module _ (l : Lent) (t : Tree) (way : List code.Step) (h0 b0 : List ℕ) where
       unfolding above_of
       below = ap (λ (i : ℕ). cuts (lent_of [] l) (above_of way i) (steps_from way i (length way - i)) s) again ∙ d.state
 
-      module _ (up : Option code.Step) (eu : up_of up ≡ above_of way (j - 1)) (x : code.Step) (ex : x ≡ nth_step way (j - 1)) where
+      module _ (up : Option code.Position) (eu : up_of up ≡ above_of way (j - 1)) (x : code.Position) (ex : x ≡ nth_step way (j - 1)) where
         pub from_fits : CutsFit (lent_of [] l) (state_of l.size t h0 b0) way → CutFits l.size (state_of l.size u h b) (up_of up) x.slot
         unfolding lent_of
         from_fits f = rw (eu, ex) (f.turn (j - 1) (omega arith) (state_of l.size u h b) below)
@@ -128,7 +128,7 @@ module _ (l : Lent) (t : Tree) (way : List code.Step) (h0 b0 : List ℕ) where
               cuts_cons (lent_of [] l) way s (above_of way (j - 1)) (j - 1) (omega arith)
               ∙ ap (λ (r : Result State). r >>= cut_node (lent_of [] l) (above_of way (j - 1)) (nth_step way (j - 1)).slot) below
               ∙ ap (λ (ps : List Step). cut_node (lent_of [] l) ps (nth_step way (j - 1)).slot (state_of l.size u h b)) (sym eu)
-              ∙ ap (λ (m : code.Step). cut_node (lent_of [] l) (up_of up) m.slot (state_of l.size u h b)) (sym ex) ∙ sym ey
+              ∙ ap (λ (m : code.Position). cut_node (lent_of [] l) (up_of up) m.slot (state_of l.size u h b)) (sym ex) ∙ sym ey
 
           pub from_refused : (x : Refusal) → y ≡ Err x
               → edited_of l.size h' b' (Err x) ≡ cuts (lent_of [] l) [] (steps_in way) (state_of l.size t h0 b0)
@@ -145,7 +145,7 @@ module _ (l : Lent) (t : Tree) (way : List code.Step) (h0 b0 : List ℕ) where
           from_behind g = follows_on l.size l.slots t.used u.used h0 b0 h b h' b' d.follows g d.more
 
           pub from_next : (v : Tree) → y ≡ Ok v → CutsFit (lent_of [] l) (state_of l.size t h0 b0) way
-              → ReadyEdited l.size l.slots h' b' y → Follows l.size l.slots u.used h b h' b'
+              → ReadyTree l.size l.slots h' b' y → Follows l.size l.slots u.used h b h' b'
               → CutFrom l t way (j - 1) h0 b0 v h' b'
           unfolding edited_of
           from_next v e f r g =
@@ -156,7 +156,7 @@ module _ (l : Lent) (t : Tree) (way : List code.Step) (h0 b0 : List ℕ) where
               record {
                 state = next ∙ ap (edited_of l.size h' b') e;
                 more = omega (arith, d.more, used_nodes l.size u h b, used_nodes l.size v h' b');
-                ready = subst (ReadyEdited l.size l.slots h' b') e r;
+                ready = subst (ReadyTree l.size l.slots h' b') e r;
                 follows = from_behind g;
               }
 

@@ -23,13 +23,13 @@ use Rattle.tree.specs.laws.slots.Undo.{follows_same, follows_on}
 use Rattle.tree.specs.laws.slots.Tree.{node_in_lem}
 use Rattle.tree.specs.laws.load.Fetch.{count_is}
 use Rattle.tree.specs.declared.editor.Tree.{Tree}
-use Rattle.tree.specs.declared.way.Step as code
+use Rattle.tree.specs.declared.editor.Position as code
 
 -- ---- steps from one on
 
-module _ (way : List code.Step) where
+module _ (way : List code.Position) where
   abbrev step : ℕ → Step
-  step j = record { slot = (nth_step way j).slot; child = (nth_step way j).child }
+  step j = record { slot = (nth_step way j).slot; child = (nth_step way j).index }
 
   from_cons : (j : ℕ) → j < length way → steps_from way j (length way - j) ≡ step j ∷ steps_from way (suc j) (length way - suc j)
   unfolding steps_from
@@ -81,7 +81,7 @@ module _ (size slots n c room : ℕ) (t : Tree) (h b : List ℕ) (r : Ready size
 
 -- ---- the loop
 
-module _ (size slots : ℕ) (t : Tree) (way : List code.Step) (h0 b0 : List ℕ) where
+module _ (size slots : ℕ) (t : Tree) (way : List code.Position) (h0 b0 : List ℕ) where
   pub indexed_none : Ready size slots t.used h0 b0 → Indexed size slots t way (length way - 1) h0 b0 h0 b0
   indexed_none r =
       record {
@@ -108,14 +108,14 @@ module _ (size slots : ℕ) (t : Tree) (way : List code.Step) (h0 b0 : List ℕ)
           follows = d.rest.follows;
         }
 
-    module _ (u : 0 < j) (v : j < length way) (x y : code.Step) (ex : x ≡ nth_step way (j - 1)) (ey : y ≡ nth_step way j) where
+    module _ (u : 0 < j) (v : j < length way) (x y : code.Position) (ex : x ≡ nth_step way (j - 1)) (ey : y ≡ nth_step way j) where
       pub index_turn : (room more : ℕ) → WayIn t.used way → IndexRoom size t h0 b0 way room → more ≡ room
           → KeyRoom size t h b x.slot y.slot more
       index_turn room more w i e =
           rw (e, ex, ey) (key_room size slots (nth_step way (j - 1)).slot (nth_step way j).slot room t h b d.rest.ready (w.slot (j - 1) (omega arith))
           (rw d.rest.state (i.turn j u v)))
 
-      pub indexed_next : (h' b' : List ℕ) → Rewritten size slots t h b h' b' (set_index_key (state_of size t h b) x.slot x.child y.slot)
+      pub indexed_next : (h' b' : List ℕ) → Rewritten size slots t h b h' b' (set_index_key (state_of size t h b) x.slot x.index y.slot)
           → Indexed size slots t way (j - 1) h0 b0 h' b'
       indexed_next h' b' w =
           let s : State = state_of size t h0 b0 in
@@ -125,7 +125,7 @@ module _ (size slots : ℕ) (t : Tree) (way : List code.Step) (h0 b0 : List ℕ)
             rest = record {
               state = w.state
                   ∙ rw (ex, ey)
-                  (ap (λ (v : State). set_index_key v (nth_step way (j - 1)).slot (nth_step way (j - 1)).child (nth_step way j).slot) d.rest.state)
+                  (ap (λ (v : State). set_index_key v (nth_step way (j - 1)).slot (nth_step way (j - 1)).index (nth_step way j).slot) d.rest.state)
                   ∙ sym (index_cons (step way (j - 1)) (step way j) (steps_from way j (length way - j))
                   (steps_from way (suc j) (length way - suc j)) s (from_cons way j v))
                   ∙ sym (ap (λ (l : List Step). index_keys l s)

@@ -15,30 +15,30 @@ use mathlib.Core.List.{List, [], ◌∷◌}
 use Prim.Native.Nat.{ℕ, ◌+◌, ◌-◌, ◌≤◌, ◌<◌}
 use native.Mathlib.Omega.{arith}
 use Rattle.tree.specs.internal.Way.{nth_step, steps_left, PairsOf, PairTaken}
-use Rattle.tree.specs.declared.way.Step as code
+use Rattle.tree.specs.declared.editor.Position as code
 
 -- the first step of a way that has one
-pub first_step : (way : List code.Step) (x : code.Step) → Some x ≡ slice_get way 0 → (0 < length way) × (x ≡ nth_step way 0)
+pub first_step : (way : List code.Position) (x : code.Position) → Some x ≡ slice_get way 0 → (0 < length way) × (x ≡ nth_step way 0)
 first_step [] x e = absurd (none-some x (sym e))
 first_step (y ∷ ys) x e = (omega arith, same_Some x y e)
 
-module _ (way : List code.Step) (s : Rev (ArrayWindows code.Step 2)) where
+module _ (way : List code.Position) (s : Rev (ArrayWindows code.Position 2)) where
   pub pairs_all : steps_left s ≡ way → PairsOf way s
   pairs_all e = record { rest = rw e (sym (take-length way)); within = rw e (omega arith); some = λ h. rw e h }
 
-  module _ (o : PairsOf way s) (two : windows_size (array_windows_parts (rev_source s)) ≡ 2) (r : Option (Bor (List code.Step)))
-      (t : Rev (ArrayWindows code.Step 2)) (p : array_windows_steps_back (rev_source s) r (rev_source t)) where
+  module _ (o : PairsOf way s) (two : windows_size (array_windows_parts (rev_source s)) ≡ 2) (r : Option (Bor (List code.Position)))
+      (t : Rev (ArrayWindows code.Position 2)) (p : array_windows_steps_back (rev_source s) r (rev_source t)) where
     abbrev k : ℕ
     k = length (steps_left s)
 
     -- no pair is left: one step is, or none
     pub pairs_end : r ≡ None → k ≤ 1
-    pairs_end e = let q = subst (λ (x : Option (Bor (List code.Step))). array_windows_steps_back (rev_source s) x (rev_source t)) e p in
+    pairs_end e = let q = subst (λ (x : Option (Bor (List code.Position))). array_windows_steps_back (rev_source s) x (rev_source t)) e p in
         omega (arith, q.1.0, two)
 
-    module _ (w : Bor (List code.Step)) (e : r ≡ Some w) where
+    module _ (w : Bor (List code.Position)) (e : r ≡ Some w) where
       abbrev turn : array_windows_steps_back (rev_source s) (Some w) (rev_source t)
-      turn = subst (λ (x : Option (Bor (List code.Step))). array_windows_steps_back (rev_source s) x (rev_source t)) e p
+      turn = subst (λ (x : Option (Bor (List code.Position))). array_windows_steps_back (rev_source s) x (rev_source t)) e p
 
       some : 2 ≤ k
       some = omega (arith, turn.1.0, two)
@@ -55,13 +55,13 @@ module _ (way : List code.Step) (s : Rev (ArrayWindows code.Step 2)) where
           }
 
       -- step i of the pair
-      step : (i : ℕ) → i < 2 → get_or w.now i (record { slot = 0; child = 0 }) ≡ nth_step way (k - 2 + i)
+      step : (i : ℕ) → i < 2 → get_or w.now i (record { slot = 0; index = 0 }) ≡ nth_step way (k - 2 + i)
       step i h =
-          ap (λ (l : List code.Step). get_or l i (record { slot = 0; child = 0 })) turn.1.1
-          ∙ get_or-drop (k - windows_size (array_windows_parts (rev_source s))) (steps_left s) i (record { slot = 0; child = 0 })
-          ∙ ap (λ (n : ℕ). get_or (steps_left s) (k - n + i) (record { slot = 0; child = 0 })) two
-          ∙ ap (λ (l : List code.Step). get_or l (k - 2 + i) (record { slot = 0; child = 0 })) o.rest
-          ∙ get_or-take k way (k - 2 + i) (record { slot = 0; child = 0 }) (omega (arith, some))
+          ap (λ (l : List code.Position). get_or l i (record { slot = 0; index = 0 })) turn.1.1
+          ∙ get_or-drop (k - windows_size (array_windows_parts (rev_source s))) (steps_left s) i (record { slot = 0; index = 0 })
+          ∙ ap (λ (n : ℕ). get_or (steps_left s) (k - n + i) (record { slot = 0; index = 0 })) two
+          ∙ ap (λ (l : List code.Position). get_or l (k - 2 + i) (record { slot = 0; index = 0 })) o.rest
+          ∙ get_or-take k way (k - 2 + i) (record { slot = 0; index = 0 }) (omega (arith, some))
 
       pub pair : PairTaken way s t w
       pair =

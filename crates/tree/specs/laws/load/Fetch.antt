@@ -39,7 +39,8 @@ use Rattle.tree.specs.laws.slots.Bank.{live_entries}
 use Rattle.tree.specs.internal.Map.{load_at, address_at}
 use Rattle.tree.specs.laws.load.MapNode.{block_long, block_at_lem, edge_key, edge_bounded}
 use Rattle.tree.specs.laws.load.MapFloor.{load_inside, load_accepts}
-use Rattle.tree.specs.internal.Tree.{child_of, bound_of, edge_of, bounds_of, read_child, fetched_at, loaded_of}
+use Rattle.node.specs.internal.Children.{child_of}
+use Rattle.tree.specs.internal.Tree.{bound_of, edge_of, bounds_of, read_child, fetched_at, loaded_of}
 use Rattle.tree.specs.laws.slots.Tree.{node_in_lem, node_out, used_nodes}
 use Rattle.tree.specs.declared.editor.Tree.{Tree}
 use Rattle.tree.specs.declared.editor.Position.{Position}

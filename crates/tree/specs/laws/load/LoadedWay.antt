@@ -1,52 +1,45 @@
 -- Laws of a way whose children are loaded: where it ends, and that load leaves the state as it was on it. Assumes nothing.
-use Rattle.std.specs.Prelude.{◌≡◌, Bool, length, set, drop, ltb}
+use Rattle.std.specs.Prelude.{◌≡◌, Bool, length, drop, ltb}
 use Rattle.std.specs.Bool.{then_some}
 use borrow.Author.Tests.{ltb-true}
 use Rattle.node.specs.laws.base.Tests.{by_test}
 use Rattle.std.proofs.Math.Path.{refl, sym, ap}
 use Rattle.std.proofs.Math.Bool.{true}
 use Rattle.std.proofs.Common.{subst, ◌∙◌, get_or-drop}
-use mathlib.Core.List.{List, [], ◌∷◌}
+use mathlib.Core.List.{List, [], ◌∷◌, ◌++◌}
 use Prim.Native.Nat.{ℕ, zero, suc, ◌+◌, ◌-◌, ◌≤◌, ◌<◌}
 use native.Mathlib.Omega.{arith}
 use Rattle.std.proofs.Math.ListN.{get_or}
 use Rattle.node.specs.Result.{Result, ok, ◌>>=◌}
 use Rattle.node.specs.Order.{keyed_length, keyed}
-use Rattle.node.specs.Entry.{Entry, Val, ghost, leaf, disk, mem}
-use Rattle.node.specs.Find.{val_at, way_index, last_not_above}
+use Rattle.node.specs.Entry.{Entry, Val, ghost, mem}
+use Rattle.node.specs.Find.{key_at, val_at, way_index, last_not_above}
 use Rattle.node.specs.Records.{record_length, records_length, entry_of, entries_of}
 use Rattle.node.specs.internal.SlotSteps.{last_in}
 use Rattle.node.specs.laws.order.Found.{above_le}
 use Rattle.node.specs.laws.slot.Records.{entries_head, length_entries}
 use Rattle.node.specs.laws.slot.Slot.{at_lies}
 use Rattle.node.specs.declared.slot.Last.{Last}
+use Rattle.node.specs.declared.record.Record.{Record}
 use Rattle.tree.specs.Lent.{Lent}
 use Rattle.tree.specs.State.{State, node_at}
 use Rattle.tree.specs.Workspace.{state_of}
 use Rattle.tree.specs.Load as load
 use Rattle.tree.specs.Lookup as lookup
 use Rattle.tree.specs.internal.Kids.{slots_of, kid_means}
-use Rattle.tree.specs.internal.Way.{steps_of, onto, way_of}
-use Rattle.tree.specs.internal.Loaded.{TakenOf, LeadsTo, LedTo, Leading, LedLeaf, LeafIs, Onward, Walked}
+use Rattle.tree.specs.internal.Way.{steps_of, steps_in, onto, way_of}
+use Rattle.tree.specs.internal.Loaded.{TakenOf, TakenBy, LeadsTo, LedTo, Leading, LedLeaf, LeafIs, Onward, Walked}
+use Rattle.tree.specs.laws.slots.Kids.{kid_slot}
+use Rattle.tree.specs.laws.slots.Records.{key_found}
 use Rattle.tree.specs.laws.load.Way.{onto_above, onto_none, steps_next, way_end}
 use Rattle.tree.specs.declared.editor.Tree.{Tree}
 use Rattle.tree.specs.declared.loaded.Taken.{Taken}
 use Rattle.std.specs.Prelude.{Ok, Some, None, Option}
 use Rattle.tree.specs.declared.way.Way.{Way}
-use Rattle.tree.specs.declared.way.Step as code
+use Rattle.tree.specs.declared.editor.Position as code
+use Rattle.arrayvec.specs.ArrayVec.{ArrayVec}
 
 -- ---- the entry taken
-
-one_slot : (v : Val) (c : ℕ) → c ∷ [] ≡ slots_of v → v ≡ mem c
-unfolding slots_of
-one_slot ghost c e = let y : ◌≡◌ {A = ℕ} 1 0 = ap length e in absurd (omega arith)
-one_slot (leaf v) c e = let y : ◌≡◌ {A = ℕ} 1 0 = ap length e in absurd (omega arith)
-one_slot (disk r) c e = let y : ◌≡◌ {A = ℕ} 1 0 = ap length e in absurd (omega arith)
-one_slot (mem x) c e = ap mem (sym (ap (λ (y : List ℕ). get_or y 0 0) e))
-
-pub kid_slot : (kid : Option ℕ) (c : ℕ) (v : Val) → kid_means kid ≡ slots_of v → kid ≡ Some c → v ≡ mem c
-unfolding kid_means
-kid_slot kid c v e h = one_slot v c (sym (rw h) ∙ e)
 
 -- nothing is no value, and a value is the value that it is
 no_value : {A : Type 0} (x : A) → None ≡ Some x → ⊥
@@ -56,8 +49,8 @@ one_value : {A : Type 0} (x y : A) → Some x ≡ Some y → x ≡ y
 one_value x y e = cc
 
 module _ (o : ℕ) (k l : List ℕ) (n : ℕ) where
-  pub taken_none : TakenOf o k (entries_of n l) None
-  taken_none = record { index = λ t q. absurd (no_value t q); child = λ t q. absurd (no_value t q) }
+  pub taken_none : TakenBy o k (entries_of n l) None
+  taken_none = record { index = λ t q. absurd (no_value t q); child = λ t q. absurd (no_value t q); key = λ t q. absurd (no_value t q) }
 
   module _ (hr : records_length n l ≤ length l) (z : n ≡ 0 → ⊥) (x : Last) (ex : x ≡ last_in o k n l) where
     taken_at : x.at ≡ records_length (way_index o k (entries_of n l)) l
@@ -81,14 +74,32 @@ module _ (o : ℕ) (k l : List ℕ) (n : ℕ) where
         (sym (ap (λ (j : ℕ). get_or (entries_of n l) j b) w) ∙ sym (get_or-drop i (entries_of n l) 0 b)
         ∙ ap (λ (y : List Entry). get_or y 0 b) (entries_head i n x.at l inside taken_at))
 
-    pub taken_is : (i : ℕ) → i ≡ x.count - 1 → (v : Val) → v ≡ (entry_of (drop x.at l)).value → (kid : Option ℕ)
-        → kid_means kid ≡ slots_of v → (c : ℕ) → kid ≡ Some c → TakenOf o k (entries_of n l) (Some (record { index = i; slot = c }))
+    pub taken_is : (i : ℕ) → i ≡ x.count - 1 → (r : Record) → r.slot.now ≡ l → r.at ≡ x.at → (v : Val) → v ≡ (entry_of (drop x.at l)).value
+        → (kid : Option ℕ) → kid_means kid ≡ slots_of v → (c : ℕ) → kid ≡ Some c
+        → TakenBy o k (entries_of n l) (Some (r, record { index = i; slot = c }))
     unfolding last_in way_index
-    taken_is i ei v ev kid ek c ec =
+    taken_is i ei r es ea v ev kid ek c ec =
+        let w : ℕ = way_index o k (entries_of n l) in
+        let ki : (entry_of (drop x.at l)).key ≡ key_at (entries_of n l) w =
+        key_found (entries_of n l) n l refl w x.at inside l refl taken_at (entry_of (drop x.at l)).key refl in
         record {
-          index = λ t q. ap (λ (y : Taken). y.index) (sym (one_value _ _ q)) ∙ ei ∙ rw ex;
-          child = λ t q. value_is ∙ sym ev ∙ kid_slot kid c v ek ec ∙ ap (λ (y : Taken). mem y.slot) (one_value _ _ q);
+          index = λ y q. ap (λ (y : Record × Taken). y.1.index) (sym (one_value _ _ q)) ∙ ei ∙ rw ex;
+          child = λ y q. value_is ∙ sym ev ∙ kid_slot kid c v ek ec ∙ ap (λ (y : Record × Taken). mem y.1.slot) (one_value _ _ q);
+          key = λ y q. subst (λ (y : Record × Taken). (entry_of (drop y.0.at y.0.slot.now)).key ≡ key_at (entries_of n l) w) (one_value _ _ q)
+              (rw (es, ea) ki);
         }
+
+module _ (o : ℕ) (k : List ℕ) (es : List Entry) where
+  pub taken_not : TakenOf o k es None
+  taken_not = record { index = λ t q. absurd (no_value t q); child = λ t q. absurd (no_value t q) }
+
+  -- without the record
+  pub taken_alone : (x : Option (Record × Taken)) → TakenBy o k es x → (r : Record) (t : Taken) → x ≡ Some (r, t) → TakenOf o k es (Some t)
+  taken_alone x b r t e =
+      record {
+        index = λ y q. subst (λ (y : Taken). y.index ≡ way_index o k es) (one_value _ _ q) (b.index (r, t) e);
+        child = λ y q. subst (λ (y : Taken). val_at es (way_index o k es) ≡ mem y.slot) (one_value _ _ q) (b.child (r, t) e);
+      }
 
 -- ---- the leaf
 
@@ -186,24 +197,22 @@ leads_floor (suc d) l s bs k m n e h q =
 -- ---- the way
 
 module _ (size : ℕ) (t : Tree) (heads bytes : List ℕ) (level : ℕ) (key : List ℕ) where
-  pub onward_start : (way : List code.Step) → Onward (state_of size t heads bytes) level key (steps_of way 0) (level - 0) t.root
+  pub onward_start : (way : List code.Position) → way ≡ [] → Onward (state_of size t heads bytes) level key (steps_in way) (level - 0) t.root
   unfolding steps_of state_of
-  onward_start way =
+  onward_start way w =
       let e : level - 0 ≡ level = omega arith in
       record {
         bounds = load.unbounded;
-        whole = λ l. rw e (onto_none (lookup.way_from level l (state_of size t heads bytes) load.unbounded
+        whole = λ l. rw (w, e) (onto_none (lookup.way_from level l (state_of size t heads bytes) load.unbounded
             t.root key));
       }
 
-  module _ (way : List code.Step) (j n : ℕ) (g : Onward (state_of size t heads bytes) level key (steps_of way j) (level - j) n)
-      (hw : j < length way) where
+  module _ (way : List code.Position) (j n : ℕ) (g : Onward (state_of size t heads bytes) level key (steps_in way) (level - j) n) where
     pub onward_turn : j < level → (r : Option Taken) → TakenOf t.order.code key (node_at (state_of size t heads bytes) n).entries r
-        → (x : Taken) → r ≡ Some x
-        → Onward (state_of size t heads bytes) level key (steps_of (set way j (record { slot = n; child = x.index })) (j + 1))
-        (level - (j + 1)) x.slot
+        → (x : Taken) → r ≡ Some x → (way' : List code.Position) → way' ≡ way ++ record { slot = n; index = x.index } ∷ []
+        → Onward (state_of size t heads bytes) level key (steps_in way') (level - (j + 1)) x.slot
     unfolding state_of
-    onward_turn hj r q x u =
+    onward_turn hj r q x u way' ew =
         let s : State = state_of size t heads bytes in
         let d : ℕ = level - (j + 1) in
         let e : level - j ≡ suc (level - (j + 1)) = omega arith in
@@ -211,25 +220,23 @@ module _ (size : ℕ) (t : Tree) (heads bytes : List ℕ) (level : ℕ) (key : L
         let cs : load.Bounds = load.child_bounds s.order g.bounds (node_at s n).entries i in
         record {
           bounds = cs;
-          whole = λ l. rw (steps_next way j n x.index hw, q.index x u)
-              (sym (onto_above (steps_of way j) n i (lookup.way_from d l s cs x.slot key))
-              ∙ ap (onto (steps_of way j)) (sym (loaded_down d l s g.bounds n x.slot key (q.child x u)))
-              ∙ ap (λ (m : ℕ). onto (steps_of way j) (lookup.way_from m l s g.bounds n key)) (sym e) ∙ g.whole l);
+          whole = λ l. rw (steps_next way way' n x.index ew, q.index x u)
+              (sym (onto_above (steps_in way) n i (lookup.way_from d l s cs x.slot key))
+              ∙ ap (onto (steps_in way)) (sym (loaded_down d l s g.bounds n x.slot key (q.child x u)))
+              ∙ ap (λ (m : ℕ). onto (steps_in way) (lookup.way_from m l s g.bounds n key)) (sym e) ∙ g.whole l);
         }
 
-  pub walked_end : (way : List code.Step) (j n : ℕ) → j ≡ level
-      → Onward (state_of size t heads bytes) level key (steps_of way j) (level - j) n → level < length way
-      → Walked size t heads bytes level key
-      (Some (record { tree = t; count = level + 1; steps = set way level (record { slot = n; child = 0 }) }))
+  pub walked_end : (way : List code.Position) (j n : ℕ) → level ≤ j
+      → Onward (state_of size t heads bytes) level key (steps_in way) (level - j) n
+      → (taken : ArrayVec code.Position) → taken.items ≡ way ++ record { slot = n; index = 0 } ∷ []
+      → Walked size t heads bytes level key (Some (record { tree = t; steps = taken }))
   unfolding state_of
-  walked_end way j n z g₀ hw =
-      let g : Onward (state_of size t heads bytes) level key (steps_of way level) (level - level) n = rw z at g₀ in
-      let hd : level - level ≤ 0 = omega arith in
-      let w : Way = record { tree = t; count = level + 1; steps = set way level (record { slot = n; child = 0 }) } in
+  walked_end way j n z g taken ew =
+      let w : Way = record { tree = t; steps = taken } in
       let arrived : (l : Lent) → way_of size heads bytes (Ok w)
       ≡ lookup.way_from level l (state_of size t heads bytes) load.unbounded t.root key =
-      λ l. way_end l size t heads bytes g.bounds n (level - level) level key way
-      (lookup.way_from level l (state_of size t heads bytes) load.unbounded t.root key) hd hw (g.whole l) in
+      λ l. way_end l size t heads bytes g.bounds n level j key way
+      (lookup.way_from level l (state_of size t heads bytes) load.unbounded t.root key) z (g.whole l) taken ew in
       record {
         same = λ v q. ap (λ (y : Way). y.tree) (sym (one_value _ _ q));
         arrives = λ v q l. subst (λ (y : Way). way_of size heads bytes (Ok y) ≡ lookup.way_from level l (state_of size t heads bytes)
@@ -240,5 +247,7 @@ module _ (size : ℕ) (t : Tree) (heads bytes : List ℕ) (level : ℕ) (key : L
   walked_not = record { same = λ w q. absurd (no_value w q); arrives = λ w q. absurd (no_value w q) }
 
 pub ruleset taken_in_laws = (taken_none, taken_lies, taken_is)
+
+pub ruleset taken_laws = (taken_not, taken_alone)
 
 pub ruleset way_loaded_laws = (onward_start, onward_turn, walked_end, walked_not)

@@ -5,13 +5,13 @@ use Rattle.std.proofs.Math.Path.{◌≡◌, sym, ap}
 use Rattle.std.proofs.Common.{◌∙◌}
 use mathlib.Core.List.{List, [], ◌∷◌}
 use Rattle.std.proofs.Math.Bool.{Bool, false, cond}
-use Rattle.std.specs.Prelude.{true, not, ◌&&◌, length}
-use Prim.Native.Nat.{ℕ, ◌+◌, ◌*◌, ◌/◌, ◌%◌, ◌≤◌}
+use Rattle.std.specs.Prelude.{true, not, length}
+use Prim.Native.Nat.{ℕ, ◌+◌, ◌*◌, ◌/◌, ◌≤◌}
 use native.Mathlib.Omega.{arith}
 use Rattle.std.proofs.Math.Dec.{eqb}
-use borrow.Author.Tests.{eq-eqb, ne_eqb, eqb-true}
+use borrow.Author.Tests.{eqb-true}
 use Rattle.node.specs.Bytes.{window, u32_at, u64_at}
-use Rattle.node.specs.laws.base.Tests.{by_test, and_split}
+use Rattle.node.specs.laws.base.Tests.{by_test}
 use Rattle.node.specs.Result.{◌>>=◌, ◌>>◌, check}
 use Rattle.node.specs.Order.{pair, pair_key}
 use Rattle.node.specs.Fit.{flag}
@@ -19,6 +19,8 @@ use Rattle.node.specs.Read.{on_disk, parsed, info_at, read_of, map_ok}
 use Rattle.node.specs.Slot.{value_means, child_means}
 use Rattle.node.specs.laws.read.Accepted.{Accepted}
 use Rattle.node.specs.declared.info.BTreeInfo.{BTreeInfo}
+use Rattle.node.specs.Place.{place_of, lent_root, lower_of, lent_key}
+use Rattle.node.specs.declared.read.Place.{Place}
 use Rattle.node.specs.declared.read.Node.{Node}
 use Rattle.node.specs.declared.read.ReadNode.{ReadNode}
 use Rattle.node.specs.declared.val.Val as Held
@@ -44,25 +46,26 @@ use Rattle.node.specs.declared.val.Child.TheVariants as child
 
 -- ---- roots
 
-module _ (image : List ℕ) (l : Lent) (a : ℕ) (v : Node) (info : BTreeInfo) (b : List ℕ)
-    (eb : b ≡ window (a * l.size) l.size image) (ei : info ≡ info_at b) where
-  pub info_is : info_at (lent.block_at (lent_of image l) a) ≡ info
-  unfolding lent.block_at lent_of
-  info_is = sym (ei ∙ ap info_at eb)
+module _ (image : List ℕ) (l : Lent) (a : ℕ) (v : Node) (virtual : Bool) (class : ℕ) (ec : class ≡ from_bool (not virtual)) where
+  wanted : class ≡ cond virtual 0 1
+  wanted = by_test virtual (λ t. rw t (ec ∙ rw t)) (λ t. rw t (ec ∙ rw t))
 
-  module _ (virtual : Bool) (class : ℕ) (ec : class ≡ from_bool (not virtual)) where
-    wanted : class ≡ cond virtual 0 1
-    wanted = by_test virtual (λ t. rw t (ec ∙ rw t)) (λ t. rw t (ec ∙ rw t))
+  pub root_class : eqb (v.otype / 0x40000000) class ≡ false → root_holds (lent_of image l) a virtual
+      (on_disk v (lent.block_at (lent_of image l) a)) ≡ false
+  unfolding root_holds storage_class on_disk
+  root_class h = rw (← wanted, h)
 
-    pub root_class : (v.otype / 0x40000000 ≡ class → ⊥) → eqb (v.otype / 0x40000000) class ≡ root_holds (lent_of image l) a virtual
-        (on_disk v (lent.block_at (lent_of image l) a))
-    unfolding root_holds storage_class on_disk
-    root_class h = sym (rw (← wanted, ne_eqb (v.otype / 0x40000000) class h))
-
-    pub root_size : v.otype / 0x40000000 ≡ class → eqb info.node_size l.size ≡ root_holds (lent_of image l) a virtual
-        (on_disk v (lent.block_at (lent_of image l) a))
+  module _ (hc : eqb (v.otype / 0x40000000) class ≡ true) (info : BTreeInfo) (b : List ℕ) (eb : b ≡ window (a * l.size) l.size image)
+      (ei : info ≡ info_at b) where
+    pub root_size : (t : Bool) → eqb info.node_size l.size ≡ t → root_holds (lent_of image l) a virtual
+        (on_disk v (lent.block_at (lent_of image l) a)) ≡ t
     unfolding root_holds storage_class on_disk lent.block_at lent_of
-    root_size h = sym (rw (← wanted, eq-eqb (v.otype / 0x40000000) class h, ← eb, ← ei))
+    root_size t h = rw (← wanted, hc, ← eb, ← ei) h
+
+pub info_is : (image : List ℕ) (l : Lent) (a : ℕ) (info : BTreeInfo) (b : List ℕ) → b ≡ window (a * l.size) l.size image → info ≡ info_at b
+    → info ≡ info_at (lent.block_at (lent_of image l) a)
+unfolding lent.block_at lent_of
+info_is image l a info b eb ei = ei ∙ ap info_at eb
 
 -- ---- an entry's mapping
 
@@ -108,12 +111,12 @@ module _ (id : ℕ) (f : Option Mapped) where
           address_room = omega (arith, leaf_long)
 
           module _ (w : ℕ) (ew : w ≡ u32_at v.now 0) where
-            pub mapping_encrypted : not (eqb (w / 4 % 2) 1) ≡ false → address_at (Err is.Encrypted) ≡ mapping id (found_of f)
-            unfolding address_at mapping value_means flag
+            pub mapping_encrypted : not (flag w 4) ≡ false → address_at (Err is.Encrypted) ≡ mapping id (found_of f)
+            unfolding address_at mapping value_means
             mapping_encrypted h = rw (found_is, ← ey, e, g, ← ew, h)
 
-            pub mapping_address : not (eqb (w / 4 % 2) 1) ≡ true → (a : ℕ) → a ≡ u64_at v.now 8 → address_at (Ok a) ≡ mapping id (found_of f)
-            unfolding address_at mapping value_means flag
+            pub mapping_address : not (flag w 4) ≡ true → (a : ℕ) → a ≡ u64_at v.now 8 → address_at (Ok a) ≡ mapping id (found_of f)
+            unfolding address_at mapping value_means
             mapping_address h a ea = rw (found_is, ← ey, e, g, ← ew, h, ← ea)
 
 -- ---- from the root on
@@ -134,56 +137,61 @@ module _ (image : List ℕ) (l : Lent) (d : MapNode) (xid id : ℕ) (key : List 
   unfolding spotted_of
   looked_found f r e q = q ∙ ap (λ y. spotted_of y >>= mapping id) (sym e) ∙ looked_in
 
-module _ (image : List ℕ) (l : Lent) (xid id m : ℕ) (x : std.Result ReadNode Refusal)
-    (e : read_of (lent.block_at (lent_of image l) m) (map_ok (λ r. r.node) x) ≡ load_at (lent_of image l) pair
-    (record { root = true; oid = m; parent = 0; ksize = 0; vsize = 0; bounded = false }) [] [] m) where
+-- of a root that was read, what it is read as
+module _ (image : List ℕ) (l : Lent) (m : ℕ) (x : std.Result ReadNode Refusal) (place : Place) (ep : place ≡ lent_root m)
+    (e : read_of (lent.block_at (lent_of image l) m) (map_ok (λ r. r.node) x)
+    ≡ load_at (lent_of image l) pair (place_of place) (lent_key (lower_of place)) (lent_key place.upper) m) where
+  of_root : read_of (lent.block_at (lent_of image l) m) (map_ok (λ r. r.node) x)
+      ≡ load_at (lent_of image l) pair (place_of (lent_root m)) [] [] m
+  of_root = rw ep at e
+
+  -- the lengths that it stores
+  module _ (r : ReadNode) (ex : x ≡ Ok r) (q : l.size ≤ 65536) (info : BTreeInfo) (ei : info ≡ info_at (lent.block_at (lent_of image l) m)) where
+    accepts : Accepted pair (place_of (lent_root m)) [] [] (window (m * l.size) l.size image) r.node
+    accepts = load_accepts image l pair m _ [] [] (map_ok (λ r. r.node) x) r.node of_root (ap (map_ok (λ r. r.node)) ex) q
+
+    pub address_ksize : eqb info.key_size 16 ≡ true → r.node.ksize ≡ 16
+    unfolding parsed lent.block_at lent_of
+    address_ksize k = ap (λ (n : Node). n.ksize) accepts.is ∙ ap (λ (i : BTreeInfo). i.key_size) (sym ei) ∙ eqb-true info.key_size 16 k
+
+    pub address_vsize : eqb info.val_size 16 ≡ true → r.node.vsize ≡ 16
+    unfolding parsed lent.block_at lent_of
+    address_vsize k = ap (λ (n : Node). n.vsize) accepts.is ∙ ap (λ (i : BTreeInfo). i.val_size) (sym ei) ∙ eqb-true info.val_size 16 k
+
+module _ (image : List ℕ) (l : Lent) (xid id m : ℕ) (x : std.Result ReadNode Refusal) (place : Place) (ep : place ≡ lent_root m)
+    (e : read_of (lent.block_at (lent_of image l) m) (map_ok (λ r. r.node) x)
+    ≡ load_at (lent_of image l) pair (place_of place) (lent_key (lower_of place)) (lent_key place.upper) m) where
   address_is : map_address (lent_of image l) xid id m ≡
       (read_of (lent.block_at (lent_of image l) m) (map_ok (λ r. r.node) x)
       >>= λ d. check 10 (map_root_holds (lent_of image l) m d) >> looked_up (lent_of image l) d xid id)
   unfolding map_address looked_up load_block load_at root_place unbounded bound_key
-  address_is = rw e
+  address_is = rw (of_root image l m x place ep e)
 
   pub address_refused : (k : Refusal) → x ≡ Err k → address_at (Err k) ≡ map_address (lent_of image l) xid id m
   unfolding address_at read_of
   address_refused k ex = sym (address_is ∙ rw ex)
 
   module _ (r : ReadNode) (ex : x ≡ Ok r) where
-    abbrev holds : Bool
-    holds = map_root_holds (lent_of image l) m (on_disk r.node (lent.block_at (lent_of image l) m))
+    module _ (t : Bool) (et : root_holds (lent_of image l) m false (on_disk r.node (lent.block_at (lent_of image l) m)) ≡ t) where
+      pub address_root : t ≡ false → address_at (Err is.Root) ≡ map_address (lent_of image l) xid id m
+      unfolding address_at read_of map_root_holds
+      address_root z = sym (address_is ∙ rw (ex, et, z))
 
-    pub address_root : holds ≡ false → address_at (Err is.Root) ≡ map_address (lent_of image l) xid id m
-    unfolding address_at read_of
-    address_root z = sym (address_is ∙ rw (ex, z))
+      module _ (z : t ≡ true) (info : BTreeInfo) (ei : info ≡ info_at (lent.block_at (lent_of image l) m)) where
+        pub address_keys : eqb info.key_size 16 ≡ false → address_at (Err is.Root) ≡ map_address (lent_of image l) xid id m
+        unfolding address_at read_of map_root_holds
+        address_keys k = sym (address_is ∙ rw (ex, et, z, ← ei, k))
 
-    module _ (passes : holds ≡ true) where
-      pub address_found : (d : MapNode) → d.read ≡ r → r.block.now ≡ window (m * l.size) l.size image → (a : std.Result ℕ Refusal)
-          → address_at a ≡ looked_up (lent_of image l) (map_read d) xid id → address_at a ≡ map_address (lent_of image l) xid id m
-      unfolding read_of map_read lent.block_at lent_of
-      address_found d ed eb a f = f ∙ rw (ed, eb) (sym (address_is ∙ rw (ex, passes)))
+        module _ (k : eqb info.key_size 16 ≡ true) where
+          pub address_vals : eqb info.val_size 16 ≡ false → address_at (Err is.Root) ≡ map_address (lent_of image l) xid id m
+          unfolding address_at read_of map_root_holds
+          address_vals v = sym (address_is ∙ rw (ex, et, z, ← ei, k, v))
 
-      module _ (q : l.size ≤ 65536) where
-        accepts : Accepted pair (record { root = true; oid = m; parent = 0; ksize = 0; vsize = 0; bounded = false }) [] []
-            (window (m * l.size) l.size image) r.node
-        accepts = load_accepts image l pair m _ [] [] (map_ok (λ r. r.node) x) r.node e (ap (map_ok (λ r. r.node)) ex) q
-
-        abbrev info : BTreeInfo
-        info = info_at (window (m * l.size) l.size image)
-
-        fixed : (eqb info.key_size 16 ≡ true) × (eqb info.val_size 16 ≡ true)
-        unfolding map_root_holds lent.block_at lent_of
-        fixed =
-            let top : Bool = root_holds (lent_of image l) m false (on_disk r.node (lent.block_at (lent_of image l) m)) in
-            let (b, w) = and_split (top && eqb info.key_size 16) (eqb info.val_size 16) passes in
-            let (a, k) = and_split top (eqb info.key_size 16) b in
-            (k, w)
-
-        pub address_ksize : r.node.ksize ≡ 16
-        unfolding parsed
-        address_ksize = ap (λ (n : Node). n.ksize) accepts.is ∙ eqb-true info.key_size 16 fixed.0
-
-        pub address_vsize : r.node.vsize ≡ 16
-        unfolding parsed
-        address_vsize = ap (λ (n : Node). n.vsize) accepts.is ∙ eqb-true info.val_size 16 fixed.1
+          pub address_found : eqb info.val_size 16 ≡ true → (d : MapNode) → d.read ≡ r → r.block.now ≡ window (m * l.size) l.size image
+              → (a : std.Result ℕ Refusal) → address_at a ≡ looked_up (lent_of image l) (map_read d) xid id
+              → address_at a ≡ map_address (lent_of image l) xid id m
+          unfolding read_of map_read lent.block_at lent_of map_root_holds
+          address_found v d ed eb a f = f ∙ rw (ed, eb) (sym (address_is ∙ rw (ex, et, z, ← ei, k, v)))
 
 module _ (image : List ℕ) (l : Lent) (xid r : ℕ) where
   pub address_itself : l.map ≡ None → address_at (Ok r) ≡ address_of (lent_of image l) xid r
@@ -202,14 +210,12 @@ module _ (image : List ℕ) (l : Lent) (xid r : ℕ) where
       → address_at x ≡ address_of (lent_of image l) xid r
   address_mapped m h x e = e ∙ sym (through_map (lent_of image l) m (map_is m h))
 
-pub ruleset roots = (block_info, root_class, root_size)
-
-pub ruleset map_root = (block_info, info_is)
+pub ruleset roots = (block_info, root_class, root_size, info_is)
 
 pub ruleset mapped = (mapping_none, mapping_other, mapping_bare, mapping_encrypted, mapping_address, id_room, flags_room, address_room, handed_on)
 
 pub ruleset lookup = (looked_refused, looked_found, handed_on)
 
-pub ruleset address = (address_refused, address_root, address_found, address_ksize, address_vsize, handed_on)
+pub ruleset address = (address_refused, address_root, address_keys, address_vals, address_found, handed_on)
 
 pub ruleset through = (address_itself, address_mapped)

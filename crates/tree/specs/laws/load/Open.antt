@@ -20,18 +20,19 @@ use Rattle.node.specs.laws.base.Bytes.{Bytes}
 use Rattle.node.specs.Slot.{MemNode}
 use Rattle.node.specs.declared.order.Order.{Order}
 use Rattle.node.specs.declared.info.BTreeInfo.{BTreeInfo}
+use Rattle.node.specs.Place.{place_of, lent_root, lower_of, lent_key}
+use Rattle.node.specs.declared.read.Place.{Place}
 use Rattle.node.specs.declared.read.Node.{Node}
-use Rattle.node.specs.Place.{Place}
 use Rattle.tree.specs.Lent as lent
 use Rattle.tree.specs.Lent.{is_size, blocks, sizes_hold, lent_of}
 use Rattle.tree.specs.State.{State}
 use Rattle.tree.specs.Workspace.{nodes_from, nodes_of, state_of, slots_hold, workspace_holds}
 use Rattle.tree.specs.Load.{unbounded, bound_key, load_block, root_place, root_holds, address_of, adopted}
 use Rattle.tree.specs.Lookup.{opened_at, opened}
-use Rattle.tree.specs.internal.Bank.{node_in, Ready, Wrote}
+use Rattle.tree.specs.internal.Bank.{node_in, Ready, Wrote, ReadyTree}
 use Rattle.tree.specs.internal.Map.{load_at, address_at}
 use Rattle.tree.specs.Answers.{opened_of, opened_in, opened_leaves}
-use Rattle.tree.specs.internal.Open.{opened_root, ReadyOpened, OpenedTrusts}
+use Rattle.tree.specs.internal.Open.{opened_root, OpenedTrusts}
 use Rattle.tree.specs.internal.Holding.{room_holds}
 use Rattle.tree.specs.laws.slots.Bank.{slots_below, add_ready}
 use Rattle.tree.specs.laws.slots.Undo.{put_of}
@@ -76,16 +77,17 @@ open_bytes slots size room h e = omega (arith, slots_below (4 * size) 0 (slots +
 -- ---- from the root's address on
 
 module _ (image : List ℕ) (l : Lent) (r : ℕ) (order : Order) (xid a : ℕ) (x : std.Result Node Refusal)
-    (e : read_of (lent.block_at (lent_of image l) a) x ≡ load_at (lent_of image l) order.code
-    (record { root = true; oid = r; parent = 0; ksize = 0; vsize = 0; bounded = false }) [] [] a) where
-  abbrev place : Place
-  place = record { root = true; oid = r; parent = 0; ksize = 0; vsize = 0; bounded = false }
+    (place : Place) (ep : place ≡ lent_root r)
+    (e : read_of (lent.block_at (lent_of image l) a) x
+    ≡ load_at (lent_of image l) order.code (place_of place) (lent_key (lower_of place)) (lent_key place.upper) a) where
+  of_root : read_of (lent.block_at (lent_of image l) a) x ≡ load_at (lent_of image l) order.code (place_of (lent_root r)) [] [] a
+  of_root = rw ep at e
 
   root_is : opened_root (lent_of image l) r order.code xid a
       ≡ (read_of (lent.block_at (lent_of image l) a) x >>= λ d. check 10 (root_holds (lent_of image l) a (leb 1 (length (lent_of image l).map)) d)
       >> ok (opened_at (lent_of image l) order.code xid a d))
   unfolding opened_root load_block load_at root_place unbounded bound_key
-  root_is = rw e
+  root_is = rw of_root
 
   pub open_refused : (k : Refusal) (heads bytes : List ℕ) → x ≡ Err k → opened_of l.size heads bytes (Err k) ≡ opened_root
       (lent_of image l) r order.code xid a
@@ -94,20 +96,17 @@ module _ (image : List ℕ) (l : Lent) (r : ℕ) (order : Order) (xid a : ℕ) (
 
   module _ (v : Node) (ex : x ≡ Ok v) where
     pub open_inside : a < length image / l.size
-    open_inside = load_inside image l order.code a place [] [] x v e ex
+    open_inside = load_inside image l order.code a (place_of (lent_root r)) [] [] x v of_root ex
 
-    module _ (by_id t : Bool) (eb : by_id ≡ is_some l.map)
-        (et : t ≡ root_holds (lent_of image l) a by_id (on_disk v (lent.block_at (lent_of image l) a))) where
-      pub open_root : (heads bytes : List ℕ) → t ≡ false → opened_of l.size heads bytes (Err is.Root) ≡ opened_root
-          (lent_of image l) r order.code xid a
-      unfolding opened_of read_of
-      open_root heads bytes h =
-          let z : root_holds (lent_of image l) a by_id (on_disk v (lent.block_at (lent_of image l) a)) ≡ false = sym et ∙ h in
-          sym (root_is ∙ rw (ex, mapped_is image l by_id eb, z))
+    pub open_root : (by_id : Bool) → by_id ≡ is_some l.map
+        → root_holds (lent_of image l) a by_id (on_disk v (lent.block_at (lent_of image l) a)) ≡ false
+        → (heads bytes : List ℕ) → opened_of l.size heads bytes (Err is.Root) ≡ opened_root (lent_of image l) r order.code xid a
+    unfolding opened_of read_of
+    open_root by_id eb h heads bytes = sym (root_is ∙ rw (ex, mapped_is image l by_id eb, h))
 
     module _ (m : l.size ≤ 65536) (block : List ℕ) (eb : block ≡ window (a * l.size) l.size image) where
-      accepts : Accepted order.code place [] [] (window (a * l.size) l.size image) v
-      accepts = load_accepts image l order.code a place [] [] x v e ex m
+      accepts : Accepted order.code (place_of (lent_root r)) [] [] (window (a * l.size) l.size image) v
+      accepts = load_accepts image l order.code a (place_of (lent_root r)) [] [] x v of_root ex m
 
       pub open_long : length block ≡ l.size
       open_long = block_long image l.size a open_inside block eb
@@ -116,9 +115,9 @@ module _ (image : List ℕ) (l : Lent) (r : ℕ) (order : Order) (xid a : ℕ) (
       unfolding data_space
       open_space = rw eb (omega (arith, accepts.space, open_long, ap length eb))
 
-      module _ (by_id t : Bool) (ed : by_id ≡ is_some l.map)
-          (et : t ≡ root_holds (lent_of image l) a by_id (on_disk v (lent.block_at (lent_of image l) a))) (h : t ≡ true)
-          (info : BTreeInfo) (ei : info ≡ info_at block) (heads bytes heads' bytes' : List ℕ)
+      module _ (by_id : Bool) (ed : by_id ≡ is_some l.map)
+          (h : root_holds (lent_of image l) a by_id (on_disk v (lent.block_at (lent_of image l) a)) ≡ true)
+          (info : BTreeInfo) (ei : info ≡ info_at (lent.block_at (lent_of image l) a)) (heads bytes heads' bytes' : List ℕ)
           (p : Wrote l.size heads bytes heads' bytes' 0 (adopted by_id a (on_disk v block))) where
         abbrev tree : Tree
         tree = record { root = 0; used = 1; info = info; by_id = by_id; subtype = v.subtype; order = order; xid = xid }
@@ -129,18 +128,15 @@ module _ (image : List ℕ) (l : Lent) (r : ℕ) (order : Order) (xid a : ℕ) (
 
         state_is : state_of l.size tree heads' bytes' ≡ opened_at (lent_of image l) order.code xid a (on_disk v block)
         unfolding state_of opened_at on_disk
-        state_is =
-            let z : info ≡ info_at (lent.block_at (lent_of image l) a) = ei ∙ ap info_at (eb ∙ block_at_lem image l a) in
-            rw (one_node, mapped_is image l by_id ed, z)
+        state_is = rw (one_node, mapped_is image l by_id ed, ei)
 
         pub open_done : opened_of l.size heads' bytes'
             (Ok (record { root = 0; used = 1; info = info; by_id = by_id; subtype = v.subtype; order = order; xid = xid }))
             ≡ opened_root (lent_of image l) r order.code xid a
         unfolding opened_of read_of
         open_done =
-            let z : root_holds (lent_of image l) a by_id (on_disk v (lent.block_at (lent_of image l) a)) ≡ true = sym et ∙ h in
             let w : on_disk v block ≡ on_disk v (lent.block_at (lent_of image l) a) = ap (on_disk v) (eb ∙ block_at_lem image l a) in
-            sym (root_is ∙ rw (ex, mapped_is image l by_id ed, z, ← w, state_is))
+            sym (root_is ∙ rw (ex, mapped_is image l by_id ed, h, ← w, state_is))
 
         pub open_ready : 512 ≤ l.size → 1 ≤ l.slots → l.slots ≤ 4096 → length heads ≡ l.slots * 19 → length bytes ≡ (l.slots + l.slots) *
             (4 * l.size) → length heads' ≡ length heads → length bytes' ≡ length bytes
@@ -258,7 +254,7 @@ module _ (image : List ℕ) (l : Lent) (r order xid : ℕ) (heads bytes : List �
 
 -- a tree that is open is one to be trusted, and leaves a workspace that the next call accepts
 pub opened_trusts : (image : List ℕ) (l : Lent) (r order xid : ℕ) (heads bytes : List ℕ) (x : std.Result Tree Refusal) → Bytes image
-    → ReadyOpened l.size l.slots heads bytes x → opened_of l.size heads bytes x ≡ opened (lent_of image l) r order xid
+    → ReadyTree l.size l.slots heads bytes x → opened_of l.size heads bytes x ≡ opened (lent_of image l) r order xid
     → OpenedTrusts image l heads bytes x
 unfolding opened_of lent_of
 opened_trusts image l r order xid heads bytes (Err k) b y e = tt
@@ -276,8 +272,21 @@ opened_holds image l heads bytes (Ok t) c = trusts_hold image l t heads bytes c
 
 -- ---- what the code takes of these
 
-pub ruleset opening =
-    (node_read, node_refused, handed_on, IfOk-at_ok, block_info, open_words, open_bytes, open_refused, open_inside, open_long, open_space, open_ready)
+pub ruleset opening = (
+  node_read,
+  node_refused,
+  handed_on,
+  IfOk-at_ok,
+  block_info,
+  open_words,
+  open_bytes,
+  open_refused,
+  open_inside,
+  open_root,
+  open_long,
+  open_space,
+  open_ready,
+)
 
 pub ruleset open_laws = (open_most, open_many, checked_sizes, checked_room, checked_open, room_words, room_bytes, opened_holds)
 

@@ -1,8 +1,9 @@
 -- Laws of the way: one for each turn and each way out. Assumes nothing.
-use Rattle.std.specs.Prelude.{◌≡◌, List, [], ◌∷◌, ◌++◌, get_or, set, take}
+use Rattle.std.specs.Prelude.{◌≡◌, List, [], ◌∷◌, ◌++◌, get_or}
 use Rattle.std.proofs.Math.Path.{refl, sym, ap}
-use Rattle.std.proofs.lemmas.List.{get_or-take, length-take-le}
-use Rattle.std.proofs.Common.{subst, ◌∙◌, append_assoc, add-one, get_or-set_same, get_or-set_other}
+use Rattle.std.proofs.Math.ListN.{get_or-append}
+use Rattle.std.proofs.Math.Seq.{get_or-append_seam}
+use Rattle.std.proofs.Common.{subst, ◌∙◌, append_assoc, length-append}
 use Prim.Native.Nat.{ℕ, zero, suc, ◌+◌, ◌-◌, ◌≤◌, ◌<◌}
 use native.Mathlib.Omega.{arith}
 use Rattle.std.proofs.Math.ListN.{length}
@@ -19,12 +20,13 @@ use Rattle.tree.specs.laws.state.State.{keys_of, at_used}
 use Rattle.tree.specs.Load as load
 use Rattle.tree.specs.laws.state.Load.{by_load, load_keeps}
 use Rattle.tree.specs.Lookup as lookup
-use Rattle.tree.specs.internal.Bank.{Ready}
-use Rattle.tree.specs.internal.Tree.{loaded_of, ReadyAfter, bound_of, bounds_of, BoundIn, BoundsIn}
+use Rattle.tree.specs.internal.Bank.{Ready, ReadyAfter}
+use Rattle.tree.specs.internal.Tree.{loaded_of, bound_of, bounds_of, BoundIn, BoundsIn}
 use Rattle.tree.specs.laws.slots.Tree.{used_nodes}
-use Rattle.tree.specs.internal.Way.{nth_step, steps_of, steps_in, onto, walked_of, way_of}
+use Rattle.tree.specs.internal.Way.{steps_of, steps_in, onto, walked_of, way_of}
 use Rattle.tree.specs.declared.editor.Tree.{Tree}
-use Rattle.tree.specs.declared.way.Step as code
+use Rattle.tree.specs.declared.editor.Position as code
+use Rattle.arrayvec.specs.ArrayVec.{ArrayVec}
 use Rattle.tree.specs.declared.editor.Position.{Position}
 use Rattle.tree.specs.declared.editor.Bounds.{Bounds}
 use Rattle.std.specs.Prelude as std
@@ -74,36 +76,21 @@ loaded_used l s bs n i a e =
 
 -- ---- steps
 
-steps_set : (way : List code.Step) (k j : ℕ) (x : code.Step) → k ≤ j → steps_of (set way j x) k ≡ steps_of way k
+-- the first steps of a way that goes on
+steps_front : (way more : List code.Position) (k : ℕ) → k ≤ length way → steps_of (way ++ more) k ≡ steps_of way k
 unfolding steps_of
-steps_set way zero j x h = refl
-steps_set way (suc k) j x h =
-    let d : k ≡ j → ⊥ = λ e. omega arith in
-    rw (steps_set way k j x (omega arith), get_or-set_other way j k x (record { slot = 0; child = 0 }) d)
+steps_front way more zero h = refl
+steps_front way more (suc k) h =
+    rw (steps_front way more k (omega arith), get_or-append way more (record { slot = 0; index = 0 }) k (omega arith))
 
-pub steps_next : (way : List code.Step) (k n i : ℕ) → k < length way → steps_of (set way k (record { slot = n; child = i })) (k + 1)
-    ≡ steps_of way k ++ record { slot = n; child = i } ∷ []
+pub steps_next : (way way' : List code.Position) (n i : ℕ) → way' ≡ way ++ record { slot = n; index = i } ∷ []
+    → steps_in way' ≡ steps_in way ++ record { slot = n; child = i } ∷ []
 unfolding steps_of
-steps_next way k n i h =
-    let d : k ≤ k = omega arith in
-    let x : code.Step = record { slot = n; child = i } in
-    rw (add-one, steps_set way k k x d, get_or-set_same way k x (record { slot = 0; child = 0 }) h)
-
--- the steps that are taken, as a slice
-steps_take : (way : List code.Step) (k j : ℕ) → j ≤ k → k ≤ length way → steps_of (take k way) j ≡ steps_of way j
-unfolding steps_of
-steps_take way k zero h g = refl
-steps_take way k (suc j) h g =
-    rw (steps_take way k j (omega arith) g, get_or-take k way j (record { slot = 0; child = 0 }) (omega arith))
-
-pub steps_taken : (way : List code.Step) (k : ℕ) → k ≤ length way → steps_in (take k way) ≡ steps_of way k
-steps_taken way k h = ap (steps_of (take k way)) (length-take-le k way h) ∙ steps_take way k k (omega arith) h
-
-pub last_taken : (way : List code.Step) (k : ℕ) → 1 ≤ k → k ≤ length way
-    → nth_step (take k way) (length (take k way) - 1) ≡ nth_step way (k - 1)
-last_taken way k u h =
-    ap (λ (m : ℕ). nth_step (take k way) (m - 1)) (length-take-le k way h)
-    ∙ get_or-take k way (k - 1) (record { slot = 0; child = 0 }) (omega arith)
+steps_next way way' n i e =
+    let x : code.Position = record { slot = n; index = i } in
+    let z : length (way ++ x ∷ []) ≡ suc (length way) = omega (arith, length-append way (x ∷ [])) in
+    rw e (ap (steps_of (way ++ x ∷ [])) z
+    ∙ rw (steps_front way (x ∷ []) (length way) (omega arith), get_or-append_seam way x [] (record { slot = 0; index = 0 })))
 
 -- steps put before a step and a way
 pub onto_above : (xs : List lookup.Step) (n i : ℕ) (r : Result lookup.Way)
@@ -162,25 +149,28 @@ unfolding onto
 onto_none (refused k) = refl
 onto_none (ok w) = refl
 
-pub way_start : (l : Lent) (s : State) (level n : ℕ) (key : List ℕ) (way : List code.Step)
-    → onto (steps_of way 0) (lookup.way_from level l s (bounds_of s (record { lower = None; upper = None })) n key)
+pub way_start : (l : Lent) (s : State) (level n : ℕ) (key : List ℕ) (way : List code.Position) → way ≡ []
+    → onto (steps_in way) (lookup.way_from level l s (bounds_of s (record { lower = None; upper = None })) n key)
     ≡ lookup.way_from level l s load.unbounded n key
 unfolding steps_of bounds_of bound_of load.unbounded
-way_start l s level n key way = onto_none (lookup.way_from level l s load.unbounded n key)
+way_start l s level n key way e = rw e (onto_none (lookup.way_from level l s load.unbounded n key))
 
 pub none_in_lem : (used : ℕ) → BoundsIn used (record { lower = None; upper = None })
 none_in_lem used = record { lower = tt; upper = tt }
 
-module _ (l : Lent) (size : ℕ) (t : Tree) (heads bytes : List ℕ) (b inner : Bounds Position) (n i d k : ℕ) (key : List ℕ) (way : List code.Step)
+module _ (l : Lent) (size : ℕ) (t : Tree) (heads bytes : List ℕ) (b inner : Bounds Position) (n i level k : ℕ)
+    (key : List ℕ) (way : List code.Position)
     (whole : Result lookup.Way)
-    (hd : 0 < d) (ei : i ≡ way_index t.order.code key (node_at (state_of size t heads bytes) n).entries)
-    (inv : onto (steps_of way k) (lookup.way_from d l (state_of size t heads bytes) (bounds_of (state_of size t heads bytes) b) n key) ≡ whole)
+    (hk : k < level) (ei : i ≡ way_index t.order.code key (node_at (state_of size t heads bytes) n).entries)
+    (inv : onto (steps_in way) (lookup.way_from (level - k) l (state_of size t heads bytes) (bounds_of (state_of size t heads bytes) b) n key)
+    ≡ whole)
     (heads' bytes' : List ℕ) (x : std.Result (Tree × ℕ) Refusal)
     (e : loaded_of size heads' bytes' x ≡ load.load_child l (state_of size t heads bytes) (bounds_of (state_of size t heads bytes) b) n i) where
   pub turn_refused : (y : Refusal) → x ≡ Err y → way_of size heads' bytes' (Err y) ≡ whole
   unfolding way_of loaded_of state_of
   turn_refused y q =
-      way_refused l (state_of size t heads bytes) (bounds_of (state_of size t heads bytes) b) n i d key (steps_of way k) whole hd ei inv
+      way_refused l (state_of size t heads bytes) (bounds_of (state_of size t heads bytes) b) n i (level - k) key (steps_in way) whole
+      (omega arith) ei inv
       (number_of y) (ap (loaded_of size heads' bytes') (sym q) ∙ e)
 
   pub turn_more : (t' : Tree) (c : ℕ) → x ≡ Ok (t', c) → t.used ≤ t'.used
@@ -219,26 +209,30 @@ module _ (l : Lent) (size : ℕ) (t : Tree) (heads bytes : List ℕ) (b inner : 
     unfolding state_of
     turn_in =
         let z : BoundsIn (length (state_of size t' heads' bytes').nodes) inner =
-        down_in l (state_of size t heads bytes) (bounds_of (state_of size t heads bytes) b) n i d key (steps_of way k) whole hd ei inv
+        down_in l (state_of size t heads bytes) (bounds_of (state_of size t heads bytes) b) n i (level - k) key (steps_in way) whole
+        (omega arith) ei inv
         (record { state = state_of size t' heads' bytes'; slot = c }) at_is b inner hb' f' in
         rw (used_nodes size t' heads' bytes') at z
 
-    pub turn_down : k < length way → onto (steps_of (set way k (record { slot = n; child = i })) (k + 1))
-        (lookup.way_from (d - 1) l (state_of size t' heads' bytes') (bounds_of (state_of size t' heads' bytes') inner) c key) ≡ whole
+    pub turn_down : (way' : List code.Position) → way' ≡ way ++ record { slot = n; index = i } ∷ [] → onto (steps_in way')
+        (lookup.way_from (level - (k + 1)) l (state_of size t' heads' bytes') (bounds_of (state_of size t' heads' bytes') inner) c key) ≡ whole
     unfolding state_of
-    turn_down h =
-        rw (steps_next way k n i h)
-        (way_down l (state_of size t heads bytes) (bounds_of (state_of size t heads bytes) b) n i d key (steps_of way k) whole hd ei inv
+    turn_down way' h =
+        let e : level - (k + 1) ≡ level - k - 1 = omega arith in
+        rw (steps_next way way' n i h, e)
+        (way_down l (state_of size t heads bytes) (bounds_of (state_of size t heads bytes) b) n i (level - k) key (steps_in way) whole
+        (omega arith) ei inv
         (record { state = state_of size t' heads' bytes'; slot = c }) at_is b inner refl hb' ec f')
 
-pub way_end : (l : Lent) (size : ℕ) (t : Tree) (heads bytes : List ℕ) (bs : load.Bounds) (n d k : ℕ) (key : List ℕ) (way : List code.Step)
+pub way_end : (l : Lent) (size : ℕ) (t : Tree) (heads bytes : List ℕ) (bs : load.Bounds) (n level k : ℕ) (key : List ℕ) (way : List code.Position)
     (whole : Result lookup.Way)
-    → d ≤ 0 → k < length way → onto (steps_of way k) (lookup.way_from d l (state_of size t heads bytes) bs n key) ≡ whole
-    → way_of size heads bytes (Ok (record { tree = t; count = k + 1; steps = set way k (record { slot = n; child = 0 }) })) ≡ whole
+    → level ≤ k → onto (steps_in way) (lookup.way_from (level - k) l (state_of size t heads bytes) bs n key) ≡ whole
+    → (taken : ArrayVec code.Position) → taken.items ≡ way ++ record { slot = n; index = 0 } ∷ []
+    → way_of size heads bytes (Ok (record { tree = t; steps = taken })) ≡ whole
 unfolding way_of walked_of onto lookup.way_from
-way_end l size t heads bytes bs n d k key way whole hd h inv =
-    let z : d ≡ 0 = omega arith in
-    rw (steps_next way k n 0 h) (ap (λ (m : ℕ). onto (steps_of way k) (lookup.way_from m l (state_of size t heads bytes) bs n key))
+way_end l size t heads bytes bs n level k key way whole hk inv taken h =
+    let z : level - k ≡ 0 = omega arith in
+    rw (steps_next way taken.items n 0 h) (ap (λ (m : ℕ). onto (steps_in way) (lookup.way_from m l (state_of size t heads bytes) bs n key))
     (sym z)
     ∙ inv)
 
@@ -247,4 +241,4 @@ pub ready_at : (size slots : ℕ) (heads bytes : List ℕ) (x : std.Result (Tree
     → Ready size slots t.used heads bytes
 ready_at size slots heads bytes x t c q r = subst (ReadyAfter size slots heads bytes) q r
 
-pub ruleset way_down_laws = (way_start, none_in_lem, turn_refused, turn_in, turn_down, way_end)
+pub ruleset way_down_laws = (way_start, none_in_lem, turn_refused, turn_in, turn_down, ready_at, way_end)

@@ -19,12 +19,12 @@ use Rattle.tree.specs.Lookup as lookup
 use Rattle.tree.specs.Trust.{trusted}
 use Rattle.tree.specs.Workspace.{state_of, workspace_holds, called}
 use Rattle.tree.specs.Answers.{record_in, floor_means, floored_in, floored_output, floored_leaves}
-use Rattle.tree.specs.internal.Bank.{Ready}
+use Rattle.tree.specs.internal.Bank.{Ready, ReadyAfter}
 use Rattle.tree.specs.internal.Undo.{Undone}
 use Rattle.tree.specs.internal.Room.{Roomy}
 use Rattle.tree.specs.internal.Edits.{Trusts}
 use Rattle.tree.specs.internal.Tree.{bound_of, bounds_of}
-use Rattle.tree.specs.internal.Floor.{none_in, entry_in, got_last, last_means, floored_of, floor_way, FloorReady, FloorCalled}
+use Rattle.tree.specs.internal.Floor.{none_in, entry_in, got_last, last_means, floored_of, floor_way, FloorCalled}
 use Rattle.tree.specs.laws.lookup.GetLeaf.{splice_none}
 use Rattle.tree.specs.laws.trust.Loads.{trusted_floor}
 use Rattle.tree.specs.laws.room.Way.{roomy_floor}
@@ -133,7 +133,7 @@ roomy_in l s room k h r =
 module _ (image : List ℕ) (l : Lent) (t : Tree) (h b : List ℕ) (c : Trusts image l t h b) (h' b' : List ℕ) where
   module _ (key out : List ℕ) (room : ℕ) (g : std.Result (Tree × Option ℕ) Refusal)
       (e : floor_means l.size h' b' out g ≡ lookup.floor_in (lent_of image l) (state_of l.size t h b) room key)
-      (r : FloorReady l.size l.slots h' b' g) where
+      (r : ReadyAfter l.size l.slots h' b' g) where
     found_trusts : (u : Tree) (v : List Entry) → ok (record { state = state_of l.size u h' b'; answer = v }) ≡ floor_means l.size h' b' out g
         → Ready l.size l.slots u.used h' b' → Trusts image l u h' b'
     unfolding lent_of
@@ -143,7 +143,7 @@ module _ (image : List ℕ) (l : Lent) (t : Tree) (h b : List ℕ) (c : Trusts i
 
     pub floor_trusts : (u : Tree) (n : Option ℕ) → g ≡ Ok (u, n) → Trusts image l u h' b'
     unfolding floor_means
-    floor_trusts u n q = found_trusts u _ (ap (floor_means l.size h' b' out) (sym q)) (subst (FloorReady l.size l.slots h' b') q r)
+    floor_trusts u n q = found_trusts u _ (ap (floor_means l.size h' b' out) (sym q)) (subst (ReadyAfter l.size l.slots h' b') q r)
 
   pub left_of_lem : (g : std.Result (Tree × Option ℕ) Refusal) → FloorCalled image l t h b h' b' g → floored_leaves l.size l.slots t h b h' b' g
   left_of_lem (Err x) k = (k.0, back_hold image l t h b c h' b' k.0 k.1)
@@ -160,7 +160,7 @@ module _ (l : Lent) (t : Tree) (h0 b0 h2 b2 h3 b3 out : List ℕ) where
   pub floor_left : (image key : List ℕ) (room : ℕ) (g : std.Result (Tree × Option ℕ) Refusal) → Trusts image l t h0 b0
       → Undone l t h0 b0 h2 b2 h3 b3 g
       → floor_means l.size h3 b3 out g ≡ lookup.floor_in (lent_of image l) (state_of l.size t h0 b0) room key
-      → FloorReady l.size l.slots h2 b2 g → FloorCalled image l t h0 b0 h3 b3 g
+      → ReadyAfter l.size l.slots h2 b2 g → FloorCalled image l t h0 b0 h3 b3 g
   floor_left image key room (Err x) c u e r = u
   floor_left image key room (Ok (v, n)) c u e r = floor_trusts image l t h0 b0 c h3 b3 key out room (Ok (v, n)) e (rw (u.0, u.1) r) v n refl
 

@@ -22,19 +22,17 @@ use Rattle.tree.specs.Answers.{got_means, got_in, got_output, got_leaves}
 use Rattle.tree.specs.internal.Edits.{Trusts}
 use Rattle.tree.specs.laws.refusal1.Roomy.{roomy_get}
 use Rattle.tree.specs.declared.lent.Lent.{Lent}
-use Rattle.tree.specs.internal.Bank.{Ready}
+use Rattle.tree.specs.internal.Bank.{Ready, ReadyBy, ReadyAfter}
 use Rattle.tree.specs.internal.Undo.{Undone}
-use Rattle.tree.specs.internal.Way.{nth_step, steps_of, walked_of, way_of, WayReady}
-use Rattle.tree.specs.internal.Get.{got_held, held_at, got_at, got_way, ReadyGot, GotCalled}
+use Rattle.tree.specs.internal.Way.{nth_step, steps_of, steps_in, walked_of, way_of}
+use Rattle.tree.specs.internal.Get.{got_held, held_at, got_at, got_way, GotCalled}
 use Rattle.tree.specs.laws.trust.Stands.{Stands, all, trusted_of}
 use Rattle.tree.specs.laws.trust.Loads.{WayLoaded, way_loaded, trusted_get}
 use Rattle.tree.specs.laws.refusal1.Calls.{trusts_hold, back_hold, looked_trusts}
-use Rattle.tree.specs.laws.trust.Upsert.{down_level}
-use Rattle.tree.specs.laws.trust.Named.{live_used}
 use Rattle.tree.specs.laws.trust.Edit.{down_leaf}
 use Rattle.tree.specs.declared.editor.Tree.{Tree}
 use Rattle.tree.specs.declared.way.Way.{Way}
-use Rattle.tree.specs.declared.way.Step as code
+use Rattle.tree.specs.declared.editor.Position as code
 use Rattle.std.specs.Prelude as std
 use Rattle.std.specs.Prelude.{Ok, Err, Option}
 use Rattle.node.specs.declared.refusal.Refusal.{Refusal}
@@ -50,11 +48,11 @@ rows_suit o t (e ∷ es) h =
     let (c, d) = and_split (key_length_holds o t (length e.key) && value_holds t e.value) (suit true e) a in
     and_both (suit true e) (every (suit true) es) d (rows_suit o t es b)
 
-pub steps_long : (way : List code.Step) (k : ℕ) → length (steps_of way k) ≡ k
+pub steps_long : (way : List code.Position) (k : ℕ) → length (steps_of way k) ≡ k
 unfolding steps_of
 steps_long way zero = refl
 steps_long way (suc k) =
-    length-append (steps_of way k) (record { slot = (nth_step way k).slot; child = (nth_step way k).child } ∷ [])
+    length-append (steps_of way k) (record { slot = (nth_step way k).slot; child = (nth_step way k).index } ∷ [])
     ∙ (let z = steps_long way k in omega arith)
 
 pub leaf_last : (xs : List lookup.Step) (x : lookup.Step) → lookup.leaf_of (xs ++ x ∷ []) ≡ x.slot
@@ -104,7 +102,7 @@ module _ (l : lent.Lent) (size : ℕ) (t : Tree) (h0 b0 : List ℕ) (tr : truste
       s' = state_of size w.tree h b
 
       abbrev ps : List lookup.Step
-      ps = steps_of w.steps w.count
+      ps = steps_in w.steps.items
 
       pub arrives : way_of size h b r ≡ ok (record { state = s'; steps = ps })
       unfolding way_of walked_of
@@ -114,50 +112,48 @@ module _ (l : lent.Lent) (size : ℕ) (t : Tree) (h0 b0 : List ℕ) (tr : truste
       loads = (way_loaded level l all all s unbounded t.root key stands live_root (sym ev)).at (record { state = s'; steps = ps })
           (sym er ∙ arrives)
 
-      long : w.count ≡ 1 + length loads.rest
-      long = let z = ap length loads.steps in omega (arith, steps_long w.steps w.count)
+      long : length w.steps.items ≡ 1 + length loads.rest
+      long = let z = ap length loads.steps in omega (arith, steps_long w.steps.items (length w.steps.items))
 
-      pub get_some : 1 ≤ w.count
+      pub get_some : 1 ≤ length w.steps.items
       get_some = omega (arith, long)
 
-      pub get_few : w.count ≤ 33
-      get_few =
-          let d = rw loads.steps at loads.down in
-          let q : (node_at s' loads.top.slot).level ≡ length loads.rest = down_level all all s' loads.top loads.rest
-          loads.loaded.stands d in
-          let j : (node_at s' t.root).level ≡ level = loads.loaded.loads.level t.root (live_used s t.root live_root) ∙ sym ev in
-          let f : (node_at s' loads.top.slot).level ≡ (node_at s' t.root).level = ap (λ (n : ℕ). (node_at s' n).level) loads.first in
-          omega (arith, long, way_low)
-
-      leaf_is : lookup.leaf_of ps ≡ (nth_step w.steps (w.count - 1)).slot
+      leaf_lem : lookup.leaf_of ps ≡ (nth_step w.steps.items (length w.steps.items - 1)).slot
       unfolding steps_of
-      leaf_is =
-          let z : w.count ≡ suc (w.count - 1) = omega (arith, long) in
-          ap (λ (k : ℕ). lookup.leaf_of (steps_of w.steps k)) z
-          ∙ leaf_last (steps_of w.steps (w.count - 1))
-          (record { slot = (nth_step w.steps (w.count - 1)).slot; child = (nth_step w.steps (w.count - 1)).child })
+      leaf_lem =
+          let z : length w.steps.items ≡ suc (length w.steps.items - 1) = omega (arith, long) in
+          ap (λ (k : ℕ). lookup.leaf_of (steps_of w.steps.items k)) z
+          ∙ leaf_last (steps_of w.steps.items (length w.steps.items - 1))
+          (record {
+            slot = (nth_step w.steps.items (length w.steps.items - 1)).slot;
+            child = (nth_step w.steps.items (length w.steps.items - 1)).index;
+          })
 
-      pub get_suits : suits true (node_at (state_of size w.tree h b) (nth_step w.steps (w.count - 1)).slot).entries ≡ true
-      get_suits =
-          let (dead, low) = down_leaf s' ps loads.down in
-          let q = loads.loaded.stands.rows (lookup.leaf_of ps) dead in
-          let u : eqb (node_at s' (lookup.leaf_of ps)).level 0 ≡ true = eq-eqb (node_at s' (lookup.leaf_of ps)).level 0 low in
-          ap (λ (n : ℕ). suits true (node_at s' n).entries) (sym leaf_is) ∙ rows_suit s'.order s'.info (node_at s' (lookup.leaf_of ps)).entries
-          (rw u at q)
+      module _ (n : ℕ) (en : n ≡ (nth_step w.steps.items (length w.steps.items - 1)).slot) where
+        leaf_is : lookup.leaf_of ps ≡ n
+        leaf_is = leaf_lem ∙ sym en
 
-      found_is : got_way l s (length out) key ≡ got_at s' (length out) (nth_step w.steps (w.count - 1)).slot key
-      unfolding got_way got_at held_at
-      found_is = rw (way_is, arrives, leaf_is, loads.loaded.loads.order)
+        pub get_suits : suits true (node_at (state_of size w.tree h b) n).entries ≡ true
+        get_suits =
+            let (dead, low) = down_leaf s' ps loads.down in
+            let q = loads.loaded.stands.rows (lookup.leaf_of ps) dead in
+            let u : eqb (node_at s' (lookup.leaf_of ps)).level 0 ≡ true = eq-eqb (node_at s' (lookup.leaf_of ps)).level 0 low in
+            ap (λ (j : ℕ). suits true (node_at s' j).entries) (sym leaf_is) ∙ rows_suit s'.order s'.info (node_at s' (lookup.leaf_of ps)).entries
+            (rw u at q)
 
-      pub get_found : (y : Result (lookup.Got Val)) → y ≡ got_at (state_of size w.tree h b) (length out) (nth_step w.steps (w.count - 1)).slot key
-          → y ≡ got_way l (state_of size t h0 b0) (length out) key
-      get_found y q = q ∙ sym found_is
+        found_is : got_way l s (length out) key ≡ got_at s' (length out) n key
+        unfolding got_way got_at held_at
+        found_is = rw (way_is, arrives, leaf_is, loads.loaded.loads.order)
 
-      pub get_found_out : (o : List ℕ) → o ≡ got_output out (got_at (state_of size w.tree h b) (length out) (nth_step w.steps (w.count - 1)).slot key)
-          → o ≡ got_output out (got_way l (state_of size t h0 b0) (length out) key)
-      get_found_out o q = q ∙ ap (got_output out) (sym found_is)
+        pub get_found : (y : Result (lookup.Got Val)) → y ≡ got_at (state_of size w.tree h b) (length out) n key
+            → y ≡ got_way l (state_of size t h0 b0) (length out) key
+        get_found y q = q ∙ sym found_is
 
-      pub get_ready : (slots : ℕ) → WayReady size slots h b r → Ready size slots w.tree.used h b
+        pub get_found_out : (o : List ℕ) → o ≡ got_output out (got_at (state_of size w.tree h b) (length out) n key)
+            → o ≡ got_output out (got_way l (state_of size t h0 b0) (length out) key)
+        get_found_out o q = q ∙ ap (got_output out) (sym found_is)
+
+      pub get_ready : (slots : ℕ) → ReadyBy (λ w. w.tree) size slots h b r → Ready size slots w.tree.used h b
       get_ready slots q = rw e at q
 
 -- ---- get as a call: 12 first, marks cleared
@@ -193,7 +189,7 @@ module _ (l : lent.Lent) (size : ℕ) (t : Tree) (h0 b0 key : List ℕ) (k : Boo
 module _ (image : List ℕ) (l : Lent) (t : Tree) (h b : List ℕ) (c : Trusts image l t h b) (h' b' : List ℕ) where
   module _ (key out : List ℕ) (room : ℕ) (g : std.Result (Tree × Option Copied) Refusal)
       (e : got_means l.size h' b' out g ≡ lookup.get_in (lent_of image l) (state_of l.size t h b) room key)
-      (r : ReadyGot l.size l.slots h' b' g) where
+      (r : ReadyAfter l.size l.slots h' b' g) where
     found_trusts : (u : Tree) (v : List Val) → ok (record { state = state_of l.size u h' b'; answer = v }) ≡ got_means l.size h' b' out g
         → Ready l.size l.slots u.used h' b' → Trusts image l u h' b'
     unfolding lent_of
@@ -203,7 +199,7 @@ module _ (image : List ℕ) (l : Lent) (t : Tree) (h b : List ℕ) (c : Trusts i
 
     pub got_trusts : (u : Tree) (v : Option Copied) → g ≡ Ok (u, v) → Trusts image l u h' b'
     unfolding got_means
-    got_trusts u v q = found_trusts u _ (ap (got_means l.size h' b' out) (sym q)) (subst (ReadyGot l.size l.slots h' b') q r)
+    got_trusts u v q = found_trusts u _ (ap (got_means l.size h' b' out) (sym q)) (subst (ReadyAfter l.size l.slots h' b') q r)
 
   pub left_of_lem : (g : std.Result (Tree × Option Copied) Refusal) → GotCalled image l t h b h' b' g → got_leaves l.size l.slots t h b h' b' g
   left_of_lem (Err x) k = (k.0, back_hold image l t h b c h' b' k.0 k.1)
@@ -220,7 +216,7 @@ module _ (l : Lent) (t : Tree) (h0 b0 h2 b2 h3 b3 out : List ℕ) where
   pub got_left : (image key : List ℕ) (room : ℕ) (g : std.Result (Tree × Option Copied) Refusal) → Trusts image l t h0 b0
       → Undone l t h0 b0 h2 b2 h3 b3 g
       → got_means l.size h3 b3 out g ≡ lookup.get_in (lent_of image l) (state_of l.size t h0 b0) room key
-      → ReadyGot l.size l.slots h2 b2 g → GotCalled image l t h0 b0 h3 b3 g
+      → ReadyAfter l.size l.slots h2 b2 g → GotCalled image l t h0 b0 h3 b3 g
   got_left image key room (Err x) c u e r = u
   got_left image key room (Ok (v, y)) c u e r = got_trusts image l t h0 b0 c h3 b3 key out room (Ok (v, y)) e (rw (u.0, u.1) r) v y refl
 
@@ -282,4 +278,4 @@ pub ruleset get_laws = (left_of_lem, get_lent, get_lent_same, get_answer, get_ou
 
 pub ruleset get_down_laws = (in_argument, in_argument_same, way_in, in_output, got_undone, got_left)
 
-pub ruleset get_way_laws = (get_refused, way_low, get_refused_same, get_some, get_few, get_suits, get_found)
+pub ruleset get_way_laws = (get_refused, way_low, get_refused_same, get_some, get_suits, get_found)

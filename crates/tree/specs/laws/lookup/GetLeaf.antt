@@ -8,7 +8,7 @@ use Prim.Native.Nat.{ℕ, ◌+◌, ◌≤◌, ◌<◌}
 use native.Mathlib.Omega.{arith}
 use Rattle.std.proofs.Math.ListN.{length, take}
 use Rattle.std.proofs.Math.Seq.{take-append_seam}
-use borrow.Author.Tests.{le-leb, lt-leb, not-true, not-false}
+use borrow.Author.Tests.{le-leb, lt-leb, not-true}
 use Rattle.node.specs.Bytes.{splice}
 use Rattle.node.specs.laws.base.Tests.{by_test, never}
 use Rattle.node.specs.Entry.{Entry, Val, ghost, leaf}
@@ -20,7 +20,7 @@ use Rattle.node.specs.laws.slot.Slot.{at_lies}
 use Rattle.node.specs.Records.{record_length, records_length, entry_of, entries_of}
 use Rattle.node.specs.Slot.{is_child, suit, suits, child_means, value_means}
 use Rattle.node.specs.internal.SlotSteps.{found_in}
-use Rattle.node.specs.declared.slot.Found.{Found}
+use Rattle.node.specs.declared.slot.RecordAt.{RecordAt}
 use Rattle.tree.specs.Lookup as lookup
 use Rattle.node.specs.Result.{ok, refused}
 use Rattle.node.specs.Entry.{value_length, value_bytes}
@@ -32,30 +32,42 @@ use Rattle.tree.specs.declared.editor.Tree.{Tree}
 use Rattle.node.specs.declared.val.Val as Kept
 use Rattle.node.specs.declared.val.Val.TheVariants as kept
 use Rattle.node.specs.declared.val.Child.TheVariants as child
-use Rattle.std.specs.Prelude.{Ok, Err, Some, None, Option}
+use Rattle.std.specs.Prelude.{cond, Result, Ok, Err, Some, None, Option}
+use Rattle.std.specs.Result.{result_ok}
 use Rattle.node.specs.declared.refusal.Refusal.TheVariants as is
 use Rattle.tree.specs.declared.get.Copied.TheVariants as copied
 
 -- ---- what a key holds among a leaf's records
 
-module _ (o n : ℕ) (k l : List ℕ) (f : Found) (ef : f ≡ found_in o k n l) where
-  pub held_none : not f.found ≡ true → held_means None ≡ lookup.held o k (entries_of n l)
-  unfolding held_means lookup.held found_in
-  held_none h =
-      let z : is_there o k (entries_of n l) ≡ false = sym (ap (λ (x : Found). x.found) ef) ∙ not-true f.found h in
-      sym (rw z)
+module _ (o n : ℕ) (k l : List ℕ) (q : Result RecordAt RecordAt) (eq : q ≡ found_in o k n l) (v : Option RecordAt) (ev : v ≡ result_ok q) where
+  abbrev here : RecordAt
+  here = record { index = place_of o k (entries_of n l); at = records_length (place_of o k (entries_of n l)) l }
 
-  module _ (h : not f.found ≡ false) where
+  lies_at : v ≡ cond (is_there o k (entries_of n l)) (Some here) None
+  unfolding found_in
+  lies_at = ev ∙ ap result_ok eq ∙ by_test (is_there o k (entries_of n l)) (λ t. rw t) (λ t. rw t)
+
+  pub held_none : v ≡ None → held_means None ≡ lookup.held o k (entries_of n l)
+  unfolding held_means lookup.held
+  held_none h =
+      by_test (is_there o k (entries_of n l))
+      (λ t. let z : v ≡ Some here = lies_at ∙ rw t in absurd cc)
+      (λ t. sym (rw t))
+
+  module _ (f : RecordAt) (h : v ≡ Some f) where
     there : is_there o k (entries_of n l) ≡ true
-    unfolding found_in
-    there = sym (ap (λ (x : Found). x.found) ef) ∙ not-false f.found h
+    there =
+        by_test (is_there o k (entries_of n l)) (λ t. t)
+        (λ t. let z : v ≡ None = lies_at ∙ rw t in absurd cc)
 
     place_in : place_of o k (entries_of n l) < n
     place_in = let a = there_in o k (entries_of n l) there in omega (arith, length_entries n l)
 
     at_is : f.at ≡ records_length (place_of o k (entries_of n l)) l
-    unfolding found_in
-    at_is = ap (λ (x : Found). x.at) ef
+    at_is =
+        let z : v ≡ Some here = lies_at ∙ rw there in
+        let y : f ≡ here = cc in
+        ap (λ (x : RecordAt). x.at) y
 
     pub held_lies : records_length n l ≤ length l → f.at + record_length (drop f.at l) ≤ length l
     held_lies r = at_lies l n (place_of o k (entries_of n l)) f.at r place_in at_is

@@ -20,11 +20,11 @@ use Rattle.tree.specs.Lookup as lookup
 use Rattle.tree.specs.Trust.{trusted}
 use Rattle.tree.specs.Workspace.{slot_bytes, state_of}
 use Rattle.tree.specs.Answers.{got_means, got_output, floor_means, floored_output}
-use Rattle.tree.specs.internal.Bank.{live, Ready}
+use Rattle.tree.specs.internal.Bank.{live, Ready, ReadyBy, ReadyAfter}
 use Rattle.tree.specs.internal.Edits.{Trusts}
-use Rattle.tree.specs.internal.Way.{way_of, WayReady}
-use Rattle.tree.specs.internal.Get.{got_held, held_at, got_at, ReadyGot, GotCalled}
-use Rattle.tree.specs.internal.Floor.{entry_in, EntryReady, floored_of, FloorReady, FloorCalled, SpotIs}
+use Rattle.tree.specs.internal.Way.{way_of}
+use Rattle.tree.specs.internal.Get.{got_held, held_at, got_at, GotCalled}
+use Rattle.tree.specs.internal.Floor.{entry_in, EntryReady, floored_of, FloorCalled, SpotIs}
 use Rattle.tree.specs.internal.Loaded.{LeadsTo, Walked}
 use Rattle.tree.specs.laws.trust.Stands.{Stands, all, trusted_of}
 use Rattle.tree.specs.laws.trust.Loads.{WayLoaded, way_loaded}
@@ -33,6 +33,7 @@ use Rattle.tree.specs.laws.lookup.GetCall.{rows_suit, got_trusts}
 use Rattle.tree.specs.laws.lookup.FloorCall.{floor_trusts}
 use Rattle.tree.specs.laws.lookup.FloorLeaf.{above_one, count_above, floor_at_ready}
 use Rattle.tree.specs.laws.lookup.FloorLeaf.{entry_lies, record_refused, record_refused_same, record_copied, record_copied_out}
+use Rattle.tree.specs.laws.slots.Undo.{follows_same}
 use Rattle.tree.specs.laws.load.LoadedWay.{Arrives, leads_way, leads_floor}
 use Rattle.tree.specs.declared.editor.Tree.{Tree}
 use Rattle.tree.specs.declared.lent.Lent.{Lent}
@@ -88,7 +89,7 @@ module _ (image : List ℕ) (l : Lent) (t : Tree) (h b : List ℕ) (c : Trusts i
   -- slots that nothing was written to
   pub got_left : (out : List ℕ) (room : ℕ) (g : std.Result (Tree × Option Copied) Refusal)
       → got_means l.size h b out g ≡ lookup.get_in (lent_of image l) (state_of l.size t h b) room key
-      → ReadyGot l.size l.slots h b g → GotCalled image l t h b h b g
+      → ReadyAfter l.size l.slots h b g → GotCalled image l t h b h b g
   got_left out room (Err x) e r = (refl, c.ready)
   got_left out room (Ok (u, v)) e r = got_trusts image l t h b c h b key out room (Ok (u, v)) e r u v refl
 
@@ -96,7 +97,7 @@ module _ (image : List ℕ) (l : Lent) (t : Tree) (h b : List ℕ) (c : Trusts i
 
   pub floor_left : (out : List ℕ) (room : ℕ) (g : std.Result (Tree × Option ℕ) Refusal)
       → floor_means l.size h b out g ≡ lookup.floor_in (lent_of image l) (state_of l.size t h b) room key
-      → FloorReady l.size l.slots h b g → FloorCalled image l t h b h b g
+      → ReadyAfter l.size l.slots h b g → FloorCalled image l t h b h b g
   floor_left out room (Err x) e r = (refl, c.ready)
   floor_left out room (Ok (u, n)) e r = floor_trusts image l t h b c h b key out room (Ok (u, n)) e r u n refl
 
@@ -172,7 +173,9 @@ module _ (size : ℕ) (t : Tree) (heads bytes : List ℕ) (level : ℕ) (key : L
   pub walked_way : (l : lent.Lent) → way_of size heads bytes (Ok w) ≡ lookup.way_from level l (state_of size t heads bytes) unbounded t.root key
   walked_way l = q.arrives w e l
 
-  pub walked_ready : (slots : ℕ) → Ready size slots t.used heads bytes → WayReady size slots heads bytes (Ok w)
+  pub walked_ready : (slots : ℕ) → Ready size slots t.used heads bytes → ReadyBy (λ w. w.tree) size slots heads bytes (Ok w)
   walked_ready slots x = rw (q.same w e) x
 
 pub ruleset copy_at_laws = (spot_room, spot_refused, spot_refused_same, spot_copied, spot_copied_out)
+
+pub ruleset way_laws = (walked_way, walked_ready, follows_same)

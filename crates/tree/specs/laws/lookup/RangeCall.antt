@@ -231,6 +231,6 @@ module _ (image : List ℕ) (l : Lent) (t : Tree) (h0 b0 lo hi : List ℕ) (a : 
           → o ≡ ranged_output out (range_in (lent_of image l) (state_of l.size t h0 b0) room lo hi)
       in_output o out q = q ∙ ap (ranged_output out) way_in
 
-pub ruleset range_in_laws = (in_low, in_low_same, in_high, in_high_same)
+pub ruleset range_in_laws = (in_low, in_low_same, in_high, in_high_same, way_in, in_output)
 
 pub ruleset range_way_laws = (way_refused, way_refused_same, way_short, way_short_same, way_room, way_done, way_long)

@@ -19,10 +19,11 @@ use Rattle.tree.specs.Hold.{lent_holds}
 use Rattle.tree.specs.Trust.{trusted}
 use Rattle.tree.specs.Workspace.{state_of, workspace_holds, called}
 use Rattle.tree.specs.Answers.{range_means, ranged_in, ranged_output, ranged_leaves}
+use Rattle.tree.specs.internal.Bank.{ReadyBy}
 use Rattle.tree.specs.internal.Undo.{Undone}
 use Rattle.tree.specs.internal.Room.{Roomy}
 use Rattle.tree.specs.internal.Edits.{Trusts}
-use Rattle.tree.specs.internal.Range.{ReadyRanged, RangeCalled}
+use Rattle.tree.specs.internal.Range.{RangeCalled}
 use Rattle.tree.specs.laws.room.Calls.{roomy_range}
 use Rattle.tree.specs.laws.trust.Loads.{trusted_range}
 use Rattle.tree.specs.laws.refusal1.Calls.{trusts_hold, back_hold, looked_trusts}
@@ -46,13 +47,13 @@ roomy_ranged l s room lo hi h r =
 
 module _ (image : List ℕ) (l : Lent) (t : Tree) (h b : List ℕ) (c : Trusts image l t h b) (h' b' : List ℕ) where
   ranged_trusts : (lo hi out : List ℕ) (room : ℕ) (x : std.Result Ranged Refusal)
-      → range_means l.size h' b' out x ≡ range_in (lent_of image l) (state_of l.size t h b) room lo hi → ReadyRanged l.size l.slots h' b' x
+      → range_means l.size h' b' out x ≡ range_in (lent_of image l) (state_of l.size t h b) room lo hi → ReadyBy (λ r. r.tree) l.size l.slots h' b' x
       → (r : Ranged) → x ≡ Ok r → Trusts image l r.tree h' b'
   unfolding range_means lent_of
   ranged_trusts lo hi out room x e y r q =
       looked_trusts image l r.tree h' b' _ _ (trusted_range (lent_of image l) (state_of l.size t h b) room lo hi c.trust)
       (roomy_ranged (lent_of image l) (state_of l.size t h b) room lo hi c.trust c.roomy)
-      (ap (range_means l.size h' b' out) (sym q) ∙ e) (subst (ReadyRanged l.size l.slots h' b') q y)
+      (ap (range_means l.size h' b' out) (sym q) ∙ e) (subst (ReadyBy (λ r. r.tree) l.size l.slots h' b') q y)
 
   pub left_ranged : (x : std.Result Ranged Refusal) → RangeCalled image l t h b h' b' x → ranged_leaves l.size l.slots t h b h' b' x
   left_ranged (Err y) k = (k.0, back_hold image l t h b c h' b' k.0 k.1)
@@ -69,7 +70,7 @@ module _ (l : Lent) (t : Tree) (h0 b0 h2 b2 h3 b3 out : List ℕ) where
   pub ranged_left : (image lo hi : List ℕ) (room : ℕ) (g : std.Result Ranged Refusal) → Trusts image l t h0 b0
       → Undone l t h0 b0 h2 b2 h3 b3 g
       → range_means l.size h3 b3 out g ≡ range_in (lent_of image l) (state_of l.size t h0 b0) room lo hi
-      → ReadyRanged l.size l.slots h2 b2 g → RangeCalled image l t h0 b0 h3 b3 g
+      → ReadyBy (λ r. r.tree) l.size l.slots h2 b2 g → RangeCalled image l t h0 b0 h3 b3 g
   ranged_left image lo hi room (Err x) c u e r = u
   ranged_left image lo hi room (Ok v) c u e r = ranged_trusts image l t h0 b0 c h3 b3 lo hi out room (Ok v) e (rw (u.0, u.1) r) v refl
 

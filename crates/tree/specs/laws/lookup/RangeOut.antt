@@ -16,7 +16,7 @@ use Rattle.tree.specs.Lookup.{between, range_enters}
 use Rattle.tree.specs.Workspace.{slot_bytes, state_of}
 use Rattle.tree.specs.internal.Kids.{slots_of, kid_means}
 use Rattle.tree.specs.internal.Range.{held_below, held_child, held_kids, range_held}
-use Rattle.tree.specs.laws.load.LoadedWay.{kid_slot}
+use Rattle.tree.specs.laws.slots.Kids.{kid_slot}
 use Rattle.tree.specs.laws.slots.Records.{value_found}
 use Rattle.tree.specs.laws.lookup.Between.{splice_two, splice_none, records_append}
 use Rattle.tree.specs.declared.editor.Tree.{Tree}

@@ -17,10 +17,10 @@ use Rattle.tree.specs.Omap.{is_omap, dropped, omap_value, omap_drop_in, omap_put
 use Rattle.tree.specs.Hold.{lent_holds}
 use Rattle.tree.specs.Workspace.{state_of, workspace_holds, scratch_holds}
 use Rattle.tree.specs.Answers.{edited_of, edited_leaves}
-use Rattle.tree.specs.internal.Bank.{Ready}
+use Rattle.tree.specs.internal.Bank.{Ready, ReadyTree}
 use Rattle.tree.specs.internal.Room.{Roomy}
 use Rattle.tree.specs.internal.Dropping.{put_anew}
-use Rattle.tree.specs.internal.Edits.{Trusts, ReadyEdited, EditedCalled}
+use Rattle.tree.specs.internal.Edits.{Trusts, EditedCalled}
 use Rattle.tree.specs.laws.trust.Upsert.{trusted_upsert}
 use Rattle.tree.specs.laws.trust.Omap.{dropped_safe, trusted_drop}
 use Rattle.tree.specs.laws.room.Calls.{roomy_upsert, roomy_drop}
@@ -39,7 +39,7 @@ pub edited_done : (size : ℕ) (h b : List ℕ) (r : std.Result Tree Refusal) (t
 unfolding edited_of
 edited_done size h b r t e = sym (rw e)
 
-pub edited_ready : (size slots : ℕ) (h b : List ℕ) (r : std.Result Tree Refusal) (t : Tree) → r ≡ Ok t → ReadyEdited size slots h b r
+pub edited_ready : (size slots : ℕ) (h b : List ℕ) (r : std.Result Tree Refusal) (t : Tree) → r ≡ Ok t → ReadyTree size slots h b r
     → Ready size slots t.used h b
 edited_ready size slots h b r t e y = rw e at y
 
@@ -97,7 +97,7 @@ module _ (l : lending.Lent) (s : State) (id : ℕ) (k v : List ℕ) (f : is_omap
 
 module _ (image : List ℕ) (l : Lent) (t : Tree) (h0 b0 : List ℕ) (c : Trusts image l t h0 b0) (id : ℕ) (r : std.Result Tree Refusal) (u : Tree)
     (h b : List ℕ)
-    (z : r ≡ Ok u) (y : ReadyEdited l.size l.slots h b r) where
+    (z : r ≡ Ok u) (y : ReadyTree l.size l.slots h b r) where
   abbrev s : State
   s = state_of l.size t h0 b0
 

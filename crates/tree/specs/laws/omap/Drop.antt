@@ -23,8 +23,9 @@ use Rattle.tree.specs.Lookup.{Got, range_from}
 use Rattle.tree.specs.Omap.{versions_end, remove_all, dropped}
 use Rattle.tree.specs.Workspace.{state_of}
 use Rattle.tree.specs.Answers.{edited_of}
+use Rattle.tree.specs.internal.Bank.{ReadyBy}
 use Rattle.tree.specs.internal.Edits.{Trusts}
-use Rattle.tree.specs.internal.Range.{most, at_most, sum_of, Counted, counted, ranged_of, ReadyRanged, range_held}
+use Rattle.tree.specs.internal.Range.{most, at_most, sum_of, Counted, counted, ranged_of, range_held}
 use Rattle.tree.specs.internal.Tree.{bounds_of}
 use Rattle.tree.specs.internal.Undo.{Follows}
 use Rattle.tree.specs.laws.slots.Tree.{used_nodes}
@@ -120,7 +121,7 @@ module _ (image : List ℕ) (l : Lent) (t : Tree) (h0 b0 : List ℕ) (id level :
       let y : versions ≡ refused (number_of x) = counted_refused versions (number_of x) (sym (ap (ranged_of l.size h1 b1) z) ∙ answer) in
       sym (rw y)
 
-  module _ (c : Trusts image l t h0 b0) (v : Ranged) (z : r ≡ Ok v) (y : ReadyRanged l.size l.slots h1 b1 r) where
+  module _ (c : Trusts image l t h0 b0) (v : Ranged) (z : r ≡ Ok v) (y : ReadyBy (λ r. r.tree) l.size l.slots h1 b1 r) where
     abbrev s1 : State
     s1 = state_of l.size v.tree h1 b1
 

@@ -16,10 +16,10 @@ use Rattle.tree.specs.Remove.{removed}
 use Rattle.tree.specs.Omap.{remove_all}
 use Rattle.tree.specs.Workspace.{state_of}
 use Rattle.tree.specs.Answers.{edited_of, removed_of}
-use Rattle.tree.specs.internal.Bank.{Ready}
+use Rattle.tree.specs.internal.Bank.{Ready, ReadyAfter}
 use Rattle.tree.specs.internal.Undo.{Follows}
 use Rattle.tree.specs.internal.Dropping.{Removing}
-use Rattle.tree.specs.internal.Edits.{Trusts, ReadyRemoved}
+use Rattle.tree.specs.internal.Edits.{Trusts}
 use Rattle.tree.specs.laws.slots.Tree.{used_nodes}
 use Rattle.tree.specs.laws.slots.Undo.{follows_same, follows_on}
 use Rattle.tree.specs.laws.trust.Remove.{trusted_remove}
@@ -92,7 +92,7 @@ module _ (image : List ℕ) (l : Lent) (count : ℕ) (list : List ℕ) (t₀ : T
         (answer ∙ ap (removed_of l.size h' b') z)) ∙ v.rest
 
     module _ (eh : length h' ≡ length h) (eb : length b' ≡ length b) (f : Follows l.size l.slots t.used h b h' b')
-        (y : ReadyRemoved l.size l.slots h' b' r) (u : Tree) where
+        (y : ReadyAfter l.size l.slots h' b' r) (u : Tree) where
       module _ (a : Bool) (z : removed_of l.size h' b' r ≡ ok (record { state = state_of l.size u h' b'; present = a }))
           (y' : Ready l.size l.slots u.used h' b') where
         abbrev w : State

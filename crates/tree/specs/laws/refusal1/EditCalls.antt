@@ -1,7 +1,7 @@
 -- Edits as calls: 1 first, marks cleared, slots brought back on a refusal; what an edit leaves. Assumes nothing.
-use Rattle.std.specs.Prelude.{◌≡◌, List, Bool, true, ◌&&◌, ℕ, ◌+◌, ◌*◌, ◌^◌, ◌≤◌, ◌<◌}
+use Rattle.std.specs.Prelude.{◌≡◌, List, Bool, true, ◌&&◌, ℕ, ◌+◌, ◌*◌, ◌≤◌}
 use Rattle.std.proofs.Math.Path.{refl, sym, ap}
-use Rattle.std.proofs.Common.{subst, ◌∙◌, mul-le-mul}
+use Rattle.std.proofs.Common.{subst, ◌∙◌}
 use Rattle.std.proofs.Math.Bool.{false, not}
 use native.Mathlib.Omega.{arith}
 use Rattle.std.proofs.Math.Nat.{mul-le-mul_right}
@@ -44,14 +44,10 @@ module _ (image : List ℕ) (l : Lent) (t : Tree) (heads bytes : List ℕ) (a : 
     pub edit_many : l.slots ≤ 4096
     edit_many = (called_ready image l t heads bytes a e (ap not q)).many
 
-    pub edit_room : (2 * l.slots + 2) * l.size < 2 ^ 64
-    edit_room =
-        let r = called_ready image l t heads bytes a e (ap not q) in
-        let a : 2 * l.slots + 2 ≤ 8194 = omega (arith, r.many) in
-        let m : (2 * l.slots + 2) * l.size ≤ 8194 * 65536 = mul-le-mul a r.most in
-        omega arith
+    pub edit_most : l.size ≤ 65536
+    edit_most = (called_ready image l t heads bytes a e (ap not q)).most
 
-pub ruleset scratched = (edit_many, edit_room)
+pub ruleset scratched = (edit_many, edit_most)
 
 -- ---- the call
 

@@ -8,21 +8,19 @@ use Rattle.std.proofs.Math.ListN.{length, drop, drop_of_length-le}
 use Rattle.std.proofs.Math.Dec.{eqb}
 use borrow.Author.Tests.{le-leb, lt-leb, leb-true, not-true, not-false}
 use Rattle.node.specs.laws.base.Tests.{and_split}
-use Rattle.node.specs.Result.{Result, refused, ◌>>=◌}
-use Rattle.node.specs.Entry.{Entry, Val, mem}
+use Rattle.node.specs.Result.{Result, ◌>>=◌}
+use Rattle.node.specs.Entry.{Entry, Val, ghost, leaf, disk, mem}
 use Rattle.node.specs.Records.{records_length, entry_of, entries_of}
 use Rattle.node.specs.Fit.{room_of}
 use Rattle.node.specs.internal.SlotSteps.{lengths_of, records_stand, checked_of}
 use Rattle.node.specs.laws.fit.Fit.{lengths_room, count_small}
 use Rattle.node.specs.laws.slot.Records.{length_entries, entries_head}
-use Rattle.node.specs.Slot.{records_hold, value_means, child_means}
+use Rattle.node.specs.Slot.{records_hold}
 use Rattle.node.specs.laws.fit.Pass.{checked_stands, checked_lengths, checked_not}
 use Rattle.node.specs.declared.head.Head.{Head}
 use Rattle.node.specs.declared.fit.Lengths.{Lengths}
-use Rattle.node.specs.declared.val.Val as Kept
-use Rattle.node.specs.declared.val.Val.TheVariants as kept
-use Rattle.node.specs.declared.val.Child as Child
-use Rattle.node.specs.declared.val.Child.TheVariants as child
+use Rattle.tree.specs.internal.Kids.{slots_of, kid_means}
+use Rattle.tree.specs.laws.slots.Kids.{kid_slot}
 use Rattle.tree.specs.internal.Marks.{mark_of, mark_slot, mark_value}
 use Rattle.tree.specs.internal.Holding.{count_holds, place_holds, body_holds, child_stands, if_holds, link_value, link_entries}
 use Rattle.tree.specs.declared.editor.Tree.{Tree}
@@ -78,37 +76,27 @@ module _ (t : Tree) (n : ℕ) (h : Head) (l : List ℕ) where
 
 -- ---- one value
 
-module _ (heads : List ℕ) (used level : ℕ) (ms : List ℕ) (v : Kept.Val) (w : Val) (ev : value_means v ≡ w) where
-  abbrev L : Val → Result (List ℕ)
-  L x = link_value heads used level x ms
+module _ (heads : List ℕ) (used level : ℕ) (ms : List ℕ) (kid : Option ℕ) (v : Val) (ek : kid_means kid ≡ slots_of v) where
+  -- what is no child in a slot has nothing to mark
+  other : (w : Val) → [] ≡ slots_of w → mark_of true ms ≡ link_value heads used level w ms
+  unfolding slots_of link_value mark_of
+  other ghost e = refl
+  other (leaf a) e = refl
+  other (disk r) e = refl
+  other (mem s) e = let y : ◌≡◌ {A = ℕ} 0 1 = ap length e in absurd (omega arith)
 
-  -- what is no child has nothing to mark
-  other : (x : Kept.Val) → ((c : Child.Child) → x ≡ kept.Child c → ⊥) → mark_of true ms ≡ L (value_means x)
-  unfolding value_means link_value mark_of
-  other kept.Ghost d = refl
-  other (kept.Leaf a) d = refl
-  other (kept.Child c) d = absurd (d c refl)
+  pub link_other : kid ≡ None → mark_of true ms ≡ link_value heads used level v ms
+  unfolding kid_means
+  link_other e = other v (rw e at ek)
 
-  pub link_other : ((c : Child.Child) → v ≡ kept.Child c → ⊥) → mark_of true ms ≡ link_value heads used level w ms
-  link_other d = other v d ∙ ap L ev
+  module _ (s : ℕ) (e : kid ≡ Some s) (k : Bool) (es : k ≡ child_stands heads used level s) where
+    pub link_no : k ≡ false → mark_of false ms ≡ link_value heads used level v ms
+    unfolding link_value if_holds mark_of
+    link_no q = rw (kid_slot kid s v ek e, ← es, q)
 
-  module _ (c : Child.Child) (e : v ≡ kept.Child c) where
-    pub link_disk : (r : ℕ) → c ≡ child.Disk r → mark_of true ms ≡ link_value heads used level w ms
-    unfolding value_means child_means link_value mark_of
-    link_disk r f = ap (λ (x : Child.Child). L (child_means x)) (sym f) ∙ ap (λ (x : Kept.Val). L (value_means x)) (sym e) ∙ ap L ev
-
-    module _ (s : ℕ) (f : c ≡ child.Mem s) (k : Bool) (ek : k ≡ child_stands heads used level s) where
-      mem_is : L (mem s) ≡ L w
-      unfolding value_means child_means
-      mem_is = ap (λ (x : Child.Child). L (child_means x)) (sym f) ∙ ap (λ (x : Kept.Val). L (value_means x)) (sym e) ∙ ap L ev
-
-      pub link_no : not k ≡ true → mark_of false ms ≡ link_value heads used level w ms
-      unfolding link_value if_holds mark_of
-      link_no q = let z : refused 1 ≡ L (mem s) = rw (← ek, not-true k q) in z ∙ mem_is
-
-      pub link_mem : (x : Result (List ℕ)) → not k ≡ false → x ≡ mark_slot used s ms → x ≡ link_value heads used level w ms
-      unfolding link_value if_holds mark_value
-      link_mem x q y = let z : mark_slot used s ms ≡ L (mem s) = rw (← ek, not-false k q) in y ∙ z ∙ mem_is
+    pub link_mem : k ≡ true → (x : Result (List ℕ)) → x ≡ mark_slot used s ms → x ≡ link_value heads used level v ms
+    unfolding link_value if_holds mark_value
+    link_mem q x y = rw (kid_slot kid s v ek e, ← es, q) y
 
 -- ---- the entries of a slot, from entry i on
 
@@ -144,7 +132,7 @@ module _ (heads : List ℕ) (used level n : ℕ) (l ms : List ℕ) where
       let z : drop i (entries_of n l) ≡ [] = drop_of_length-le (entries_of n l) q in
       sym (ap (λ (x : List Entry). link_entries heads used level x ks) z) ∙ inv
 
-pub ruleset link_value_laws = (link_other, link_disk, link_no, link_mem)
+pub ruleset link_value_laws = (link_other, link_no, link_mem)
 
 pub ruleset body_holds_laws = (body_high, body_empty, body_not, body_sum, body_count, body_place)
 

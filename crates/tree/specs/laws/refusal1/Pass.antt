@@ -1,12 +1,12 @@
 -- Laws of the pass of refusal 1 over the slots: one for each turn and each way out. Assumes nothing.
 use Rattle.std.specs.Prelude.{◌≡◌, List, false, cond, ◌&&◌, ◌||◌, not, set, replicate, leb, eqb}
 use Rattle.std.proofs.Math.Path.{refl, sym, ap}
-use Rattle.std.proofs.Common.{◌∙◌, add-one, length-set}
+use Rattle.std.proofs.Common.{◌∙◌, add-one}
 use Rattle.std.proofs.Math.Bool.{Bool, true}
 use Prim.Native.Nat.{ℕ, zero, suc, ◌+◌, ◌-◌, ◌*◌, ◌^◌, ◌≤◌, ◌<◌}
 use native.Mathlib.Omega.{arith}
 use Rattle.std.proofs.Math.ListN.{length}
-use borrow.Author.Tests.{le-leb, lt-leb, lt-ltb, le-ltb, eq-eqb, ne_eqb, not-true, not-false}
+use borrow.Author.Tests.{le-leb, lt-leb, lt-ltb, le-ltb, eq-eqb, not-true, not-false}
 use Rattle.node.specs.laws.base.Tests.{by_test, never, and-false}
 use Rattle.node.specs.Result.{Result, ok, refused, ◌>>=◌}
 use Rattle.node.specs.Entry.{Entry, every}
@@ -22,7 +22,7 @@ use Rattle.tree.specs.internal.Holding.{Laid, body_holds, if_holds, link_entries
 use Rattle.tree.specs.laws.slots.Bank.{slots_below, length_nodes, node_at_lem}
 use Rattle.tree.specs.laws.slots.OneSlot.{part_long}
 use Rattle.tree.specs.laws.refusal1.HoldTogether.{Ones, ones_entries, then_holds, link_both, leaf_entries, node_body, body_lies, body_entries}
-use Rattle.tree.specs.laws.refusal1.Marks.{said_no, once_is, blank_long}
+use Rattle.tree.specs.laws.refusal1.Marks.{said_no, once_is}
 use Rattle.tree.specs.declared.editor.Tree.{Tree}
 
 -- ---- one slot
@@ -49,56 +49,58 @@ module _ (size : ℕ) (t : Tree) (heads bytes ms : List ℕ) (n : ℕ) (h : Head
   slot_words_lem q = let z : whole ≡ refused 1 = hold_is ∙ rw (← ew, not-true w q) in sym z
 
   module _ (hw : not w ≡ false) where
-    pub slot_dead : h.dead ≡ 1 → mark_of true ms ≡ hold_slot size heads bytes (state_of size t heads bytes) t.used n ms
-    unfolding if_holds mark_of
-    slot_dead q = let z : whole ≡ ok ms = hold_is ∙ rw (← ew, not-false w hw, eq-eqb h.dead 1 q) in sym z
-
-    module _ (d : h.dead ≡ 1 → ⊥) where
-      pub slot_long : 2 * size < h.used → mark_of false ms ≡ hold_slot size heads bytes (state_of size t heads bytes) t.used n ms
+    module _ (x : Bool) (ex : x ≡ eqb h.dead 1) where
+      pub slot_dead : x ≡ true → mark_of true ms ≡ hold_slot size heads bytes (state_of size t heads bytes) t.used n ms
       unfolding if_holds mark_of
-      slot_long q = let z : whole ≡ refused 1 = hold_is ∙ rw (← ew, not-false w hw, ne_eqb h.dead 1 d, lt-leb h.used (2 * size) q) in sym z
+      slot_dead q = let z : whole ≡ ok ms = hold_is ∙ rw (← ew, not-false w hw, sym ex ∙ q) in sym z
 
-      entries_live : (node_of h l).entries ≡ entries_of h.count l
-      unfolding node_of
-      entries_live = rw (ne_eqb h.dead 1 d)
-
-      module _ (u : h.used ≤ 2 * size) (part : List ℕ) (el : part ≡ slot_bytes size bytes n) (b : Bool) (eb : b ≡ body_holds t n h part) where
-        hold_live : whole ≡ if_holds (body_holds t n h l && every (λ e. child_holds s h.level e.value) (entries_of h.count l))
-            (mark_entries t.used (entries_of h.count l) ms)
-        hold_live =
-            hold_is
-            ∙ rw (← ew, not-false w hw, ne_eqb h.dead 1 d, le-leb h.used (2 * size) u)
-            (ap (λ (x : Bool). if_holds x (mark_entries t.used (node_of h l).entries ms)) (node_body size t heads bytes n h l d)
-            ∙ ap (λ (x : List Entry). if_holds (body_holds t n h l && every (λ e. child_holds s h.level e.value) (entries_of h.count l))
-            (mark_entries t.used x ms)) entries_live)
-
-        body_is : b ≡ body_holds t n h l
-        body_is = eb ∙ ap (body_holds t n h) el
-
-        pub slot_body : not b ≡ true → mark_of false ms ≡ hold_slot size heads bytes (state_of size t heads bytes) t.used n ms
+      module _ (d : x ≡ false) where
+        pub slot_long : 2 * size < h.used → mark_of false ms ≡ hold_slot size heads bytes (state_of size t heads bytes) t.used n ms
         unfolding if_holds mark_of
-        slot_body q = let z : whole ≡ refused 1 = hold_live ∙ rw (← body_is, not-true b q) in sym z
+        slot_long q = let z : whole ≡ refused 1 = hold_is ∙ rw (← ew, not-false w hw, sym ex ∙ d, lt-leb h.used (2 * size) q) in sym z
 
-        module _ (hb : not b ≡ false) where
-          holds : body_holds t n h l ≡ true
-          holds = sym body_is ∙ not-false b hb
+        entries_live : (node_of h l).entries ≡ entries_of h.count l
+        unfolding node_of
+        entries_live = rw (sym ex ∙ d)
 
-          hold_rest : whole ≡ if_holds (every (λ e. child_holds s h.level e.value) (entries_of h.count l))
+        module _ (u : h.used ≤ 2 * size) (part : List ℕ) (el : part ≡ slot_bytes size bytes n) (b : Bool) (eb : b ≡ body_holds t n h part) where
+          hold_live : whole ≡ if_holds (body_holds t n h l && every (λ e. child_holds s h.level e.value) (entries_of h.count l))
               (mark_entries t.used (entries_of h.count l) ms)
-          hold_rest = hold_live ∙ rw holds
+          hold_live =
+              hold_is
+              ∙ rw (← ew, not-false w hw, sym ex ∙ d, le-leb h.used (2 * size) u)
+              (ap (λ (x : Bool). if_holds x (mark_entries t.used (node_of h l).entries ms)) (node_body size t heads bytes n h l
+              (λ z. never (ex ∙ eq-eqb h.dead 1 z) d))
+              ∙ ap (λ (x : List Entry). if_holds (body_holds t n h l && every (λ e. child_holds s h.level e.value) (entries_of h.count l))
+              (mark_entries t.used x ms)) entries_live)
 
-          pub slot_leaf : h.level ≡ 0 → mark_of true ms ≡ hold_slot size heads bytes (state_of size t heads bytes) t.used n ms
-          unfolding mark_of
-          slot_leaf q =
-              let z : every (entry_holds t.order.code t.info true) (entries_of h.count l) ≡ true = rw (eq-eqb h.level 0 q) at
-              (body_entries t n h l holds) in
-              sym (hold_rest ∙ leaf_entries size t heads bytes h.level t.order.code t.info (entries_of h.count l) ms z)
+          body_is : b ≡ body_holds t n h l
+          body_is = eb ∙ ap (body_holds t n h) el
 
-          pub slot_links : (r : Bool) (ks : List ℕ) → mark_of r ks ≡ link_entries heads t.used h.level (entries_of h.count part) ms
-              → mark_of r ks ≡ hold_slot size heads bytes (state_of size t heads bytes) t.used n ms
-          slot_links r ks e =
-              e ∙ ap (λ (x : List ℕ). link_entries heads t.used h.level (entries_of h.count x) ms) el
-              ∙ link_both size t heads bytes h.level (entries_of h.count l) ms ∙ sym hold_rest
+          pub slot_body : not b ≡ true → mark_of false ms ≡ hold_slot size heads bytes (state_of size t heads bytes) t.used n ms
+          unfolding if_holds mark_of
+          slot_body q = let z : whole ≡ refused 1 = hold_live ∙ rw (← body_is, not-true b q) in sym z
+
+          module _ (hb : not b ≡ false) where
+            holds : body_holds t n h l ≡ true
+            holds = sym body_is ∙ not-false b hb
+
+            hold_rest : whole ≡ if_holds (every (λ e. child_holds s h.level e.value) (entries_of h.count l))
+                (mark_entries t.used (entries_of h.count l) ms)
+            hold_rest = hold_live ∙ rw holds
+
+            pub slot_leaf : h.level ≡ 0 → mark_of true ms ≡ hold_slot size heads bytes (state_of size t heads bytes) t.used n ms
+            unfolding mark_of
+            slot_leaf q =
+                let z : every (entry_holds t.order.code t.info true) (entries_of h.count l) ≡ true = rw (eq-eqb h.level 0 q) at
+                (body_entries t n h l holds) in
+                sym (hold_rest ∙ leaf_entries size t heads bytes h.level t.order.code t.info (entries_of h.count l) ms z)
+
+            pub slot_links : (r : Bool) (ks : List ℕ) → mark_of r ks ≡ link_entries heads t.used h.level (entries_of h.count part) ms
+                → mark_of r ks ≡ hold_slot size heads bytes (state_of size t heads bytes) t.used n ms
+            slot_links r ks e =
+                e ∙ ap (λ (x : List ℕ). link_entries heads t.used h.level (entries_of h.count x) ms) el
+                ∙ link_both size t heads bytes h.level (entries_of h.count l) ms ∙ sym hold_rest
 
 pub body_records : (t : Tree) (n : ℕ) (h : Head) (part : List ℕ) (b : Bool) → b ≡ body_holds t n h part → not b ≡ false
     → records_length h.count part ≤ length part
@@ -211,10 +213,11 @@ module _ (size : ℕ) (t : Tree) (heads bytes : List ℕ) where
         let z : length (state_of size t heads bytes).nodes ≡ t.used = length_nodes size heads bytes t.used in
         rw (root_is, z, lt-ltb t.root t.used hr)
 
-    pub together_dead : h.dead ≡ 1 → false ≡ slots_hold size heads bytes t.used 0 && hold_together (state_of size t heads bytes)
-    together_dead q = rw (together_parts, eq-eqb h.dead 1 q) (sym (and-false (slots_hold size heads bytes t.used 0)))
+    pub together_dead : (x : Bool) → x ≡ eqb h.dead 1 → x ≡ true
+        → false ≡ slots_hold size heads bytes t.used 0 && hold_together (state_of size t heads bytes)
+    together_dead x ex q = rw (together_parts, sym ex ∙ q) (sym (and-false (slots_hold size heads bytes t.used 0)))
 
-    module _ (d : h.dead ≡ 1 → ⊥) (N : ℕ) (room : t.used ≤ N) (a : Bool) (ks : List ℕ)
+    module _ (x : Bool) (ex : x ≡ eqb h.dead 1) (d : x ≡ false) (N : ℕ) (room : t.used ≤ N) (a : Bool) (ks : List ℕ)
         (e : mark_of a ks ≡ hold_slots size heads bytes (state_of size t heads bytes) t.used t.used 0 (set (replicate N 0) t.root 1)) where
       abbrev S : Bool
       S = slots_hold size heads bytes t.used 0
@@ -244,21 +247,17 @@ module _ (size : ℕ) (t : Tree) (heads bytes : List ℕ) where
           (λ q. let z : mark_of a ks ≡ mark_nodes t.used (nodes_of size heads bytes t.used)
           (set (replicate N 0) t.root 1) = rw q at marks_are in
           once_is (state_of size t heads bytes) t.used N (set (replicate N 0) t.root 1) ks a room hr refl z
-          ∙ sym (rw (together_parts, ne_eqb h.dead 1 d) (three S E O q)))
+          ∙ sym (rw (together_parts, sym ex ∙ d) (three S E O q)))
           (λ q. let z : mark_of a ks ≡ refused 1 = rw q at marks_are in
-          said_no a ks z ∙ sym (rw (together_parts, ne_eqb h.dead 1 d) (three_no S E O q)))
+          said_no a ks z ∙ sym (rw (together_parts, sym ex ∙ d) (three_no S E O q)))
 
 module _ (size slots N : ℕ) (t : Tree) (heads bytes : List ℕ) (r : Laid size slots t.used heads bytes) (h : 4096 ≤ N) where
   pub together_few : t.used ≤ N
   together_few = omega (arith, r.within, r.many)
-
-  pub together_room : t.used ≤ length {A = ℕ} (set (replicate N 0) t.root 1)
-  together_room = let z : length {A = ℕ} (set (replicate N 0) t.root 1) ≡ length {A = ℕ} (replicate N 0) = length-set {A = ℕ} (replicate N 0)
-      t.root 1 in omega (arith, z, blank_long N, r.within, r.many)
 
 pub ruleset hold_slot_laws =
     (slot_words_lem, slot_dead, slot_long, slot_body, body_records, slot_leaf, slot_links, laid_words, laid_part, laid_few, laid_small)
 
 pub ruleset hold_slots_laws = (slots_start, slots_end, slots_no, slots_next)
 
-pub ruleset hold_together_laws = (together_past, together_dead, together_is, together_few, together_room)
+pub ruleset hold_together_laws = (together_past, together_dead, together_is, together_few)

@@ -1,17 +1,14 @@
 -- Laws of remove as a call: the way, the key's place, the edit; 12 first, slots brought back on a refusal. Assumes nothing.
-use Rattle.std.specs.Prelude.{take, suc, ◌≡◌, refl, List, [], Bool, not, ◌&&◌, ℕ, ◌-◌, ◌≤◌, ◌<◌, length, leb, ltb}
+use Rattle.std.specs.Prelude.{suc, ◌≡◌, refl, List, [], Bool, ◌&&◌, ℕ, ◌-◌, ◌≤◌, ◌<◌, length, leb, ltb}
 use Rattle.std.proofs.Math.Path.{sym, ap, ap₂}
 use Rattle.std.proofs.Common.{subst, ◌∙◌, arith}
 use Rattle.std.proofs.Math.Bool.{true, false}
-use borrow.Author.Tests.{not-true, not-false}
 use Rattle.node.specs.laws.base.Tests.{by_test}
 use Rattle.node.specs.Result.{ok, ◌>>=◌}
 use Rattle.node.specs.Order.{keyed_length, keyed}
 use Rattle.node.specs.Entry.{Entry}
 use Rattle.node.specs.Find.{place_of, is_there}
-use Rattle.node.specs.Records.{records_length}
-use Rattle.node.specs.Slot.{head_at, remove_at}
-use Rattle.node.specs.declared.slot.Found.{Found}
+use Rattle.node.specs.Slot.{remove_at}
 use Rattle.tree.specs.Lent as lent
 use Rattle.tree.specs.Lent.{lent_of}
 use Rattle.tree.specs.State.{State, node_at, put_node, with_entries}
@@ -19,13 +16,15 @@ use Rattle.tree.specs.Load.{unbounded}
 use Rattle.tree.specs.Lookup as lookup
 use Rattle.tree.specs.Edit.{touch}
 use Rattle.tree.specs.Remove.{drop_emptied, take_from_leaf, shrunk_on, remove_on, removed, remove_in}
-use Rattle.tree.specs.Workspace.{slot_bytes, state_of}
+use Rattle.tree.specs.Workspace.{state_of}
 use Rattle.tree.specs.Answers.{edited_of, removed_of}
-use Rattle.tree.specs.internal.Bank.{live, Ready}
+use Rattle.tree.specs.internal.Bank.{Ready, ReadyBy, ReadyAfter}
 use Rattle.tree.specs.internal.Undo.{Follows}
-use Rattle.tree.specs.internal.Way.{nth_step, steps_of, steps_in, walked_of, way_of, WayReady}
+use Rattle.tree.specs.internal.Way.{nth_step, steps_of, steps_in, walked_of, way_of}
 use Rattle.tree.specs.internal.Found.{FoundAt}
-use Rattle.tree.specs.internal.Edits.{Trusts, ReadyRemoved}
+use Rattle.tree.specs.internal.Writers.{SpotIn}
+use Rattle.tree.specs.laws.slots.FoundAt.{found_spot}
+use Rattle.tree.specs.internal.Edits.{Trusts}
 use Rattle.tree.specs.internal.Removing.{taken_on, shrunk_at, removed_at, OnWay}
 use Rattle.tree.specs.laws.slots.Undo.{follows_on}
 use Rattle.tree.specs.laws.slots.Tree.{used_nodes}
@@ -36,19 +35,22 @@ use Rattle.tree.specs.laws.trust.Loads.{WayLoaded, way_root}
 use Rattle.tree.specs.laws.trust.Edit.{down_leaf}
 use Rattle.tree.specs.laws.trust.Remove.{trusted_remove}
 use Rattle.tree.specs.laws.room.Calls.{roomy_remove}
-use Rattle.tree.specs.laws.lookup.GetCall.{leaf_last, way_low, get_some, get_few, get_ready}
-use Rattle.std.proofs.lemmas.List.{length-take-le}
-use Rattle.tree.specs.laws.load.Way.{steps_taken, last_taken}
+use Rattle.tree.specs.laws.lookup.GetCall.{leaf_last, way_low, get_some, get_ready}
 use Rattle.tree.specs.declared.editor.Tree.{Tree}
+use Rattle.tree.specs.declared.floor.Spot.{Spot}
 use Rattle.tree.specs.declared.lent.Lent.{Lent}
 use Rattle.tree.specs.declared.way.Way.{Way}
 use Rattle.std.specs.Prelude as std
-use Rattle.std.specs.Prelude.{Ok, Err}
+use Rattle.std.specs.Prelude.{Ok, Err, is_ok}
 use Rattle.node.specs.declared.refusal.Refusal.{Refusal}
 use Rattle.node.specs.declared.refusal.Refusal.TheVariants as is
-use Rattle.tree.specs.declared.way.Step as code
+use Rattle.tree.specs.declared.editor.Position as code
 
 -- ---- the edit by the place is the edit by the key
+
+not_ok : (f : std.Result Spot Spot) → ((spot : Spot) → f ≡ Ok spot → ⊥) → is_ok f ≡ false
+not_ok (Ok spot) h = absurd (h spot refl)
+not_ok (Err spot) h = refl
 
 taken_same : (i : ℕ) (ps : List lookup.Step) (s : State) (k : List ℕ) → i ≡ place_of s.order k (node_at s (lookup.leaf_of ps)).entries
     → taken_on i ps s ≡ take_from_leaf (touch ps s) (lookup.leaf_of ps) k
@@ -105,10 +107,7 @@ module _ (image : List ℕ) (l : Lent) (t : Tree) (h0 b0 : List ℕ) (c : Trusts
       s' = state_of l.size w.tree h b
 
       abbrev ps : List lookup.Step
-      ps = steps_of w.steps w.count
-
-      abbrev n : ℕ
-      n = (nth_step w.steps (w.count - 1)).slot
+      ps = steps_in w.steps.items
 
       arrives : lookup.way m s key ≡ ok (record { state = s'; steps = ps })
       unfolding way_of walked_of
@@ -117,37 +116,24 @@ module _ (image : List ℕ) (l : Lent) (t : Tree) (h0 b0 : List ℕ) (c : Trusts
       loads : WayLoaded m all all s s.root s' ps
       loads = (way_root m s key (trusted_of m s c.trust).1).at (record { state = s'; steps = ps }) arrives
 
-      pub remove_some : 1 ≤ w.count
+      pub remove_some : 1 ≤ length w.steps.items
       remove_some = get_some m l.size t h0 b0 c.trust level ev key [] h b r ew w e
 
-      pub remove_few : w.count ≤ 33
-      remove_few = get_few m l.size t h0 b0 c.trust level ev key [] h b r ew w e
-
-      pub remove_ready : WayReady l.size l.slots h b r → Ready l.size l.slots w.tree.used h b
+      pub remove_ready : ReadyBy (λ w. w.tree) l.size l.slots h b r → Ready l.size l.slots w.tree.used h b
       remove_ready y = get_ready m l.size t h0 b0 c.trust level ev key [] h b r ew w e l.slots y
 
-      last : lookup.leaf_of ps ≡ n
+      last : lookup.leaf_of ps ≡ (nth_step w.steps.items (length w.steps.items - 1)).slot
       unfolding steps_of
       last =
-          let z : w.count ≡ suc (w.count - 1) = omega (arith, remove_some) in
-          ap (λ (k : ℕ). lookup.leaf_of (steps_of w.steps k)) z
-          ∙ leaf_last (steps_of w.steps (w.count - 1)) (record { slot = n; child = (nth_step w.steps (w.count - 1)).child })
+          let z : length w.steps.items ≡ suc (length w.steps.items - 1) = omega (arith, remove_some) in
+          ap (λ (k : ℕ). lookup.leaf_of (steps_of w.steps.items k)) z
+          ∙ leaf_last (steps_of w.steps.items (length w.steps.items - 1)) (record {
+            slot = (nth_step w.steps.items (length w.steps.items - 1)).slot;
+            child = (nth_step w.steps.items (length w.steps.items - 1)).index;
+          })
 
-      pub remove_leaf : (nth_step w.steps (w.count - 1)).slot < w.tree.used
-      remove_leaf = omega (arith, last, live_used s' (lookup.leaf_of ps) (down_leaf s' ps loads.down).0, used_nodes l.size w.tree h b)
-
-      -- the steps that are taken, as a slice
-      few : length w.steps ≡ 34 → w.count ≤ length w.steps
-      few es = omega (arith, remove_few)
-
-      taken : length w.steps ≡ 34 → steps_in (take w.count w.steps) ≡ ps
-      taken es = steps_taken w.steps w.count (few es)
-
-      leaf_taken : length w.steps ≡ 34 → (nth_step (take w.count w.steps) (length (take w.count w.steps) - 1)).slot ≡ n
-      leaf_taken es = ap (λ (x : code.Step). x.slot) (last_taken w.steps w.count remove_some (few es))
-
-      pub remove_long : length w.steps ≡ 34 → 1 ≤ length (take w.count w.steps)
-      remove_long es = omega (arith, length-take-le w.count w.steps (few es), remove_some)
+      pub remove_leaf : (n : ℕ) → n ≡ (nth_step w.steps.items (length w.steps.items - 1)).slot → n < w.tree.used
+      remove_leaf n en = omega (arith, last, en, live_used s' (lookup.leaf_of ps) (down_leaf s' ps loads.down).0, used_nodes l.size w.tree h b)
 
       remove_more : t.used ≤ w.tree.used
       remove_more = omega (arith, loads.loaded.loads.longer, used_nodes l.size t h0 b0, used_nodes l.size w.tree h b)
@@ -159,42 +145,50 @@ module _ (image : List ℕ) (l : Lent) (t : Tree) (h0 b0 : List ℕ) (c : Trusts
       order_same : s'.order ≡ s.order
       order_same = loads.loaded.loads.order
 
-      module _ (f : Found) (ef : FoundAt l.size (state_of l.size w.tree h b) h b (nth_step w.steps (w.count - 1)).slot key f) where
-        there : is_there s.order key (node_at s' (lookup.leaf_of ps)).entries ≡ f.found
-        there = ap₂ (λ (o j : ℕ). is_there o key (node_at s' j).entries) (sym order_same) last ∙ sym ef.there
+      module _ (n : ℕ) (en : n ≡ (nth_step w.steps.items (length w.steps.items - 1)).slot) (f : std.Result Spot Spot)
+          (ef : FoundAt l.size (state_of l.size w.tree h b) h b n key f) where
+        ends : lookup.leaf_of ps ≡ n
+        ends = last ∙ sym en
 
-        pub remove_absent : not f.found ≡ true
+        there : is_there s.order key (node_at s' (lookup.leaf_of ps)).entries ≡ is_ok f
+        there = ap₂ (λ (o j : ℕ). is_there o key (node_at s' j).entries) (sym order_same) ends ∙ sym ef.there
+
+        pub remove_absent : ((spot : Spot) → f ≡ Ok spot → ⊥)
             → removed_of l.size h b (Ok (w.tree, false)) ≡ removed (lent_of image l) (state_of l.size t h0 b0) key
         unfolding removed_of removed
-        remove_absent z = sym (rw (arrives, there, not-true f.found z))
+        remove_absent z = sym (rw (arrives, there, not_ok f z))
 
-        module _ (z : not f.found ≡ false) where
-          found : f.found ≡ true
-          found = not-false f.found z
+        module _ (spot : Spot) (z : f ≡ Ok spot) (way : List code.Position) (es : way ≡ w.steps.items) where
+          found : is_ok f ≡ true
+          found = rw z
 
-          place : f.index ≡ place_of s'.order key (node_at s' (lookup.leaf_of ps)).entries
-          place = ef.place ∙ ap (λ (j : ℕ). place_of s'.order key (node_at s' j).entries) (sym last)
+          at_leaf : FoundAt l.size (state_of l.size w.tree h b) h b n key (Ok spot)
+          at_leaf = subst (FoundAt l.size (state_of l.size w.tree h b) h b n key) z ef
 
-          pub remove_on_way : length w.steps ≡ 34 → OnWay (lent_of image l) (state_of l.size w.tree h b) (steps_in (take w.count w.steps)) f.index
+          place : spot.index ≡ place_of s'.order key (node_at s' (lookup.leaf_of ps)).entries
+          place = at_leaf.place ∙ ap (λ (j : ℕ). place_of s'.order key (node_at s' j).entries) (sym ends)
+
+          pub remove_on_way : OnWay (lent_of image l) (state_of l.size w.tree h b) (steps_in way) spot.index
           unfolding lent_of
-          remove_on_way es = rw (taken es) (record { from = s; key = key; trust = c.trust; roomy = c.roomy; came = arrives; place = place })
+          remove_on_way = rw es (record { from = s; key = key; trust = c.trust; roomy = c.roomy; came = arrives; place = place })
 
-          pub remove_index : length w.steps ≡ 34
-              → f.index < (live (head_at h (nth_step (take w.count w.steps) (length (take w.count w.steps) - 1)).slot)).count
-          remove_index es = rw (leaf_taken es) (ef.within found)
+          leaf_taken : (nth_step way (length way - 1)).slot ≡ n
+          leaf_taken = rw es (sym en)
 
-          pub remove_start : length w.steps ≡ 34
-              → f.at ≡ records_length f.index (slot_bytes l.size b (nth_step (take w.count w.steps) (length (take w.count w.steps) - 1)).slot)
-          remove_start es = rw (leaf_taken es) ef.start
+          pub remove_slot : spot.slot ≡ (nth_step way (length way - 1)).slot
+          remove_slot = at_leaf.slot ∙ sym leaf_taken
 
-          module _ (es : length w.steps ≡ 34) (a : std.Result Tree Refusal) (h1 b1 : List ℕ)
-              (ea : edited_of l.size h1 b1 a ≡ removed_at (lent_of image l) f.index (record {
+          pub remove_spot : SpotIn l.size w.tree.used h b spot
+          remove_spot = found_spot l.size w.tree.used (state_of l.size w.tree h b) h b key n (remove_leaf n en) spot at_leaf
+
+          module _ (a : std.Result Tree Refusal) (h1 b1 : List ℕ)
+              (ea : edited_of l.size h1 b1 a ≡ removed_at (lent_of image l) spot.index (record {
                 state = state_of l.size w.tree h b;
-                steps = steps_in (take w.count w.steps);
+                steps = steps_in way;
               })) where
             edits_is : edited_of l.size h1 b1 a ≡ remove_on m key (record { state = s'; steps = ps })
-            edits_is = ea ∙ ap (λ (qs : List lookup.Step). removed_at m f.index (record { state = s'; steps = qs })) (taken es)
-                ∙ removed_is m f.index (record { state = s'; steps = ps }) key place
+            edits_is = ea ∙ ap (λ (qs : List code.Position). removed_at m spot.index (record { state = s'; steps = steps_in qs })) es
+                ∙ removed_is m spot.index (record { state = s'; steps = ps }) key place
 
             removes_is : removed m s key ≡ (edited_of l.size h1 b1 a >>= λ u. ok (record { state = u; present = true }))
             unfolding removed
@@ -249,22 +243,21 @@ module _ (image : List ℕ) (l : Lent) (t : Tree) (h0 b0 key : List ℕ) (c : Tr
       → removed_of l.size h b r' ≡ removed (lent_of image l) (state_of l.size t h0 b0) key
   call_same r' q = ap (removed_of l.size h b) (sym q) ∙ e
 
-  pub call_done : (u : Tree) (there : Bool) → r ≡ Ok (u, there) → ReadyRemoved l.size l.slots h b r → Trusts image l u h b
+  pub call_done : (u : Tree) (there : Bool) → r ≡ Ok (u, there) → ReadyAfter l.size l.slots h b r → Trusts image l u h b
   unfolding removed_of
-  call_done u there q y = trusts_of u there (call_same (Ok (u, there)) q) (subst (ReadyRemoved l.size l.slots h b) q y)
+  call_done u there q y = trusts_of u there (call_same (Ok (u, there)) q) (subst (ReadyAfter l.size l.slots h b) q y)
 
 pub ruleset removed_laws = (
   remove_lost,
   remove_stops,
   remove_low,
   remove_some,
-  remove_index,
-  remove_start,
-  remove_few,
   remove_ready,
   remove_leaf,
   remove_back,
   remove_absent,
   remove_on_way,
+  remove_slot,
+  remove_spot,
   remove_done,
 )

@@ -37,7 +37,7 @@ use Rattle.tree.specs.laws.remove.Links.{Links, links_drop, links_info, links_le
 use Rattle.tree.specs.laws.remove.Room.{Bare, bare_light}
 use Rattle.tree.specs.laws.remove.Cuts.{sized_like, cuts_fit}
 use Rattle.tree.specs.laws.remove.HandDown.{trusted_sized}
-use Rattle.tree.specs.declared.way.Step as code
+use Rattle.tree.specs.declared.editor.Position as code
 use Rattle.tree.specs.internal.Way.{nth_step}
 
 mem_some : (c : ℕ) → mem c ≡ ghost → ⊥
@@ -93,7 +93,7 @@ module _ (l : Lent) (k : List ℕ) (i : ℕ) (s : State) (x : Step) (ps : List S
 
   -- ---- nodes dropped
 
-  pub drop_room : (way : List code.Step) → steps_from way 0 (length way) ≡ x ∷ ps → DropRoom (taken_on i (x ∷ ps) s) way
+  pub drop_room : (way : List code.Position) → steps_from way 0 (length way) ≡ x ∷ ps → DropRoom (taken_on i (x ∷ ps) s) way
   drop_room way e =
       record {
         turn = λ j u v.
@@ -111,18 +111,18 @@ module _ (l : Lent) (k : List ℕ) (i : ℕ) (s : State) (x : Step) (ps : List S
             (subst (λ (qs : List Step). on_way c qs ≤ on_way c (x ∷ ps)) (sym e) (le_refl _))) in
             let f : DropFits (drop_emptied (step_of way (suc (j - 1)) ∷ steps_from way (suc (suc (j - 1))) (length way - suc (suc
             (j - 1)))) t₂).state
-            (nth_step way (j - 1)).slot (nth_step way (j - 1)).child (nth_step way (suc (j - 1))).slot =
+            (nth_step way (j - 1)).slot (nth_step way (j - 1)).index (nth_step way (suc (j - 1))).slot =
             drop_fits l w t₂ (step_of way (j - 1)) (step_of way (suc (j - 1))) xs (λ c y. le_trans y (most c)) stands₂ d' in
             let g : DropFits (drop_emptied (steps_from way (suc (j - 1)) (length way - suc (j - 1))) t₂).state (nth_step way (j - 1)).slot
             (nth_step way
-            (j - 1)).child
+            (j - 1)).index
             (nth_step way (suc (j - 1))).slot =
-            subst (λ (qs : List Step). DropFits (drop_emptied qs t₂).state (nth_step way (j - 1)).slot (nth_step way (j - 1)).child
+            subst (λ (qs : List Step). DropFits (drop_emptied qs t₂).state (nth_step way (j - 1)).slot (nth_step way (j - 1)).index
             (nth_step way (suc (j - 1))).slot)
             (sym (from_cons way (suc (j - 1)) (omega arith))) f in
             rw is_taken (subst (λ (y : ℕ). DropFits (drop_emptied (steps_from way y (length way - y)) t₂).state (nth_step way (j - 1)).slot
             (nth_step way
-            (j - 1)).child (nth_step way y).slot) z g);
+            (j - 1)).index (nth_step way y).slot) z g);
       }
 
   -- ---- what is left of the counts' check on: counts, a leveled root
@@ -172,7 +172,7 @@ module _ (l : Lent) (k : List ℕ) (i : ℕ) (s : State) (x : Step) (ps : List S
         (subst (λ (t : BTreeInfo). Like t s₅.info) (four l k s x ps st top down keys nodes).info
         (five l k s x ps st top down keys nodes).steady.like)
 
-    cuts₅ : (way : List code.Step) → steps_from way 0 (length way) ≡ x ∷ ps → Bare (shrunk keys nodes) → CutsFit l s₅ way
+    cuts₅ : (way : List code.Position) → steps_from way 0 (length way) ≡ x ∷ ps → Bare (shrunk keys nodes) → CutsFit l s₅ way
     cuts₅ way e b =
         cuts_fit l s₅ way w (λ c y. rw e at y) (five l k s x ps st top down keys nodes).stands (rw e falls₅) (λ c. rw e (once c))
         (rw e links₅)
@@ -209,7 +209,7 @@ module _ (l : Lent) (k : List ℕ) (i : ℕ) (s : State) (x : Step) (ps : List S
     pub shrunk_roomy : Roomy (2 * l.size) v
     shrunk_roomy = rw is_shrunk (roomy_shrunk _ _)
 
-    pub shrunk_cuts : (way : List code.Step) → steps_from way 0 (length way) ≡ x ∷ ps → Bare v
+    pub shrunk_cuts : (way : List code.Position) → steps_from way 0 (length way) ≡ x ∷ ps → Bare v
         → CutsFit l (index_keys (x ∷ ps) v) way
     shrunk_cuts way q b = rw is_shrunk (cuts₅ _ _ way q (rw is_shrunk at b))
 

@@ -31,7 +31,7 @@ use Rattle.tree.specs.laws.room.Edit.{Indexed, Aside, more_nodes_lem, more_count
 use Rattle.tree.specs.laws.room.Edit as room
 use Rattle.tree.specs.laws.remove.Links.{Links, links_tail, links_first}
 use Rattle.tree.specs.laws.remove.Ways.{step_of, from_cons, from_two, suffix}
-use Rattle.tree.specs.declared.way.Step as code
+use Rattle.tree.specs.declared.editor.Position as code
 use Rattle.tree.specs.internal.Way.{nth_step}
 
 -- ---- cuts below slot x: slots aside from the way stay, x keeps its first key and lives as it did
@@ -143,7 +143,7 @@ no_step x e = let z : ◌≡◌ {A = ℕ} 0 1 = ap length e in absurd (omega ari
 same_step : (x y : Step) → x ∷ [] ≡ y ∷ [] → x ≡ y
 same_step x y e = cc
 
-module _ (l : Lent) (s : State) (way : List code.Step) (w : ℕ → ℕ) (wide : (c : ℕ) → 1 ≤ on_way c (steps_from way 0 (length way)) → 1 ≤ w c)
+module _ (l : Lent) (s : State) (way : List code.Position) (w : ℕ → ℕ) (wide : (c : ℕ) → 1 ≤ on_way c (steps_from way 0 (length way)) → 1 ≤ w c)
     (st : Stands w all s) (falls : Falls s (steps_from way 0 (length way))) (once : (c : ℕ) → on_way c (steps_from way 0 (length way)) ≤ 1)
     (links : Links s (steps_from way 0 (length way))) (ix : Indexed (2 * l.size) s (steps_from way 0 (length way))) (sized : Sized s.info)
     (node : s.info.node_size ≡ l.size) where

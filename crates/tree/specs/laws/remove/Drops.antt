@@ -1,5 +1,6 @@
 -- Laws of nodes dropped on a way, bottom up, as the code drops them. Assumes nothing.
-use Rattle.std.specs.Prelude.{◌≡◌, refl, List, ◌∷◌, ℕ, zero, suc, ◌+◌, ◌-◌, ◌≤◌, ◌<◌, length}
+use Rattle.std.specs.Int.{from_bool}
+use Rattle.std.specs.Prelude.{◌≡◌, refl, List, ◌∷◌, Bool, true, false, ℕ, zero, suc, ◌+◌, ◌-◌, ◌≤◌, ◌<◌, length}
 use Rattle.std.proofs.Math.Path.{sym}
 use Rattle.std.proofs.Common.{ap, subst, ◌∙◌}
 use native.Mathlib.Omega.{arith}
@@ -23,7 +24,7 @@ use Rattle.tree.specs.laws.trust.Loads.{by_list}
 use Rattle.tree.specs.laws.remove.Words.{put_rewritten}
 use Rattle.tree.specs.laws.remove.Ways.{step_of, from_cons, from_start}
 use Rattle.tree.specs.declared.editor.Tree.{Tree}
-use Rattle.tree.specs.declared.way.Step as code
+use Rattle.tree.specs.declared.editor.Position as code
 
 -- ---- one node
 
@@ -98,6 +99,10 @@ module _ (size slots n i c count : ℕ) (t : Tree) (h0 b0 : List ℕ) (r : Ready
         count = ap (λ (d : Dropped). d.nodes) q;
       }
 
+pub one_at_most : (b : Bool) → from_bool b ≤ 1
+one_at_most false = omega arith
+one_at_most true = omega arith
+
 -- ---- a way
 
 -- how many were dropped before does not matter
@@ -110,7 +115,7 @@ unfolding drop_node
 split_nodes x c d = by_list (node_at d.state c).entries (λ q. rw q (omega arith)) (λ y ys q. rw q (omega arith))
 
 -- one step has no node below it
-drop_few : (way : List code.Step) (j m : ℕ) (s : State) → m ≤ 1 → drop_emptied (steps_from way j m) s ≡ record { state = s; nodes = 0 }
+drop_few : (way : List code.Position) (j m : ℕ) (s : State) → m ≤ 1 → drop_emptied (steps_from way j m) s ≡ record { state = s; nodes = 0 }
 unfolding steps_from drop_emptied
 drop_few way j zero s h = refl
 drop_few way j (suc zero) s h = refl
@@ -120,7 +125,7 @@ drop_cons : (x y : Step) (l ys : List Step) (s : State) → l ≡ y ∷ ys → d
 unfolding drop_emptied
 drop_cons x y l ys s e = rw e
 
-module _ (size slots : ℕ) (t : Tree) (way : List code.Step) (h0 b0 : List ℕ) where
+module _ (size slots : ℕ) (t : Tree) (way : List code.Position) (h0 b0 : List ℕ) where
   abbrev from : ℕ → Dropped
   from j = drop_emptied (steps_from way j (length way - j)) (state_of size t h0 b0)
 
@@ -150,7 +155,7 @@ module _ (size slots : ℕ) (t : Tree) (way : List code.Step) (h0 b0 : List ℕ)
       drop_next : (h' b' : List ℕ) (one : ℕ)
           → Emptied size slots t h b h' b' (drop_node (record {
             slot = (nth_step way (j - 1)).slot;
-            child = (nth_step way (j - 1)).child;
+            child = (nth_step way (j - 1)).index;
           }) (nth_step way j).slot (record { state = state_of size t h b; nodes = 0 })) one
           → Emptied size slots t h0 b0 h' b' (drop_emptied (steps_from way (j - 1) (length way - (j - 1))) (state_of size t h0 b0)) (dropped + one)
       drop_next h' b' one f =
@@ -177,14 +182,14 @@ module _ (size slots : ℕ) (t : Tree) (way : List code.Step) (h0 b0 : List ℕ)
                 omega (arith, e.count, f.count);
           }
 
-      module _ (x y : code.Step) (ex : x ≡ nth_step way (j - 1)) (ey : y ≡ nth_step way j) where
+      module _ (x y : code.Position) (ex : x ≡ nth_step way (j - 1)) (ey : y ≡ nth_step way j) where
         pub emptied_place : WayIn t.used way → DropRoom (state_of size t h0 b0) way
-            → (x.slot < t.used) × (y.slot < t.used) × DropFits (state_of size t h b) x.slot x.child y.slot
+            → (x.slot < t.used) × (y.slot < t.used) × DropFits (state_of size t h b) x.slot x.index y.slot
         emptied_place w r = rw (ex, ey, e.rest.state) (w.slot (j - 1) (omega arith), w.slot j v, r.turn j u v)
 
         pub emptied_next : (h' b' : List ℕ) (one : ℕ)
             → Emptied size slots t h b h' b'
-            (drop_node (record { slot = x.slot; child = x.child }) y.slot (record { state = state_of size t h b; nodes = 0 })) one
+            (drop_node (record { slot = x.slot; child = x.index }) y.slot (record { state = state_of size t h b; nodes = 0 })) one
             → Emptied size slots t h0 b0 h' b' (drop_emptied (steps_from way (j - 1) (length way - (j - 1))) (state_of size t h0 b0)) (dropped + one)
         emptied_next h' b' one = rw (ex, ey) (drop_next h' b' one)
 

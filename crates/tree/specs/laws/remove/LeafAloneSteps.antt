@@ -1,5 +1,5 @@
 -- Laws of the steps of a remove that changes an entry of its leaf alone: the way looked at, the entry taken. Assumes nothing.
-use Rattle.std.specs.Prelude.{◌≡◌, refl, List, Bool, true, not, ℕ, zero, suc, ◌+◌, ◌-◌, ◌≤◌, ◌<◌, length, drop, eqb}
+use Rattle.std.specs.Prelude.{◌≡◌, refl, List, Bool, true, not, ℕ, zero, suc, ◌-◌, ◌≤◌, ◌<◌, length, drop, eqb}
 use Rattle.std.proofs.Math.Path.{sym, ap}
 use Rattle.std.proofs.Common.{subst, ◌∙◌, arith}
 use Rattle.std.proofs.Math.Bool.{false}
@@ -7,26 +7,19 @@ use borrow.Author.Tests.{not-false, not-true}
 use Rattle.std.proofs.lemmas.Bool.{eqb-false}
 use Rattle.node.specs.laws.base.Tests.{by_test, never, and_split}
 use Rattle.node.specs.Order.{keyed, same_key}
-use Rattle.node.specs.Entry.{Entry, Val}
-use Rattle.node.specs.Find.{key_at, way_index}
-use Rattle.node.specs.Records.{record_length, records_length, entry_of, entries_of}
+use Rattle.node.specs.Entry.{mem}
+use Rattle.node.specs.Find.{key_at, val_at, way_index}
+use Rattle.node.specs.Records.{entry_of}
 use Rattle.node.specs.Slot.{MemNode, head_at, node_of, remove_at}
-use Rattle.node.specs.internal.SlotSteps.{last_in}
-use Rattle.node.specs.laws.order.Found.{above_le}
-use Rattle.node.specs.laws.slot.Records.{length_entries}
 use Rattle.node.specs.declared.head.Head.{Head}
-use Rattle.node.specs.declared.slot.Last.{Last}
 use Rattle.tree.specs.State.{State, node_at, put_node, with_info, with_counts, with_entries}
 use Rattle.tree.specs.Trust.{stand_together, trusted}
 use Rattle.tree.specs.Workspace.{state_of}
 use Rattle.tree.specs.internal.Bank.{node_in, Ready, Wrote, Put}
 use Rattle.tree.specs.internal.Cutting.{stays_whole}
-use Rattle.tree.specs.internal.Kids.{slots_of, kid_means}
-use Rattle.tree.specs.internal.Loaded.{TakenOf, LedTo, LedLeaf}
+use Rattle.tree.specs.internal.Loaded.{TakenBy, LedTo, LedLeaf}
 use Rattle.tree.specs.internal.Still.{Settled, GoesOn, StillOf, StillTo, StillLeaf, StaysAbove, StillRemoved}
 use Rattle.tree.specs.laws.trust.Stands.{stands_of}
-use Rattle.tree.specs.laws.load.LoadedWay.{taken_lies, taken_is}
-use Rattle.tree.specs.laws.slots.Records.{key_found}
 use Rattle.tree.specs.laws.slots.Tree.{used_nodes, node_in_lem}
 use Rattle.tree.specs.laws.trust.Named.{live_used}
 use Rattle.tree.specs.laws.slots.Undo.{put_of}
@@ -45,11 +38,12 @@ use Rattle.tree.specs.internal.Edits.{Trusts, RemovedCalled}
 use Rattle.tree.specs.laws.remove.HandDown.{trusted_sized}
 use Rattle.tree.specs.laws.remove.Call.{call_done}
 use Rattle.node.specs.Fit.{Sized}
-use Rattle.node.specs.declared.slot.Found.{Found}
 use Rattle.node.specs.declared.info.BTreeInfo.{BTreeInfo}
 use Rattle.node.specs.Result.{Result, ok}
 use Rattle.tree.specs.declared.editor.Tree.{Tree}
+use Rattle.tree.specs.declared.floor.Spot.{Spot}
 use Rattle.tree.specs.declared.loaded.Taken.{Taken}
+use Rattle.node.specs.declared.record.Record.{Record}
 use Rattle.std.specs.Prelude.{Ok, Some, None, Option}
 use Rattle.std.proofs.lemmas.Option.{same_Some}
 
@@ -101,45 +95,23 @@ module _ (size : ℕ) (t : Tree) (h b : List ℕ) where
 
   -- ---- the entry gone on by
 
-  module _ (key : List ℕ) (n : ℕ) (q : Settled (state_of size t h b) n) (count : ℕ) (z : count ≡ 0 → ⊥) (l : List ℕ)
-      (still_room : records_length count l ≤ length l) (el : (node_at (state_of size t h b) n).entries ≡ entries_of count l) (y : Last)
-      (ey : y ≡ last_in t.order.code key count l) where
-    abbrev i : ℕ
-    i = way_index t.order.code key (entries_of count l)
+  module _ (key : List ℕ) (n : ℕ) (q : Settled (state_of size t h b) n) (x : Option (Record × Taken))
+      (tb : TakenBy t.order.code key (node_at (state_of size t h b) n).entries x) (r : Record) (y : Taken) (ex : x ≡ Some (r, y)) where
+    pub still_on : (k f : List ℕ) → k ≡ (entry_of (drop r.at r.slot.now)).key → f ≡ key_at (node_at (state_of size t h b) y.slot).entries 0
+        → (e : Bool) → e ≡ not (same_key k f) → e ≡ false → StillOf (state_of size t h b) key n (Some y)
+    unfolding state_of
+    still_on k f ek ef e ee u =
+        let kk : k ≡ key_at (node_at s n).entries (way_index t.order.code key (node_at s n).entries) = ek ∙ tb.key (r, y) ex in
+        let ch : val_at (node_at s n).entries (way_index t.order.code key (node_at s n).entries) ≡ mem y.slot = tb.child (r, y) ex in
+        let on : GoesOn s key n y.slot =
+        record {
+          child = ch;
+          same = rw (← kk, ← ef) (not-false (same_key k f) (sym ee ∙ u));
+          settled = q;
+        } in
+        record { on = λ w g. subst (λ (o : Taken). GoesOn s key n o.slot) (same_Some y w g) on }
 
-    inside : i < count
-    unfolding way_index
-    inside = omega (arith, above_le t.order.code key (entries_of count l), length_entries count l)
-
-    start : y.at ≡ records_length i l
-    unfolding last_in way_index
-    start = rw ey
-
-    pub still_lies : y.at + record_length (drop y.at l) ≤ length l
-    still_lies = taken_lies t.order.code key l count still_room z y ey
-
-    module _ (v : Val) (ev : v ≡ (entry_of (drop y.at l)).value) (kid : Option ℕ) (ek : kid_means kid ≡ slots_of v) (m : ℕ) (ec : kid ≡ Some m)
-        (k f : List ℕ)
-        (ekey : k ≡ (entry_of (drop y.at l)).key)
-        (ef : f ≡ key_at (node_at (state_of size t h b) m).entries 0) (e : Bool) (ee : e ≡ not (same_key k f)) where
-      key_is : k ≡ key_at (node_at s n).entries (way_index t.order.code key (node_at s n).entries)
-      key_is =
-          key_found (node_at s n).entries count l el i y.at inside l refl start k ekey
-          ∙ ap (λ (z : List Entry). key_at (node_at s n).entries (way_index t.order.code key z)) (sym el)
-
-      pub still_on : e ≡ false → (j : ℕ) → j ≡ y.count - 1
-          → StillOf (state_of size t h b) key n (Some (record { index = j; slot = m }))
-      still_on u j ej =
-          let o : Taken = record { index = j; slot = m } in
-          let q' : TakenOf t.order.code key (node_at s n).entries (Some o) =
-          rw el (taken_is t.order.code key l count still_room z y ey j ej v ev kid ek m ec) in
-          let on : GoesOn s key n m =
-          record {
-            child = (unfold state_of in q'.child o refl);
-            same = (unfold state_of in rw (← key_is, ← ef) (not-false (same_key k f) (sym ee ∙ u)));
-            settled = q;
-          } in
-          record { on = λ w g. subst (λ (o : Taken). GoesOn s key n o.slot) (same_Some o w g) on }
+  pub ruleset still_at_laws = (settled_then, still_on)
 
   -- ---- the entry taken
 
@@ -159,29 +131,29 @@ module _ (size : ℕ) (t : Tree) (h b : List ℕ) where
   root_used st = (unfold state_of in omega (arith, used_nodes size t h b, live_used s t.root (stands_of s st).root))
 
   module _ (slots : ℕ) (key : List ℕ) (n : ℕ) (r : Ready size slots t.used h b) (st : stand_together (state_of size t h b) ≡ true) (hn : n < t.used)
-      (q : StillLeaf t.used (state_of size t h b) key (Some n)) (f : Found) (ff : FoundAt size (state_of size t h b) h b n key f)
-      (found : f.found ≡ true)
-      (a : StaysAbove (state_of size t h b) n f.index) (h' b' : List ℕ) (eh : length h' ≡ length h) (eb : length b' ≡ length b)
-      (w : Wrote size h b h' b' n (edited Kept (node_in size h b n) (remove_at f.index (node_in size h b n).entries))) where
-    put : Put size slots h b h' b' n (edited Kept (node_in size h b n) (remove_at f.index (node_in size h b n).entries))
-    put = put_of size slots h b h' b' n (edited Kept (node_in size h b n) (remove_at f.index (node_in size h b n).entries)) w
+      (q : StillLeaf t.used (state_of size t h b) key (Some n)) (spot : Spot)
+      (ff : FoundAt size (state_of size t h b) h b n key (Ok spot)) (a : StaysAbove (state_of size t h b) n spot.index)
+      (h' b' : List ℕ) (eh : length h' ≡ length h) (eb : length b' ≡ length b)
+      (w : Wrote size h b h' b' n (edited Kept (node_in size h b n) (remove_at spot.index (node_in size h b n).entries))) where
+    put : Put size slots h b h' b' n (edited Kept (node_in size h b n) (remove_at spot.index (node_in size h b n).entries))
+    put = put_of size slots h b h' b' n (edited Kept (node_in size h b n) (remove_at spot.index (node_in size h b n).entries)) w
 
     pub still_ready : Ready size slots t.used h' b'
     still_ready =
-        put_ready size slots h b h' b' n (edited Kept (node_in size h b n) (remove_at f.index (node_in size h b n).entries)) put t.used r eh eb
+        put_ready size slots h b h' b' n (edited Kept (node_in size h b n) (remove_at spot.index (node_in size h b n).entries)) put t.used r eh eb
 
     module _ (i : BTreeInfo) (ei : i ≡ with_counts t.info (t.info.key_count - 1) t.info.node_count) where
       abbrev u : Tree
       u = record { root = t.root; used = t.used; info = i; by_id = t.by_id; subtype = t.subtype; order = t.order; xid = t.xid }
 
-      after_is : state_of size u h' b' ≡ taken s n f.index
+      after_is : state_of size u h' b' ≡ taken s n spot.index
       unfolding state_of with_info
       after_is =
-          let e : state_of size t h' b' ≡ put_node s n (edited Kept (node_in size h b n) (remove_at f.index (node_in size h b n).entries)) =
-          put_state size slots n t h b h' b' r hn eh eb (edited Kept (node_in size h b n) (remove_at f.index (node_in size h b n).entries)) put in
+          let e : state_of size t h' b' ≡ put_node s n (edited Kept (node_in size h b n) (remove_at spot.index (node_in size h b n).entries)) =
+          put_state size slots n t h b h' b' r hn eh eb (edited Kept (node_in size h b n) (remove_at spot.index (node_in size h b n).entries)) put in
           let x : BTreeInfo = with_counts t.info (t.info.key_count - 1) t.info.node_count in
           ap (λ (y : BTreeInfo). with_info (state_of size t h' b') y) ei ∙ ap (λ (y : State). with_info y x) e
-          ∙ ap (λ (y : MemNode). with_info (put_node s n (with_entries y (remove_at f.index y.entries))) x) (sym (node_in_lem size t h b n hn))
+          ∙ ap (λ (y : MemNode). with_info (put_node s n (with_entries y (remove_at spot.index y.entries))) x) (sym (node_in_lem size t h b n hn))
 
       pub still_answer : (l : Lent)
           → ok (record {
@@ -198,7 +170,7 @@ module _ (size : ℕ) (t : Tree) (h b : List ℕ) where
           }) ≡ removed l (state_of size t h b) key
       still_answer l =
           ap yes after_is
-          ∙ sym (still_removed l s key n f.index (stands_of s st) a (sym ff.there ∙ found) ff.place (q.leads n refl))
+          ∙ sym (still_removed l s key n spot.index (stands_of s st) a (sym ff.there) ff.place (q.leads n refl))
 
   pub leaf_used : (key : List ℕ) (n : ℕ) → StillLeaf t.used (state_of size t h b) key (Some n) → n < t.used
   leaf_used key n q = q.within n refl
@@ -247,3 +219,5 @@ module _ (image : List ℕ) (l : lends.Lent) (t : Tree) (h b : List ℕ) (c : Tr
       yes_left = call_done image l t h b key c h' b' (Ok (u, true)) is u true refl made.2
 
 pub ruleset remove_in_laws = (stand_of, sized_of, yes_answer)
+
+pub ruleset remove_still_laws = (root_used, leaf_used, leaf_keyed, still_answer, still_ready)

@@ -32,7 +32,7 @@ use Rattle.tree.specs.laws.room.Edit.{KeysMost, keys_indexes, inner_most}
 use Rattle.tree.specs.laws.room.Each.{roomy_keys, each_keys}
 use Rattle.tree.specs.laws.remove.Ways.{step_of, from_cons, from_start, suffix}
 use Rattle.tree.specs.declared.editor.Tree.{Tree}
-use Rattle.tree.specs.declared.way.Step as code
+use Rattle.tree.specs.declared.editor.Position as code
 
 -- ---- dead slots have no entries
 
@@ -133,7 +133,7 @@ tail_once : (c : ℕ) (x y : Step) (xs : List Step) → on_way c (x ∷ y ∷ xs
 tail_once c x y xs h = omega arith
 
 module _ (size slots : ℕ) (t : Tree) (h b : List ℕ) (r : Ready size slots t.used h b) (bb : Bytes b) (ro : Roomy (2 * size) (state_of size t h b))
-    (way : List code.Step) (once : (c : ℕ) → on_way c (steps_in way) ≤ 1) (scratch : ℕ) (room : 2 * size ≤ scratch) where
+    (way : List code.Position) (once : (c : ℕ) → on_way c (steps_in way) ≤ 1) (scratch : ℕ) (room : 2 * size ≤ scratch) where
   abbrev s : State
   s = state_of size t h b
 

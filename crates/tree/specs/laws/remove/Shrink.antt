@@ -36,7 +36,7 @@ use Rattle.tree.specs.laws.remove.Ways.{leaf_is}
 use Rattle.tree.specs.declared.editor.Tree.{Tree}
 use Rattle.std.specs.Prelude.{Ok, Err}
 use Rattle.node.specs.declared.refusal.Refusal.TheVariants as is
-use Rattle.tree.specs.declared.way.Step as code
+use Rattle.tree.specs.declared.editor.Position as code
 
 -- ---- where an entry starts, of the entries before it
 
@@ -71,7 +71,7 @@ module _ (size₀ slots n i : ℕ) (t : Tree) (h b h' b' : List ℕ) (r : Ready 
 
 -- ---- the leaf's entry
 
-module _ (size₀ slots i : ℕ) (t : Tree) (way : List code.Step) (h0 b0 h1 b1 : List ℕ) (r : Ready size₀ slots t.used h0 b0) (w : WayIn
+module _ (size₀ slots i : ℕ) (t : Tree) (way : List code.Position) (h0 b0 h1 b1 : List ℕ) (r : Ready size₀ slots t.used h0 b0) (w : WayIn
     t.used way) (some : 1 ≤ length way)
     (d : Touched size₀ slots t way h0 b0 h1 b1) where
   abbrev n : ℕ
@@ -118,7 +118,7 @@ module _ (size₀ slots i : ℕ) (t : Tree) (way : List code.Step) (h0 b0 h1 b1 
 
 -- ---- then the nodes that it emptied
 
-module _ (size₀ slots i : ℕ) (t : Tree) (way : List code.Step) (h0 b0 h2 b2 : List ℕ) (k : Rewritten size₀ slots t h0 b0 h2 b2 (taken_on i
+module _ (size₀ slots i : ℕ) (t : Tree) (way : List code.Position) (h0 b0 h2 b2 : List ℕ) (k : Rewritten size₀ slots t h0 b0 h2 b2 (taken_on i
     (steps_in way) (state_of size₀ t h0 b0))) where
   abbrev qs : List Step
   qs = steps_in way

@@ -17,12 +17,12 @@ use Rattle.tree.specs.Edit.{index_keys, parted, root_entries, grow_root, link_ri
 use Rattle.tree.specs.Remove.{hand_down}
 use Rattle.tree.specs.Workspace.{state_of}
 use Rattle.tree.specs.Answers.{edited_of}
-use Rattle.tree.specs.internal.Bank.{Ready}
+use Rattle.tree.specs.internal.Bank.{Ready, ReadyTree}
 use Rattle.tree.specs.internal.Undo.{Follows}
 use Rattle.tree.specs.internal.Room.{Roomy}
 use Rattle.tree.specs.internal.Way.{nth_step, steps_in, WayIn}
 use Rattle.tree.specs.internal.Index.{Rewritten, steps_from, IndexRoom}
-use Rattle.tree.specs.internal.Edits.{ReadyEdited, CutsFit}
+use Rattle.tree.specs.internal.Edits.{CutsFit}
 use Rattle.tree.specs.internal.Removing.{DropRoom, taken_on, shrunk_at, removed_at, OnWay, SameUsed}
 use Rattle.tree.specs.laws.state.State.{put_count, add_count}
 use Rattle.tree.specs.laws.state.Edit.{parted_count}
@@ -48,7 +48,7 @@ use Rattle.std.specs.Prelude as std
 use Rattle.std.specs.Prelude.{Ok, Err}
 use Rattle.node.specs.Refusals.{number_of}
 use Rattle.node.specs.declared.refusal.Refusal.{Refusal}
-use Rattle.tree.specs.declared.way.Step as code
+use Rattle.tree.specs.declared.editor.Position as code
 
 -- ---- cuts take slots and give none back
 
@@ -94,7 +94,7 @@ cuts_longer l (x ∷ ps) s =
     record { at = λ u q. le_trans ((under_longer l x ps s).at t e) ((top_longer l x.slot t).at u q) }
 
 -- what fits with some lent fits with as many slots and as large blocks
-fits_slots : (l l' : lent.Lent) (s : State) (way : List code.Step) → l'.slots ≡ l.slots → l'.size ≡ l.size → CutsFit l s way
+fits_slots : (l l' : lent.Lent) (s : State) (way : List code.Position) → l'.slots ≡ l.slots → l'.size ≡ l.size → CutsFit l s way
     → CutsFit l' s way
 fits_slots l l' s way e f c =
     record { turn = λ j h u q. rw f (c.turn j h u (sym (cuts_slots l l' _ _ s e) ∙ q)) }
@@ -131,7 +131,7 @@ size_of : (image : List ℕ) (l : Lent) → (lent_of image l).size ≡ l.size
 unfolding lent_of
 size_of image l = refl
 
-module _ (image : List ℕ) (l : Lent) (t₀ : Tree) (h0 b0 : List ℕ) (way : List code.Step) (i : ℕ)
+module _ (image : List ℕ) (l : Lent) (t₀ : Tree) (h0 b0 : List ℕ) (way : List code.Position) (i : ℕ)
     (on : OnWay (lent_of image l) (state_of l.size t₀ h0 b0) (steps_in way) i) where
   abbrev m : lent.Lent
   m = lent_of image l
@@ -198,7 +198,7 @@ module _ (image : List ℕ) (l : Lent) (t₀ : Tree) (h0 b0 : List ℕ) (way : L
     unfolding edited_of
     on_refused x q = shrunk_refused m i (record { state = s; steps = ps }) (number_of x) (ap (edited_of l.size h1 b1) (sym q) ∙ ea)
 
-    module _ (t : Tree) (q : a ≡ Ok t) (r : ReadyEdited l.size l.slots h1 b1 a) (same : SameUsed t₀.used a) where
+    module _ (t : Tree) (q : a ≡ Ok t) (r : ReadyTree l.size l.slots h1 b1 a) (same : SameUsed t₀.used a) where
       abbrev v : State
       v = state_of l.size t h1 b1
 
@@ -213,7 +213,7 @@ module _ (image : List ℕ) (l : Lent) (t₀ : Tree) (h0 b0 : List ℕ) (way : L
       used_same = subst (SameUsed t₀.used) q same
 
       pub on_ready : Ready l.size l.slots t.used h1 b1
-      on_ready = subst (ReadyEdited l.size l.slots h1 b1) q r
+      on_ready = subst (ReadyTree l.size l.slots h1 b1) q r
 
       pub on_still : WayIn t.used way
       on_still = rw used_same on_in
@@ -263,8 +263,8 @@ module _ (image : List ℕ) (l : Lent) (t₀ : Tree) (h0 b0 : List ℕ) (way : L
             unfolding edited_of
             is_cut = ap (edited_of l.size h3 b3) (sym y) ∙ ec ∙ same_cuts
 
-            pub on_cut : ReadyEdited l.size l.slots h3 b3 c → Ready l.size l.slots u.used h3 b3
-            on_cut k = subst (ReadyEdited l.size l.slots h3 b3) y k
+            pub on_cut : ReadyTree l.size l.slots h3 b3 c → Ready l.size l.slots u.used h3 b3
+            on_cut k = subst (ReadyTree l.size l.slots h3 b3) y k
 
             pub on_trust : trusted (lent_of image l) (state_of l.size u h3 b3) ≡ true
             on_trust =

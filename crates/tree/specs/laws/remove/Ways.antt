@@ -10,7 +10,7 @@ use Rattle.tree.specs.internal.Way.{nth_step, steps_of, steps_in}
 use Rattle.tree.specs.internal.Index.{steps_from}
 use Rattle.tree.specs.laws.trust.Named.{names_same}
 use Rattle.tree.specs.laws.trust.Edit.{on_way}
-use Rattle.tree.specs.declared.way.Step as code
+use Rattle.tree.specs.declared.editor.Position as code
 
 leaf_end : (xs : List Step) (x : Step) → leaf_of (xs ++ x ∷ []) ≡ x.slot
 unfolding leaf_of
@@ -18,9 +18,9 @@ leaf_end [] x = refl
 leaf_end (y ∷ []) x = refl
 leaf_end (y ∷ z ∷ ys) x = leaf_end (z ∷ ys) x
 
-module _ (way : List code.Step) where
+module _ (way : List code.Position) where
   abbrev pub step_of : ℕ → Step
-  step_of j = record { slot = (nth_step way j).slot; child = (nth_step way j).child }
+  step_of j = record { slot = (nth_step way j).slot; child = (nth_step way j).index }
 
   pub from_cons : (j : ℕ) → j < length way → steps_from way j (length way - j) ≡ step_of j ∷ steps_from way (suc j) (length way - suc j)
   unfolding steps_from

@@ -1,52 +1,22 @@
 -- Laws of a slot's node packed into a block. Assumes nothing.
-use Rattle.std.specs.Prelude.{◌≡◌, refl, false, cond, Option, is_some, unwrap_or, List, map, Bool, true, ℕ, ◌*◌, ◌<◌, eqb}
+use Rattle.std.specs.Prelude.{◌≡◌, refl, false, cond, List, map, Bool, true, ℕ, ◌<◌, eqb}
 use Rattle.std.specs.Int.{from_bool}
-use Rattle.std.proofs.Common.{ap, ◌∙◌}
+use Rattle.std.proofs.Common.{◌∙◌}
 use Rattle.node.specs.Bytes.{splice}
 use Rattle.node.specs.Records.{entries_of}
 use Rattle.node.specs.Fit.{fits}
 use Rattle.node.specs.Pack.{pack_node, child_number, numbered}
-use Rattle.node.specs.Slot.{head_at, head_words}
-use Rattle.node.specs.declared.head.Head.{Head}
 use Rattle.tree.specs.State.{node_at}
 use Rattle.tree.specs.Workspace.{state_of}
 use Rattle.tree.specs.laws.slots.Tree.{node_in_lem}
 use Rattle.tree.specs.internal.Bank.{node_in}
-use Rattle.tree.specs.internal.Block.{written_head, packed_slot}
+use Rattle.tree.specs.internal.Block.{packed_slot}
 use Rattle.tree.specs.declared.editor.Tree.{Tree}
 
 -- a truth value as a number
 pub bool_number : (b : Bool) → from_bool b ≡ cond b 1 0
 bool_number true = refl
 bool_number false = refl
-
-pub words_written : (heads heads' : List ℕ) (n a named number : ℕ) (id : Option ℕ) (is : Bool) (h : Head) → h ≡ head_at heads n
-    → is_some id ≡ is → named ≡ from_bool is → number ≡ unwrap_or id 0
-    → heads' ≡ splice heads (n * 9) (head_words (record {
-      level = h.level;
-      count = h.count;
-      used = h.used;
-      placed = 1;
-      block = a;
-      named = named;
-      id = number;
-      dirty = 0;
-      dead = h.dead;
-    }))
-    → heads' ≡ splice heads (n * 9) (head_words (written_head (head_at heads n) a id))
-unfolding written_head
-words_written heads heads' n a named number id is h e s m i q =
-    q ∙ rw (e, i, m, s) (ap (λ (k : ℕ). splice heads (n * 9) (head_words (record {
-      level = (head_at heads n).level;
-      count = (head_at heads n).count;
-      used = (head_at heads n).used;
-      placed = 1;
-      block = a;
-      named = k;
-      id = unwrap_or id 0;
-      dirty = 0;
-      dead = (head_at heads n).dead;
-    }))) (bool_number is))
 
 module _ (size n : ℕ) (t : Tree) (heads bytes : List ℕ) (hn : n < t.used)
     (level : ℕ) (el : level ≡ (node_at (state_of size t heads bytes) n).level) (count : ℕ) (l : List ℕ)

@@ -11,7 +11,7 @@ use Rattle.node.specs.declared.head.Head.{Head}
 use Rattle.tree.specs.State.{no_node, node_at}
 use Rattle.tree.specs.Workspace.{slot_bytes, state_of}
 use Rattle.tree.specs.internal.Bank.{node_in, live, Lies, Ready}
-use Rattle.tree.specs.internal.Tree.{child_of}
+use Rattle.node.specs.internal.Children.{child_of}
 use Rattle.tree.specs.laws.slots.Bank.{live_entries}
 use Rattle.tree.specs.laws.slots.Tree.{node_in_lem, node_out, none_child}
 use Rattle.tree.specs.laws.slots.OneSlot.{slot_long}

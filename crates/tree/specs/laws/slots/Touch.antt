@@ -16,7 +16,7 @@ use Rattle.tree.specs.laws.slots.Bank.{put_set, put_ready}
 use Rattle.tree.specs.laws.slots.Undo.{follows_same, follows_on}
 use Rattle.tree.specs.laws.slots.Tree.{node_in_lem}
 use Rattle.tree.specs.declared.editor.Tree.{Tree}
-use Rattle.tree.specs.declared.way.Step as code
+use Rattle.tree.specs.declared.editor.Position as code
 
 -- ---- one slot
 
@@ -43,7 +43,7 @@ leaf_snoc [] x = refl
 leaf_snoc (y ∷ []) x = refl
 leaf_snoc (y ∷ z ∷ ys) x = leaf_snoc (z ∷ ys) x
 
-module _ (size slots : ℕ) (t : Tree) (way : List code.Step) (h0 b0 : List ℕ) where
+module _ (size slots : ℕ) (t : Tree) (way : List code.Position) (h0 b0 : List ℕ) where
   pub dirtied_none : Ready size slots t.used h0 b0 → Dirtied size slots t way 0 h0 b0 h0 b0
   unfolding steps_of mark_way
   dirtied_none r = record { state = refl; ready = r; follows = follows_same size slots t.used h0 b0 }
@@ -61,7 +61,7 @@ module _ (size slots : ℕ) (t : Tree) (way : List code.Step) (h0 b0 : List ℕ)
           let n : ℕ = (nth_step way j).slot in
           record {
             state = dirty_state size slots n t h b h' b' d.ready.within (w.slot j u) p
-                ∙ rw (d.state, add-one) (sym (way_snoc (steps_of way j) (record { slot = n; child = (nth_step way j).child })
+                ∙ rw (d.state, add-one) (sym (way_snoc (steps_of way j) (record { slot = n; child = (nth_step way j).index })
                 (state_of size t h0 b0)));
             ready = put_ready size slots h b h' b' n (marked_dirty (node_in size h b n)) p t.used d.ready eh eb;
             follows = follows_on size slots t.used t.used h0 b0 h b h' b' d.follows f (omega arith);
@@ -72,7 +72,7 @@ module _ (size slots : ℕ) (t : Tree) (way : List code.Step) (h0 b0 : List ℕ)
 
 -- ---- touch
 
-module _ (size slots : ℕ) (t : Tree) (way : List code.Step) (h0 b0 : List ℕ) where
+module _ (size slots : ℕ) (t : Tree) (way : List code.Position) (h0 b0 : List ℕ) where
   physical : not t.by_id ≡ true → (state_of size t h0 b0).virtual ≡ false
   unfolding state_of
   physical q = not-true t.by_id q
@@ -103,7 +103,7 @@ module _ (size slots : ℕ) (t : Tree) (way : List code.Step) (h0 b0 : List ℕ)
     leaf_is =
         let z : length way ≡ suc (length way - 1) = omega arith in
         ap (λ (k : ℕ). lookup.leaf_of (steps_of way k)) z ∙ leaf_snoc (steps_of way (length way - 1))
-        (record { slot = (nth_step way (length way - 1)).slot; child = (nth_step way (length way - 1)).child })
+        (record { slot = (nth_step way (length way - 1)).slot; child = (nth_step way (length way - 1)).index })
 
     touch_by_id : touch (steps_in way) (state_of size t h0 b0) ≡ mark_dirty (mark_dirty (state_of size t h0 b0) t.root)
         (nth_step way (length way - 1)).slot

@@ -17,7 +17,7 @@ use Rattle.tree.specs.laws.state.Load.{brought}
 use Rattle.tree.specs.internal.Bank.{node_in, Ready, Wrote, Put}
 use Rattle.tree.specs.laws.slots.Bank.{length_nodes, node_at_lem, put_set, put_add, put_ready, add_ready}
 use Rattle.tree.specs.laws.slots.Undo.{put_of}
-use Rattle.tree.specs.internal.Tree.{child_of}
+use Rattle.node.specs.internal.Children.{child_of}
 use Rattle.tree.specs.declared.editor.Tree.{Tree}
 use Rattle.std.specs.Prelude.{None}
 

@@ -1,5 +1,5 @@
 -- Upsert as a call: the way, then the edit on it; refused, every slot is as it was; 12 first. Assumes nothing.
-use Rattle.std.specs.Prelude.{take, ◌≡◌, refl, Bool, true, false, ℕ, ◌≤◌, length}
+use Rattle.std.specs.Prelude.{◌≡◌, refl, Bool, true, false, ℕ, ◌≤◌}
 use Rattle.std.proofs.Math.Path.{sym, ap}
 use Rattle.std.proofs.Common.{◌∙◌, arith}
 use mathlib.Core.List.{List, []}
@@ -13,9 +13,10 @@ use Rattle.tree.specs.Upsert.{upsert_on, entry_fits, upserted, upsert_in}
 use Rattle.tree.specs.Workspace.{state_of}
 use Rattle.tree.specs.Answers.{edited_of}
 use Rattle.tree.specs.Trusts.{Stays}
+use Rattle.tree.specs.internal.Bank.{ReadyBy, ReadyTree}
 use Rattle.tree.specs.internal.Undo.{Follows}
-use Rattle.tree.specs.internal.Way.{steps_of, steps_in, walked_of, way_of, WayReady}
-use Rattle.tree.specs.internal.Edits.{Trusts, ReadyEdited}
+use Rattle.tree.specs.internal.Way.{walked_of, way_of}
+use Rattle.tree.specs.internal.Edits.{Trusts}
 use Rattle.tree.specs.internal.Upserting.{way_gone, Gone}
 use Rattle.tree.specs.laws.slots.Undo.{follows_on}
 use Rattle.tree.specs.laws.slots.Tree.{used_nodes}
@@ -23,13 +24,13 @@ use Rattle.tree.specs.laws.trust.Stands.{trusted_of}
 use Rattle.tree.specs.laws.trust.Loads.{way_root}
 use Rattle.tree.specs.laws.trust.Upsert.{trusted_upsert}
 use Rattle.tree.specs.laws.room.Calls.{roomy_upsert}
-use Rattle.tree.specs.laws.load.Way.{steps_taken}
-use Rattle.tree.specs.laws.lookup.GetCall.{way_low, way_is, get_few, get_ready}
+use Rattle.tree.specs.laws.lookup.GetCall.{way_low, way_is, get_ready}
 use Rattle.tree.specs.laws.refusal1.EditCalls.{edited_trusts}
 use Rattle.tree.specs.laws.upsert.Parts.{on_slots}
 use Rattle.tree.specs.declared.editor.Tree.{Tree}
 use Rattle.tree.specs.declared.lent.Lent.{Lent}
 use Rattle.tree.specs.declared.way.Way.{Way}
+use Rattle.tree.specs.declared.editor.Position as code
 use Rattle.std.specs.Prelude as std
 use Rattle.std.specs.Prelude.{Ok, Err}
 use Rattle.node.specs.declared.refusal.Refusal.{Refusal}
@@ -55,22 +56,17 @@ module _ (image : List ℕ) (l : Lent) (t : Tree) (h0 b0 : List ℕ) (c : Trusts
     unfolding edited_of upserted way_of
     went_refused v x e = sym (rw (way_went, e))
 
-    module _ (w : Way) (e : r ≡ Ok w) (es : length w.steps ≡ 34) where
-      pub went_few : w.count ≤ 33
-      went_few = get_few (lent_of image l) l.size t h0 b0 c.trust level ev key [] h b r ew w e
-
-      arrived : lookup.way (lent_of image l) s key ≡ ok (way_gone l.size w.tree h b (take w.count w.steps))
+    module _ (w : Way) (e : r ≡ Ok w) where
+      arrived : lookup.way (lent_of image l) s key ≡ ok (way_gone l.size w.tree h b w.steps.items)
       unfolding way_of walked_of
-      arrived =
-          let z : steps_in (take w.count w.steps) ≡ steps_of w.steps w.count = steps_taken w.steps w.count (omega (arith, went_few)) in
-          rw z (way_went ∙ rw e)
+      arrived = way_went ∙ rw e
 
-      pub went_answer : (v : Val) (y : Result State)
-          → y ≡ upsert_on (lent_of [] l) key v (way_gone l.size w.tree h b (take w.count w.steps))
+      pub went_answer : (v : Val) (way : List code.Position) → way ≡ w.steps.items → (y : Result State)
+          → y ≡ upsert_on (lent_of [] l) key v (way_gone l.size w.tree h b way)
           → y ≡ upserted (lent_of image l) (state_of l.size t h0 b0) key v
       unfolding upserted
-      went_answer v y q =
-          q ∙ on_slots (lent_of [] l) (lent_of image l) key v (way_gone l.size w.tree h b (take w.count w.steps)) (unfold lent_of in refl)
+      went_answer v way es y q =
+          rw es at q ∙ on_slots (lent_of [] l) (lent_of image l) key v (way_gone l.size w.tree h b w.steps.items) (unfold lent_of in refl)
           ∙ sym (rw arrived)
 
       -- a way only adds slots
@@ -78,14 +74,14 @@ module _ (image : List ℕ) (l : Lent) (t : Tree) (h0 b0 : List ℕ) (c : Trusts
           → Follows l.size l.slots t.used h0 b0 h' b'
       went_follows h' b' p q =
           let st = (trusted_of (lent_of image l) s c.trust).1 in
-          let z = (way_root (lent_of image l) s key st).at (way_gone l.size w.tree h b (take w.count w.steps)) arrived in
+          let z = (way_root (lent_of image l) s key st).at (way_gone l.size w.tree h b w.steps.items) arrived in
           follows_on l.size l.slots t.used w.tree.used h0 b0 h b h' b' p q
           (omega (arith, used_nodes l.size t h0 b0, used_nodes l.size w.tree h b, z.loaded.loads.longer))
 
-      module _ (v : Val) (f : entry_fits (state_of l.size t h0 b0) key v ≡ true) (y : WayReady l.size l.slots h b r) where
-        pub went_gone : Gone l w.tree h b (take w.count w.steps) key v
-        went_gone =
-            record {
+      module _ (v : Val) (f : entry_fits (state_of l.size t h0 b0) key v ≡ true) (y : ReadyBy (λ w. w.tree) l.size l.slots h b r) where
+        pub went_gone : (way : List code.Position) → way ≡ w.steps.items → Gone l w.tree h b way key v
+        went_gone way es =
+            rw es (record {
               image = image;
               from = s;
               trust = c.trust;
@@ -93,13 +89,13 @@ module _ (image : List ℕ) (l : Lent) (t : Tree) (h0 b0 : List ℕ) (c : Trusts
               fits = f;
               went = arrived;
               ready = get_ready (lent_of image l) l.size t h0 b0 c.trust level ev key [] h b r ew w e l.slots y;
-            }
+            })
 
 -- ---- what an accepted one leaves
 
 pub upserted_trusts : (image : List ℕ) (l : Lent) (t : Tree) (h b key : List ℕ) (v : Val) → Trusts image l t h b
     → entry_fits (state_of l.size t h b) key v ≡ true → (h2 b2 : List ℕ) (r : std.Result Tree Refusal)
-    → edited_of l.size h2 b2 r ≡ upserted (lent_of image l) (state_of l.size t h b) key v → ReadyEdited l.size l.slots h2 b2 r
+    → edited_of l.size h2 b2 r ≡ upserted (lent_of image l) (state_of l.size t h b) key v → ReadyTree l.size l.slots h2 b2 r
     → (u : Tree) → r ≡ Ok u → Trusts image l u h2 b2
 unfolding lent_of edited_of
 upserted_trusts image l t h b key v c f h2 b2 r a y u q =
@@ -125,4 +121,4 @@ module _ (image : List ℕ) (l : Lent) (t : Tree) (h0 b0 key : List ℕ) (v : Va
 
 pub ruleset upsert_in_laws = (in_refused, in_fits, in_put)
 
-pub ruleset upserted_laws = (went_few, went_refused, went_low, went_answer, went_gone, went_follows)
+pub ruleset upserted_laws = (went_refused, went_low, went_answer, went_gone, went_follows)

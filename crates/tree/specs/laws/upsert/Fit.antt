@@ -37,10 +37,10 @@ use Rattle.tree.specs.laws.upsert.Room.{leaf_other, put_inner, put_indexed}
 use Rattle.tree.specs.declared.editor.Tree.{Tree}
 use Rattle.tree.specs.laws.upsert.WayKept.{from_step, from_each, from_two, touch_dead, leaf_dead, index_dead, index_long, touch_count, leaf_count, leaf_like, index_info, cuts_like, sized_like}
 use Rattle.tree.specs.laws.upsert.WayKept.{down_tail, down_first, down_child, down_some, indexed_tail, indexed_first, two_off, two_apart}
-use Rattle.tree.specs.declared.way.Step as code
+use Rattle.tree.specs.declared.editor.Position as code
 use Rattle.tree.specs.internal.Way.{nth_step}
 
-module _ (l : lent.Lent) (k : List ℕ) (v : Val) (s : State) (way : List code.Step) (st : Stands all all s)
+module _ (l : lent.Lent) (k : List ℕ) (v : Val) (s : State) (way : List code.Position) (st : Stands all all s)
     (down : Down s (steps_from way 0 (length way))) (roomy : Roomy (2 * l.size) s) where
   abbrev ps : List Step
   ps = steps_from way 0 (length way)

@@ -34,7 +34,7 @@ use Rattle.tree.specs.laws.trust.Named.{names, names_same}
 use Rattle.tree.specs.laws.trust.Edit.{on_way}
 use Rattle.tree.specs.laws.room.Each.{Each, keys_at_most}
 use Rattle.tree.specs.declared.editor.Tree.{Tree}
-use Rattle.tree.specs.declared.way.Step as code
+use Rattle.tree.specs.declared.editor.Position as code
 
 -- ---- of what is lent, cuts look at the number of slots alone
 
@@ -147,11 +147,11 @@ on_append : (c : ℕ) (a b : List Step) → on_way c (a ++ b) ≡ on_way c a + o
 on_append c [] b = omega arith
 on_append c (x ∷ a) b = let k = on_append c a b in omega arith
 
-pub on_steps : (way : List code.Step) (k j : ℕ) → j < k → 1 ≤ on_way (nth_step way j).slot (steps_of way k)
+pub on_steps : (way : List code.Position) (k j : ℕ) → j < k → 1 ≤ on_way (nth_step way j).slot (steps_of way k)
 unfolding steps_of
 on_steps way zero j h = absurd (omega arith)
 on_steps way (suc k) j h =
-    let x : Step = record { slot = (nth_step way k).slot; child = (nth_step way k).child } in
+    let x : Step = record { slot = (nth_step way k).slot; child = (nth_step way k).index } in
     let a = on_append (nth_step way j).slot (steps_of way k) (x ∷ []) in
     by_test (ltb j k)
     (λ t. omega (arith, on_steps way k j (ltb-true j k t)))

@@ -1,6 +1,6 @@
 -- An entry put in its leaf as the code puts it: whether it fits, what it holds, the tree's numbers, the slot's records. Assumes nothing.
 use Rattle.std.specs.Prelude.{◌≡◌, refl, Bool, cond, not, ◌&&◌, ◌||◌, take, leb, ltb, eqb, max}
-use Rattle.std.specs.Prelude.{Option, Some, None, MatchOption, IsTrue}
+use Rattle.std.specs.Prelude.{Option, Some, None, MatchOption, IsTrue, Result, is_ok}
 use Rattle.std.specs.Borrow.{Bor}
 use Rattle.std.proofs.Math.Path.{sym, ap}
 use Rattle.std.proofs.Common.{ap₂, ◌∙◌, arith}
@@ -21,7 +21,6 @@ use Rattle.node.specs.declared.val.Val.TheVariants as held
 use Rattle.node.specs.declared.head.Head.{Head}
 use Rattle.node.specs.declared.info.BTreeInfo.{BTreeInfo}
 use Rattle.node.specs.declared.refusal.Refusal.TheVariants as is
-use Rattle.node.specs.declared.slot.Found.{Found}
 use Rattle.node.specs.laws.base.Tests.{by_test}
 use Rattle.node.specs.laws.slot.Records.{entries_front, records_less}
 use Rattle.tree.specs.State.{State, node_at, put_node, with_nodes, with_info, with_counts, with_longest, with_entries}
@@ -30,7 +29,7 @@ use Rattle.tree.specs.Upsert.{put_entry, grown_longest, put_in_leaf, entry_fits}
 use Rattle.tree.specs.Workspace.{slot_bytes, nodes_of, state_of}
 use Rattle.tree.specs.Answers.{put_value, lent_value}
 use Rattle.tree.specs.internal.Bank.{node_in, live, Lies, Ready, Put}
-use Rattle.tree.specs.internal.Found.{FoundAt}
+use Rattle.tree.specs.internal.Found.{spot_found, FoundAt}
 use Rattle.tree.specs.internal.Writers.{edited}
 use Rattle.tree.specs.declared.writers.DirtyMark.TheVariants.{Kept}
 use Rattle.tree.specs.laws.slots.Bank.{live_entries, put_set, put_ready}
@@ -40,6 +39,7 @@ use Rattle.tree.specs.laws.slots.OneSlot.{ready_part, part_long}
 use Rattle.tree.specs.laws.room.Weight.{weight}
 use Rattle.tree.specs.laws.refusal1.Roomy.{entries_weight}
 use Rattle.tree.specs.declared.editor.Tree.{Tree}
+use Rattle.tree.specs.declared.floor.Spot.{Spot}
 
 -- ---- numbers
 
@@ -50,21 +50,22 @@ greater_is a b =
     (λ t. let z = leb-true a b t in rw t (omega arith))
     (λ t. let z = leb-false a b t in rw t (omega arith))
 
-pub grown_new_is : (t : BTreeInfo) (key value k v : ℕ) → k ≡ max t.longest_key key → v ≡ max t.longest_val value
+pub with_entry_is : (t w : BTreeInfo) (key value k : ℕ)
+    → w ≡ with_longest (with_counts t t.key_count t.node_count) t.longest_key (greater t.longest_val value) → k ≡ max t.longest_key key
     → record {
-      flags = t.flags;
-      node_size = t.node_size;
-      key_size = t.key_size;
-      val_size = t.val_size;
+      flags = w.flags;
+      node_size = w.node_size;
+      key_size = w.key_size;
+      val_size = w.val_size;
       longest_key = k;
-      longest_val = v;
+      longest_val = w.longest_val;
       key_count = t.key_count + 1;
-      node_count = t.node_count;
+      node_count = w.node_count;
     } ≡ with_longest (with_counts t (t.key_count + 1) t.node_count) (greater t.longest_key key) (greater t.longest_val value)
 unfolding with_longest with_counts
-grown_new_is t key value k v a b = rw (a, b, greater_is, greater_is)
+with_entry_is t w key value k e a = rw (e, a, greater_is)
 
-pub grown_old_is : (t : BTreeInfo) (value v : ℕ) → v ≡ max t.longest_val value
+pub with_value_is : (t : BTreeInfo) (value v : ℕ) → v ≡ max t.longest_val value
     → record {
       flags = t.flags;
       node_size = t.node_size;
@@ -76,7 +77,7 @@ pub grown_old_is : (t : BTreeInfo) (value v : ℕ) → v ≡ max t.longest_val v
       node_count = t.node_count;
     } ≡ with_longest (with_counts t t.key_count t.node_count) t.longest_key (greater t.longest_val value)
 unfolding with_longest with_counts
-grown_old_is t value v b = rw (b, greater_is)
+with_value_is t value v b = rw (b, greater_is)
 
 -- a word is at most 2^64 - 1
 pub count_new : (found : Bool) (keys : ℕ) → keys < 2 ^ 64 → found ≡ false → not (eqb keys 0xFFFFFFFFFFFFFFFF) ≡ (found || ltb keys (2 ^ 64 - 1))
@@ -203,15 +204,16 @@ module _ (size slots n : ℕ) (t t' : Tree) (h0 b0 h1 b1 : List ℕ) (i : BTreeI
   pub leaf_ready : length h1 ≡ length h0 → length b1 ≡ length b0 → Ready size slots t'.used h1 b1
   leaf_ready a b = rw e (put_ready size slots h0 b0 h1 b1 n m p t.used r a b)
 
-  module _ (key : List ℕ) (v : Val) (k : ℕ) (ek : k ≡ value_length v) (f : Found) (g : FoundAt size (state_of size t h0 b0) h0 b0 n key f) where
+  module _ (key : List ℕ) (v : Val) (k : ℕ) (ek : k ≡ value_length v) (f : Result Spot Spot)
+      (g : FoundAt size (state_of size t h0 b0) h0 b0 n key f) where
     abbrev s : State
     s = state_of size t h0 b0
 
     node : node_at (state_of size t h0 b0) n ≡ node_in size h0 b0 n
     node = node_in_lem size t h0 b0 n hn
 
-    pub leaf_old : f.found ≡ true
-        → m ≡ edited Kept (node_in size h0 b0 n) (with_value f.index v (node_in size h0 b0 n).entries)
+    pub leaf_old : is_ok f ≡ true
+        → m ≡ edited Kept (node_in size h0 b0 n) (with_value (spot_found f).index v (node_in size h0 b0 n).entries)
         → i ≡ with_longest (with_counts t.info t.info.key_count t.info.node_count) t.info.longest_key (greater t.info.longest_val k)
         → state_of size t' h1 b1 ≡ put_in_leaf (state_of size t h0 b0) n key v
     unfolding state_of put_entry
@@ -221,9 +223,9 @@ module _ (size slots n : ℕ) (t t' : Tree) (h0 b0 h1 b1 : List ℕ) (i : BTreeI
         (em' ∙ rw (← node, there, g.place))
         (ei ∙ info_old t.info (is_there t.order.code key (node_at (state_of size t h0 b0) n).entries) key v k there ek)
 
-    pub leaf_new : f.found ≡ false
+    pub leaf_new : is_ok f ≡ false
         → m ≡ edited Kept (node_in size h0 b0 n)
-        (insert_at f.index (record { key = key; value = v }) (node_in size h0 b0 n).entries)
+        (insert_at (spot_found f).index (record { key = key; value = v }) (node_in size h0 b0 n).entries)
         → i ≡ with_longest (with_counts t.info (t.info.key_count + 1) t.info.node_count) (greater t.info.longest_key (length key))
         (greater t.info.longest_val k)
         → state_of size t' h1 b1 ≡ put_in_leaf (state_of size t h0 b0) n key v
@@ -252,7 +254,7 @@ module _ (size slots n : ℕ) (t : Tree) (h b : List ℕ) (r : Ready size slots 
       sym (ap (λ (x : List Entry). weight (take i x)) es ∙ ap weight (entries_front i w.count l u)
       ∙ entries_weight i l (omega (arith, k.room, long, records_less i w.count l u)))
 
-module _ (size slots n : ℕ) (t : Tree) (h0 b0 h1 b1 key : List ℕ) (f : Found) (r0 : Ready size slots t.used h0 b0)
+module _ (size slots n : ℕ) (t : Tree) (h0 b0 h1 b1 key : List ℕ) (f : Result Spot Spot) (r0 : Ready size slots t.used h0 b0)
     (r1 : Ready size slots t.used h1 b1) (hn : n < t.used) (g : FoundAt size (state_of size t h0 b0) h0 b0 n key f)
     (e : (node_at (state_of size t h1 b1) n).entries ≡ (node_at (state_of size t h0 b0) n).entries) where
   count_same : (live (head_at h1 n)).count ≡ (live (head_at h0 n)).count
@@ -262,10 +264,12 @@ module _ (size slots n : ℕ) (t : Tree) (h0 b0 h1 b1 key : List ℕ) (f : Found
   unfolding state_of
   found_again =
       record {
+        slot = g.slot;
         place = g.place ∙ ap (place_of t.order.code key) (sym e);
         there = g.there ∙ ap (is_there t.order.code key) (sym e);
-        start = g.start ∙ start_is size slots n t h0 b0 r0 hn f.index g.upto ∙ ap (λ (x : List Entry). weight (take f.index x)) (sym e)
-            ∙ sym (start_is size slots n t h1 b1 r1 hn f.index (omega (arith, g.upto, count_same)));
+        start = g.start ∙ start_is size slots n t h0 b0 r0 hn (spot_found f).index g.upto
+            ∙ ap (λ (x : List Entry). weight (take (spot_found f).index x)) (sym e)
+            ∙ sym (start_is size slots n t h1 b1 r1 hn (spot_found f).index (omega (arith, g.upto, count_same)));
         upto = omega (arith, g.upto, count_same);
         within = λ q. omega (arith, g.within q, count_same);
       }

@@ -14,7 +14,6 @@ use Rattle.node.specs.Fit.{Sized}
 use Rattle.node.specs.Result.{Result, refused}
 use Rattle.node.specs.Slot.{head_at, is_child, entry_holds}
 use Rattle.node.specs.declared.head.Head.{Head}
-use Rattle.node.specs.declared.slot.Found.{Found}
 use Rattle.node.specs.laws.base.Tests.{by_test, and_left}
 use Rattle.node.specs.laws.base.Bytes.{Bytes}
 use Rattle.tree.specs.Lent as lent
@@ -30,7 +29,7 @@ use Rattle.tree.specs.Answers.{edited_of}
 use Rattle.tree.specs.internal.Bank.{live}
 use Rattle.tree.specs.internal.Room.{Roomy}
 use Rattle.tree.specs.internal.Way.{nth_step, steps_of, steps_in, WayIn, Touched}
-use Rattle.tree.specs.internal.Found.{FoundAt}
+use Rattle.tree.specs.internal.Found.{spot_found, FoundAt}
 use Rattle.tree.specs.internal.Index.{steps_from, IndexRoom, Rewritten}
 use Rattle.tree.specs.internal.Edits.{CutsFit}
 use Rattle.tree.specs.internal.Upserting.{way_gone, Gone}
@@ -50,20 +49,23 @@ use Rattle.tree.specs.laws.room.Edit.{put_large_new, put_large_old}
 use Rattle.tree.specs.laws.room.TooLarge.{upsert_large}
 use Rattle.tree.specs.laws.lookup.GetCall.{steps_long, leaf_last}
 use Rattle.tree.specs.laws.cut.IndexKeys.{from_start}
-use Rattle.tree.specs.laws.upsert.PutInLeaf.{found_again, lent_means, lent_held}
+use Rattle.tree.specs.laws.upsert.PutInLeaf.{found_again, lent_means}
 use Rattle.tree.specs.laws.upsert.WayKept.{touch_dead}
 use Rattle.tree.specs.laws.upsert.Parts.{cuts_slots, short_keys, there_long, on_steps}
 use Rattle.tree.specs.laws.upsert.Fit.{upsert_index_room, upsert_cuts_fit}
 use Rattle.tree.specs.declared.editor.Tree.{Tree}
+use Rattle.tree.specs.declared.floor.Spot.{Spot}
 use Rattle.tree.specs.declared.lent.Lent.{Lent}
-use Rattle.std.specs.Prelude.{Err}
+use Rattle.std.specs.Prelude as std
+use Rattle.std.specs.Prelude.{Err, is_ok}
 use Rattle.node.specs.Refusals.{number_of}
 use Rattle.node.specs.declared.refusal.Refusal.{Refusal}
 use Rattle.node.specs.declared.refusal.Refusal.TheVariants as is
-use Rattle.tree.specs.declared.way.Step as code
+use Rattle.tree.specs.declared.editor.Position as code
+use Rattle.tree.specs.laws.slots.FoundAt.{found_self}
 use Rattle.tree.specs.laws.slots.Undo.{handed_back, follows_same}
 
-module _ (l : Lent) (t : Tree) (h0 b0 : List ℕ) (way : List code.Step) (key : List ℕ) (v : Val) (g : Gone l t h0 b0 way key v) where
+module _ (l : Lent) (t : Tree) (h0 b0 : List ℕ) (way : List code.Position) (key : List ℕ) (v : Val) (g : Gone l t h0 b0 way key v) where
   abbrev s : State
   s = state_of l.size t h0 b0
 
@@ -110,6 +112,10 @@ module _ (l : Lent) (t : Tree) (h0 b0 : List ℕ) (way : List code.Step) (key : 
   pub gone_short : 4 + length key + value_length v + 56 ≤ l.size → length key < 2 ^ 16
   gone_short k = omega (arith, g.ready.most)
 
+  pub on_small : (b : Bool) (len : ℕ) → b ≡ ltb l.size (4 + length key + len + 56) → b ≡ false → len ≡ value_length v
+      → 4 + length key + value_length v + 56 ≤ l.size
+  on_small b len eb q k = let z = ltb-false l.size (4 + length key + len + 56) (sym eb ∙ q) in omega arith
+
   -- ---- the way
 
   pub gone_some : 1 ≤ length way
@@ -125,7 +131,7 @@ module _ (l : Lent) (t : Tree) (h0 b0 : List ℕ) (way : List code.Step) (key : 
       ap (λ (k : ℕ). leaf_of (steps_of way k)) z
       ∙ leaf_last (steps_of way (length way - 1)) (record {
         slot = (nth_step way (length way - 1)).slot;
-        child = (nth_step way (length way - 1)).child;
+        child = (nth_step way (length way - 1)).index;
       })
 
   pub gone_way : WayIn t.used way
@@ -171,7 +177,7 @@ module _ (l : Lent) (t : Tree) (h0 b0 : List ℕ) (way : List code.Step) (key : 
       entries₁ : (node_at (state_of l.size t h1 b1) n).entries ≡ (node_at s n).entries
       entries₁ = ap (λ (u : State). (node_at u n).entries) state₁ ∙ (touch_marks ps s).entries n
 
-      pub on_found : (f : Found) → FoundAt l.size (state_of l.size t h0 b0) h0 b0 n key f
+      pub on_found : (f : std.Result Spot Spot) → FoundAt l.size (state_of l.size t h0 b0) h0 b0 n key f
           → FoundAt l.size (state_of l.size t h1 b1) h1 b1 n key f
       on_found f a = found_again l.size l.slots n t h0 b0 h1 b1 key f g.ready q.ready leaf_used a entries₁
 
@@ -226,10 +232,13 @@ module _ (l : Lent) (t : Tree) (h0 b0 : List ℕ) (way : List code.Step) (key : 
 
     -- ---- refused, or put
 
-    module _ (f : Found) (a : FoundAt l.size (state_of l.size t h0 b0) h0 b0 n key f) (c : Bool)
-        (ec : c ≡ (f.found || ltb t.info.key_count (2 ^ 64 - 1))) where
-      there_is : is_there s.order key (node_at s (leaf_of ps)).entries ≡ f.found
-      there_is = ap (λ (k : ℕ). is_there s.order key (node_at s k).entries) leaf_n ∙ sym a.there
+    module _ (f : std.Result Spot Spot) (a : FoundAt l.size (state_of l.size t h0 b0) h0 b0 n key f) (found : Bool) (ef : found ≡ is_ok f) (c : Bool)
+        (ec : c ≡ (found || ltb t.info.key_count (2 ^ 64 - 1))) where
+      there_is : is_there s.order key (node_at s (leaf_of ps)).entries ≡ found
+      there_is = ap (λ (k : ℕ). is_there s.order key (node_at s k).entries) leaf_n ∙ sym a.there ∙ sym ef
+
+      pub on_slot : (spot_found f).slot ≡ (nth_step way (length way - 1)).slot
+      on_slot = a.slot ∙ en
 
       passes : (is_there s.order key (node_at s (leaf_of ps)).entries || ltb s.info.key_count (2 ^ 64 - 1)) ≡ c
       unfolding state_of
@@ -246,15 +255,16 @@ module _ (l : Lent) (t : Tree) (h0 b0 : List ℕ) (way : List code.Step) (key : 
         unfolding upsert_on
         on_passed = rw (passes, not-false c z)
 
-        pub on_new : f.found ≡ false → t.info.key_count < 2 ^ 64 - 1
+        pub on_new : is_ok f ≡ false → t.info.key_count < 2 ^ 64 - 1
         on_new e =
-            let y : c ≡ ltb t.info.key_count (2 ^ 64 - 1) = rw e at ec in
+            let y : c ≡ ltb t.info.key_count (2 ^ 64 - 1) = rw (ef ∙ e) at ec in
             ltb-true t.info.key_count (2 ^ 64 - 1) (sym y ∙ not-false c z)
 
         pub on_put : (r : Result State) → r ≡ cuts (lent_of [] l) [] (steps_in way) (index_keys (steps_in way)
-            (put_in_leaf (touch (steps_in way) (state_of l.size t h0 b0)) n key v))
+            (put_in_leaf (touch (steps_in way) (state_of l.size t h0 b0)) (spot_found f).slot key v))
             → r ≡ upsert_on (lent_of [] l) key v (way_gone l.size t h0 b0 way)
-        on_put r e = e ∙ ap (λ (k : ℕ). cuts (lent_of [] l) [] ps (index_keys ps (put_in_leaf (touch ps s) k key v))) (sym leaf_n) ∙ sym on_passed
+        on_put r e =
+            e ∙ ap (λ (k : ℕ). cuts (lent_of [] l) [] ps (index_keys ps (put_in_leaf (touch ps s) k key v))) (a.slot ∙ sym leaf_n) ∙ sym on_passed
 
         abbrev es : List Entry
         es = (node_at s (leaf_of ps)).entries
@@ -285,7 +295,7 @@ module _ (l : Lent) (t : Tree) (h0 b0 : List ℕ) (way : List code.Step) (key : 
             (lt-leb (bytes_in e) (s.info.node_size - 56) (omega (arith, size_is))))
 
         refusal_is : (h : Head) → h ≡ live (head_at h0 n) → large_refusal (put_entry s.order e es)
-            ≡ cond (ltb 1 (h.count + cond f.found 0 1)) 14 13
+            ≡ cond (ltb 1 (h.count + cond found 0 1)) 14 13
         refusal_is h eh =
             let y : h.count ≡ length es = count_is l.size t h0 b0 n leaf_used h eh ∙ ap (λ (k : ℕ). length (node_at s k).entries) (sym leaf_n) in
             ap (λ (k : ℕ). cond (ltb 1 k) 14 13) (put_length s.order e es
@@ -296,15 +306,11 @@ module _ (l : Lent) (t : Tree) (h0 b0 : List ℕ) (way : List code.Step) (key : 
         number_is false = refl
 
         pub on_large : (h : Head) (b : Bool) (len : ℕ) (x : Refusal) → h ≡ live (head_at h0 n) → b ≡ ltb l.size (4 + length key + len + 56) → b ≡ true
-            → len ≡ value_length v → x ≡ cond (ltb 1 (h.count + cond f.found 0 1)) is.NoCut is.Single
+            → len ≡ value_length v → x ≡ cond (ltb 1 (h.count + cond found 0 1)) is.NoCut is.Single
             → edited_of l.size h0 b0 (Err x) ≡ upsert_on (lent_of [] l) key v (way_gone l.size t h0 b0 way)
         unfolding edited_of
         on_large h b len x eh eb q k ex =
             sym (on_passed ∙ large_cut (large len k (ltb-true l.size (4 + length key + len + 56) (sym eb ∙ q)))
-            ∙ ap refused (refusal_is h eh ∙ sym (number_is (ltb 1 (h.count + cond f.found 0 1))) ∙ ap number_of (sym ex)))
+            ∙ ap refused (refusal_is h eh ∙ sym (number_is (ltb 1 (h.count + cond found 0 1))) ∙ ap number_of (sym ex)))
 
-        pub on_small : (b : Bool) (len : ℕ) → b ≡ ltb l.size (4 + length key + len + 56) → b ≡ false → len ≡ value_length v
-            → 4 + length key + value_length v + 56 ≤ l.size
-        on_small b len eb q k = let z = ltb-false l.size (4 + length key + len + 56) (sym eb ∙ q) in omega arith
-
-pub ruleset upsert_on_laws = (on_count, gone_short, on_new, on_large, on_small, on_put, handed_back, follows_same, lent_means, lent_held)
+pub ruleset upsert_on_laws = (on_count, on_slot, found_self, on_new, on_small, handed_back, follows_same, lent_means)

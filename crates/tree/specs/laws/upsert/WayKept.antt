@@ -33,11 +33,11 @@ use Rattle.tree.specs.laws.trust.Cut.{by_cut}
 use Rattle.tree.specs.laws.trust.Upsert.{inner}
 use Rattle.tree.specs.laws.room.Weight.{weight}
 use Rattle.tree.specs.laws.room.Edit.{Indexed, more}
-use Rattle.tree.specs.declared.way.Step as code
+use Rattle.tree.specs.declared.editor.Position as code
 
 -- ---- the steps of a way, from each on
 
-module _ (way : List code.Step) where
+module _ (way : List code.Position) where
   pub from_step : (j : ℕ) → j < length way → steps_from way j (length way - j) ≡ step_at way j ∷ steps_from way (suc j) (length way - suc j)
   unfolding steps_from step_at
   from_step j h = let z : length way - j ≡ suc (length way - suc j) = omega arith in rw z

@@ -12,14 +12,14 @@ part-t-requires c =
 
 pub overflow_add-up : goal.overflow_add-up
 overflow_add-up c =
-    let p = c.requires in let a = c.args in omega (arith, child_next a.lent a.self _ _ a.up _ _ a.found.at p.ready.0 p.room.0 p.room.1)
+    let p = c.requires in let a = c.args in omega (arith, child_next a.lent a.self _ _ a.up _ _ a.spot.at p.ready.0 p.room.0 p.room.1)
 
 pub link_child-requires : goal.link_child-requires
 link_child-requires c =
     let p = c.requires in
     let a = c.args in
     let g = c.part-t in
-    record { ready = g.ensures.ready; room = parted_child a.lent a.self _ _ _ _ _ _ p.ready.0 p.room.0 p.room.1 _ _ _ g.ensures.after _ _ (child_parent a.lent a.self _ _ a.up _ _ a.found.at p.room.0 p.room.1) p.ready.1 }
+    record { ready = g.ensures.ready; room = parted_child a.lent a.self _ _ _ _ _ _ p.ready.0 p.room.0 p.room.1 _ _ _ g.ensures.after _ _ (child_parent a.lent a.self _ _ a.up _ _ a.spot.at p.room.0 p.room.1) p.ready.1 }
 
 pub more_nodes-requires : goal.more_nodes-requires
 more_nodes-requires c =
@@ -32,4 +32,4 @@ returns c =
     let g = c.part-t in
     let w = c.link_child in
     let m = c.more_nodes.ensures in
-    record { answer = child_done a.lent a.self _ _ a.up _ _ a.found.at _ c.in_ok-room_for.ensures _ _ _ _ _ _ g.ensures.after w.ensures m; ready = counted_ready _ _ _ _ _ _ _ m w.ensures.ready; follows = follows_on _ _ _ _ _ _ _ _ _ _ g.ensures.follows w.ensures.follows (omega (arith, parted_used a.lent a.self _ _ _ _ _ _ p.ready.0 p.room.0 p.room.1 _ _ _ g.ensures.after)) }
+    record { answer = child_done a.lent a.self _ _ a.up _ _ a.spot.at _ c.in_ok-room_for.ensures _ _ _ _ _ _ g.ensures.after w.ensures m; left = record { ready = counted_ready _ _ _ _ _ _ _ m w.ensures.ready; follows = follows_on _ _ _ _ _ _ _ _ _ _ g.ensures.follows w.ensures.follows (omega (arith, parted_used a.lent a.self _ _ _ _ _ _ p.ready.0 p.room.0 p.room.1 _ _ _ g.ensures.after)) } }

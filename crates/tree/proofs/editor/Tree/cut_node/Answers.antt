@@ -26,7 +26,7 @@ returns-in-None c =
     let x = c.cut in
     let v = c.slot_node-node.ensures in
     let w = c.cut_root in
-    record { answer = node_after a.lent a.self _ _ _ _ p.ready.0 p.room _ c.fits_at.ensures c.if-fits_at.false c.slot_node-node.result v.shape.0 v.shape.2 v.entries _ x.ensures.place _ c.in_ok-found.was _ _ _ (top_answer a.lent _ _ _ _ _ c.in-None.is w.ensures.answer); ready = w.ensures.ready; follows = w.ensures.follows }
+    record { answer = node_after a.lent a.self _ _ _ _ p.ready.0 p.room _ c.fits_at.ensures c.if-fits_at.false c.slot_node-node.result v.shape.0 v.shape.2 v.entries _ x.ensures.place _ c.in_ok-found.was _ _ _ (top_answer a.lent _ _ _ _ _ c.in-None.is w.ensures.answer); left = w.ensures.left }
 
 pub cut_child-requires : goal.cut_child-requires
 cut_child-requires c =

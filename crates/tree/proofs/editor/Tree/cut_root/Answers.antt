@@ -39,12 +39,9 @@ returns-clause-answer c =
     let w = c.grow_root-top in
     top_done a.lent a.self _ _ _ _ _ c.new_root_holds-holds.ensures (ap not c.in_ok-check.ensures) _ c.in_ok-room_for.ensures _ _ _ _ _ _ _ g.ensures.after w.ensures.after c.more_nodes.ensures
 
-pub returns-clause-ready : goal.returns-clause-ready
-returns-clause-ready c = counted_ready _ _ _ _ _ _ _ c.more_nodes.ensures c.grow_root-top.ensures.ready
-
-pub returns-clause-follows : goal.returns-clause-follows
-returns-clause-follows c =
+pub returns-clause-left : goal.returns-clause-left
+returns-clause-left c =
     let p = c.requires in
     let a = c.args in
     let g = c.part-t in
-    follows_on _ _ _ _ _ _ _ _ _ _ g.ensures.follows c.grow_root-top.ensures.follows (omega (arith, parted_used a.lent a.self _ _ _ _ _ _ p.ready.0 p.room.0 p.room.1 _ _ _ g.ensures.after))
+    record { ready = counted_ready _ _ _ _ _ _ _ c.more_nodes.ensures c.grow_root-top.ensures.ready; follows = follows_on _ _ _ _ _ _ _ _ _ _ g.ensures.follows c.grow_root-top.ensures.follows (omega (arith, parted_used a.lent a.self _ _ _ _ _ _ p.ready.0 p.room.0 p.room.1 _ _ _ g.ensures.after)) }

@@ -34,7 +34,7 @@ loop-up-preserved c =
     let q = pair a.way.now _ i.2 i.0.1 _ _ c.next.ensures.steps _ c.in-Some.is in
     let w = c.cut_node.ensures in
     let up = above_some a.way.now (length (steps_left c.loop-up.up-iterator) - 1) _ q.above (omega (arith, q.some)) in
-    let f = from_next a.lent a.self a.way.now _ _ _ c.loop-up.t _ _ i.6 (omega (arith, q.some)) i.2.within _ up _ q.below _ _ _ w.answer _ c.in_ok-t.was c.requires.room.0 w.ready w.follows in
+    let f = from_next a.lent a.self a.way.now _ _ _ c.loop-up.t _ _ i.6 (omega (arith, q.some)) i.2.within _ up _ q.below _ _ _ w.answer _ c.in_ok-t.was c.requires.room.0 w.left.ready w.left.follows in
     (search rules, tt, q.next, search rules, search rules, search rules, rw q.left f)
 
 pub cut_node-requires-in-Some-first-clause-room : goal.cut_node-requires-in-Some-first-clause-room

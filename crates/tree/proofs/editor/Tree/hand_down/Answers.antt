@@ -17,8 +17,7 @@ returns-then-not-has_only_child c =
     let hd : 0 < args.n - loop._i = omega (arith, c.loop-i-test.true) in
     record {
       answer = hand_stops args.image.now args.lent args.self _ _ _ loop.t _ _ (args.n - loop._i) k hd _ c.has_only_child.ensures (ap not c.if-not-has_only_child.true);
-      ready = k.ready;
-      follows = k.follows;
+      left = record { ready = k.ready; follows = k.follows };
     }
 
 pub returns-in_err-u-clause-answer : goal.returns-in_err-u-clause-answer
@@ -29,8 +28,8 @@ returns-in_err-u-clause-answer c =
     rw (handed_on c.from_residual.result _ c.from_residual.ensures.1)
     (hand_refused args.image.now args.lent args.self _ _ _ loop.t _ _ (args.n - loop._i) loop.invariant.2 hd _ c.has_only_child.ensures (ap not c.if-not-has_only_child.false) _ _ _ c.load_child.ensures.answer _ c.in_err-u.was)
 
-pub fits_as_root-requires : goal.fits_as_root-requires
-fits_as_root-requires c =
+pub fits-requires : goal.fits-requires
+fits-requires c =
     let args = c.args in
     let loop = c.loop-i in
     let hd : 0 < args.n - loop._i = omega (arith, c.loop-i-test.true) in
@@ -40,15 +39,15 @@ fits_as_root-requires c =
       hand_sized args.image.now args.lent args.self _ _ _ loop.t _ _ (args.n - loop._i) loop.invariant.2 hd _ has-only-child.ensures (ap not c.if-not-has_only_child.false) _ _ _ load_child_lem.ensures.answer _ _ c.in_ok-u.was,
     )
 
-pub returns-then-not-fits_as_root : goal.returns-then-not-fits_as_root
-returns-then-not-fits_as_root c =
+pub returns-then-not-fits : goal.returns-then-not-fits
+returns-then-not-fits c =
     let args = c.args in
     let loop = c.loop-i in
     let hd : 0 < args.n - loop._i = omega (arith, c.loop-i-test.true) in
     let has-only-child = c.has_only_child in
     let load_child_lem = c.load_child in
-    let fits-as-root = c.fits_as_root in
-    record { answer = hand_unfit args.image.now args.lent args.self _ _ _ loop.t _ _ (args.n - loop._i) loop.invariant.2 hd _ has-only-child.ensures (ap not c.if-not-has_only_child.false) _ _ _ load_child_lem.ensures.answer _ _ c.in_ok-u.was _ fits-as-root.ensures (ap not c.if-not-fits_as_root.true); ready = ready_at _ _ _ _ _ _ _ c.in_ok-u.was load_child_lem.ensures.ready; follows = hand_on args.image.now args.lent args.self _ _ _ loop.t _ _ (args.n - loop._i) loop.invariant.2 hd _ has-only-child.ensures (ap not c.if-not-has_only_child.false) _ _ _ load_child_lem.ensures.answer load_child_lem.ensures.follows }
+    let fits = c.fits in
+    record { answer = hand_unfit args.image.now args.lent args.self _ _ _ loop.t _ _ (args.n - loop._i) loop.invariant.2 hd _ has-only-child.ensures (ap not c.if-not-has_only_child.false) _ _ _ load_child_lem.ensures.answer _ _ c.in_ok-u.was _ fits.ensures (ap not c.if-not-fits.true); left = record { ready = ready_at _ _ _ _ _ _ _ c.in_ok-u.was load_child_lem.ensures.ready; follows = hand_on args.image.now args.lent args.self _ _ _ loop.t _ _ (args.n - loop._i) loop.invariant.2 hd _ has-only-child.ensures (ap not c.if-not-has_only_child.false) _ _ _ load_child_lem.ensures.answer load_child_lem.ensures.follows } }
 
 pub returns-in_err-check : goal.returns-in_err-check
 returns-in_err-check c =
@@ -57,9 +56,9 @@ returns-in_err-check c =
     let hd : 0 < args.n - loop._i = omega (arith, c.loop-i-test.true) in
     let has-only-child = c.has_only_child in
     let load_child_lem = c.load_child in
-    let fits-as-root = c.fits_as_root in
+    let fits = c.fits in
     rw (handed_on c.from_residual-in_err-check.result _ c.from_residual-in_err-check.ensures.1, c.in_err-check.ensures.1)
-    record { answer = hand_count args.image.now args.lent args.self _ _ _ loop.t _ _ (args.n - loop._i) loop.invariant.2 hd _ has-only-child.ensures (ap not c.if-not-has_only_child.false) _ _ _ load_child_lem.ensures.answer _ _ c.in_ok-u.was _ fits-as-root.ensures (ap not c.if-not-fits_as_root.false) (omega (arith, ltb-false 0 _ c.in_err-check.ensures.0)); ready = tt; follows = hand_on args.image.now args.lent args.self _ _ _ loop.t _ _ (args.n - loop._i) loop.invariant.2 hd _ has-only-child.ensures (ap not c.if-not-has_only_child.false) _ _ _ load_child_lem.ensures.answer load_child_lem.ensures.follows }
+    record { answer = hand_count args.image.now args.lent args.self _ _ _ loop.t _ _ (args.n - loop._i) loop.invariant.2 hd _ has-only-child.ensures (ap not c.if-not-has_only_child.false) _ _ _ load_child_lem.ensures.answer _ _ c.in_ok-u.was _ fits.ensures (ap not c.if-not-fits.false) (omega (arith, ltb-false 0 _ c.in_err-check.ensures.0)); left = record { ready = tt; follows = hand_on args.image.now args.lent args.self _ _ _ loop.t _ _ (args.n - loop._i) loop.invariant.2 hd _ has-only-child.ensures (ap not c.if-not-has_only_child.false) _ _ _ load_child_lem.ensures.answer load_child_lem.ensures.follows } }
 
 pub handed_down-t-requires : goal.handed_down-t-requires
 handed_down-t-requires c =
@@ -77,10 +76,10 @@ loop-i-preserved c =
     let hd : 0 < args.n - loop._i = omega (arith, c.loop-i-test.true) in
     let has-only-child = c.has_only_child in
     let load_child_lem = c.load_child in
-    let fits-as-root = c.fits_as_root in
+    let fits = c.fits in
     let handed-down = c.handed_down-t in
     let e : args.n - (loop._i + 1) ≡ args.n - loop._i - 1 = omega arith in (
       search (rules, c.handed_down-t.auto, c.load_child.auto, c.loop-i.invariant),
       search (rules, c.handed_down-t.auto, c.load_child.auto, c.loop-i.invariant),
-      rw e (hand_next args.image.now args.lent args.self _ _ _ loop.t _ _ (args.n - loop._i) loop.invariant.2 hd _ has-only-child.ensures (ap not c.if-not-has_only_child.false) _ _ _ load_child_lem.ensures.answer _ _ c.in_ok-u.was _ fits-as-root.ensures (ap not c.if-not-fits_as_root.false) (λ z. omega (arith, ltb-true 0 _ c.in_ok-check.ensures, z)) load_child_lem.ensures.follows _ _ _ handed-down.ensures),
+      rw e (hand_next args.image.now args.lent args.self _ _ _ loop.t _ _ (args.n - loop._i) loop.invariant.2 hd _ has-only-child.ensures (ap not c.if-not-has_only_child.false) _ _ _ load_child_lem.ensures.answer _ _ c.in_ok-u.was _ fits.ensures (ap not c.if-not-fits.false) (λ z. omega (arith, ltb-true 0 _ c.in_ok-check.ensures, z)) load_child_lem.ensures.follows _ _ _ handed-down.ensures),
     )

@@ -21,4 +21,5 @@ shift-requires c =
 
 pub returns : goal.returns
 returns c =
-    record { after = part_state _ _ _ _ _ _ c.args.self _ _ _ _ _ _ _ c.requires.ready_2 c.requires.used_lt_slots.0 c.requires.used_lt_slots.1.slot c.live_at-h.ensures c.requires.used_lt_slots.1.upto c.requires.used_lt_slots.1.start refl c.shift.ensures c.store.ensures c.store-2.ensures refl; ready = part_ready _ _ _ _ _ _ c.args.self _ _ _ _ _ _ _ c.requires.ready_2 c.requires.used_lt_slots.0 c.requires.used_lt_slots.1.slot c.live_at-h.ensures c.requires.used_lt_slots.1.upto c.requires.used_lt_slots.1.start refl c.shift.ensures c.store.ensures c.store-2.ensures refl (search rules) (search rules); follows = part_follows _ _ _ _ _ _ c.args.self _ _ _ _ _ _ _ c.requires.ready_2 c.requires.used_lt_slots.0 c.requires.used_lt_slots.1.slot c.live_at-h.ensures c.requires.used_lt_slots.1.upto c.requires.used_lt_slots.1.start refl c.shift.ensures c.store.ensures c.store-2.ensures refl c.requires.fact }
+    let u = rw (c.with_id.ensures, c.with_block.ensures) at c.store.ensures in
+    record { after = part_state _ _ _ _ _ _ c.args.self _ _ _ _ _ _ _ c.requires.ready_2 c.requires.used_lt_slots.0 c.requires.used_lt_slots.1.slot c.live_at-h.ensures c.requires.used_lt_slots.1.upto c.requires.used_lt_slots.1.start refl c.shift.ensures u c.store-2.ensures refl; ready = part_ready _ _ _ _ _ _ c.args.self _ _ _ _ _ _ _ c.requires.ready_2 c.requires.used_lt_slots.0 c.requires.used_lt_slots.1.slot c.live_at-h.ensures c.requires.used_lt_slots.1.upto c.requires.used_lt_slots.1.start refl c.shift.ensures u c.store-2.ensures refl (search rules) (search rules); follows = part_follows _ _ _ _ _ _ c.args.self _ _ _ _ _ _ _ c.requires.ready_2 c.requires.used_lt_slots.0 c.requires.used_lt_slots.1.slot c.live_at-h.ensures c.requires.used_lt_slots.1.upto c.requires.used_lt_slots.1.start refl c.shift.ensures u c.store-2.ensures refl c.requires.fact }

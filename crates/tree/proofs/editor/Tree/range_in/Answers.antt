@@ -1,4 +1,4 @@
-use Rattle.tree.specs.laws.lookup.RangeCall.{way_in, in_output}
+use Rattle.tree.specs.laws.lookup.RangeCall.{way_in}
 use Rattle.tree.specs.laws.lookup.RangeLeaves.{ranged_undone, ranged_left}
 use borrow.Author.Rules.{rules}
 use Rattle.std.proofs.Common.{◌∙◌}
@@ -10,11 +10,6 @@ returns-clause-answer c =
     ranged_undone c.args.lent c.args.self _ _ h'.now b'.now _ _ _ _ u
     ∙ search rules
     ∙ way_in _ c.args.lent c.args.self _ _ _ _ _ c.keyed.ensures c.in_ok-check.ensures _ c.keyed-2.ensures c.in_ok-check-2.ensures _ h.now b.now s.0
-
-pub returns-clause-output : goal.returns-clause-output
-returns-clause-output c =
-    let (h, b, h', b', s, p, u) = c.undone.ensures in
-    in_output _ c.args.lent c.args.self _ _ _ _ _ c.keyed.ensures c.in_ok-check.ensures _ c.keyed-2.ensures c.in_ok-check-2.ensures _ h.now b.now s.0 _ _ (search rules)
 
 pub returns-clause-left : goal.returns-clause-left
 returns-clause-left c =

@@ -9,3 +9,12 @@ body_holds-requires c = search laws
 
 pub returns : goal.returns
 returns c = search laws
+
+pub returns-then-most-h : goal.returns-then-most-h
+returns-then-most-h c = search (rules, slot_long)
+
+pub returns-then-not-body_holds : goal.returns-then-not-body_holds
+returns-then-not-body_holds c = search (rules, slot_body)
+
+pub returns-then-h-eq0 : goal.returns-then-h-eq0
+returns-then-h-eq0 c = search (rules, slot_leaf)
