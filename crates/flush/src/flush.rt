@@ -204,6 +204,20 @@ struct Source<'s> {
 }
 
 impl<'s> Source<'s> {
+    // The tree and its slots as they are read.
+    fn view<'h>(self, heads: &'h [u64]) -> View<'h, 's>
+        requires { StandsIn self heads.now }
+        ensures { (result.tree ≡ self.entry.tree) × (result.heads ≡ heads.entry) × (result.bytes ≡ self.entry.bytes)
+            × (result.lent ≡ self.entry.lent) }
+    {
+        View {
+            tree: self.tree,
+            heads,
+            bytes: self.bytes,
+            lent: self.lent,
+        }
+    }
+
     // A node packed and sealed into the block that it is given.
     #[tactic(auto, using(crate::specs::laws::BlockLaws::packing))]
     fn pack_at(self, image: &mut [u8], heads: &[u64], n: usize, a: usize, oid: u64)
@@ -214,12 +228,7 @@ impl<'s> Source<'s> {
     {
         let otype = type_of(self.tree.by_id, n == self.tree.root);
         let start = a * self.lent.size;
-        let view = View {
-            tree: self.tree,
-            heads,
-            bytes: self.bytes,
-            lent: self.lent,
-        };
+        let view = self.view(heads);
         view.pack_slot(&mut image[start..], n, oid, self.xid, otype);
     }
 
@@ -298,7 +307,7 @@ impl<'s> Source<'s> {
     }
 
     // Children before parent and left to right, the depth falling with the level.
-    #[tactic(auto, using(crate::specs::laws::GoingLaws::leaf_wrote, crate::specs::laws::GoingLaws::leaf_fits))]
+    #[tactic(auto, using(crate::specs::laws::GoingLaws::going))]
     fn write_from(
         self,
         image: &mut [u8],
@@ -324,12 +333,7 @@ impl<'s> Source<'s> {
             self.write_node(image, bitmap, free, heads, lists, n);
             return;
         }
-        let view = View {
-            tree: self.tree,
-            heads,
-            bytes: self.bytes,
-            lent: self.lent,
-        };
+        let view = self.view(heads);
         let records = view.records(n);
         for (_, r) in records.walk() {
             let Some(slot) = kids::kid_of(r) else {
@@ -360,10 +364,9 @@ fn lists_hold(
         && lists_hold slots (lists_of freed.now removed.now ids.now places.now) }
 {
     space::space_holds(bitmap, counts, free, size, blocks)
-        && freed.len() == slots
-        && removed.len() == slots
-        && ids.len() == slots
-        && places.len() == slots
+        && [freed, removed, ids, places]
+            .iter()
+            .all(|list| list.len() == slots)
 }
 
 // 16 fewer usable blocks than dirty nodes reached, 17 too few ids left.
@@ -404,19 +407,14 @@ impl<'s> Source<'s> {
         ensures kept { SameLists lists.old lists.new }
     {
         let t = self.tree;
-        let v = View {
-            tree: t,
-            heads,
-            bytes: self.bytes,
-            lent: self.lent,
-        };
+        let v = self.view(heads);
         let level = v.level_at(t.root);
         let filled = fill(v);
         lists.list_dead(t, heads);
         self.write_from(image, bitmap, free, heads, lists, t.root, level);
         Flushed {
             root: pack::child_number(heads, t.root as u64, t.by_id),
-            keys: t.key_count(),
+            keys: t.info.key_count,
             fill: filled,
             done: lists.done,
         }

@@ -45,10 +45,7 @@ pub fn first_free(bitmap: &[u8], a: usize, n: usize) -> Option<usize>
     for i in (0..n).step_by(8) {
         let z = first_zero(bitmap[(a + i) / 8]);
         if z < 8 {
-            if i + z < n {
-                return Some(a + i + z);
-            }
-            return None;
+            return (i + z < n).then_some(a + i + z);
         }
     }
     None

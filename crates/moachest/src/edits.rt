@@ -35,7 +35,7 @@ pub fn upsert(
     ensures words { tree.new ≡ edited_tree tree.old (edited_back (returned result) tree.new) }
 {
     let t = words::load(tree)?;
-    let edited = t.upsert(image, heads, bytes, scratch, lent, key, value)?;
+    let edited = t.upsert(image, heads, bytes, lent, key, value, scratch)?;
     words::store(tree, edited);
     Ok(())
 }
@@ -90,7 +90,7 @@ pub fn remove(
         × (answer.new ≡ removed_answer answer.old (removed_back (returned result) tree.new answer.new)) }
 {
     let t = words::load_for(tree, answer)?;
-    let (t, there) = t.remove(image, heads, bytes, scratch, lent, key)?;
+    let (t, there) = t.remove(image, heads, bytes, lent, key, scratch)?;
     words::store(tree, t);
     there.put(answer);
     Ok(())
@@ -151,7 +151,7 @@ pub fn omap_put(
     ensures words { tree.new ≡ edited_tree tree.old (edited_back (returned result) tree.new) }
 {
     let t = words::load(tree)?;
-    let edited = t.omap_put(image, heads, bytes, scratch, lent, id, xid, address, length)?;
+    let edited = t.omap_put(image, heads, bytes, lent, id, xid, address, length, scratch)?;
     words::store(tree, edited);
     Ok(())
 }
@@ -182,7 +182,7 @@ pub fn omap_put_trusted(
     ensures words { tree.new ≡ edited_tree tree.old (edited_back (returned result) tree.new) }
 {
     let t = words::load(tree)?;
-    let edited = t.omap_put_in(image, heads, bytes, lent, scratch, id, xid, address, length)?;
+    let edited = t.omap_put_in(image, heads, bytes, lent, id, xid, address, length, scratch)?;
     words::store(tree, edited);
     Ok(())
 }
@@ -206,7 +206,7 @@ pub fn omap_drop(
     ensures words { tree.new ≡ edited_tree tree.old (edited_back (returned result) tree.new) }
 {
     let t = words::load(tree)?;
-    let edited = t.omap_drop(image, heads, bytes, scratch, lent, id)?;
+    let edited = t.omap_drop(image, heads, bytes, lent, id, scratch)?;
     words::store(tree, edited);
     Ok(())
 }
@@ -234,7 +234,7 @@ pub fn omap_drop_trusted(
     ensures words { tree.new ≡ edited_tree tree.old (edited_back (returned result) tree.new) }
 {
     let t = words::load(tree)?;
-    let edited = t.omap_drop_in(image, heads, bytes, lent, scratch, id)?;
+    let edited = t.omap_drop_in(image, heads, bytes, lent, id, scratch)?;
     words::store(tree, edited);
     Ok(())
 }

@@ -20,7 +20,7 @@ use Rattle.flush.specs.Flush.{Flushing, write_node, write_kids, write_from}
 use Rattle.flush.specs.declared.flush.Flushing as code
 use Rattle.flush.specs.internal.Walk.{flushing_of, Alive, Standing, Spaced, Fitting, Left, Going}
 use Rattle.flush.specs.laws.WalkLaws.{Grows, grows_on, grows_node, grows_kids, grows_from, fitting_less, node_alike, write_alike}
-use Rattle.flush.specs.laws.StepLaws.{left_same, left_on}
+use Rattle.flush.specs.laws.StepLaws.{left_same, left_on, kept_on, spaced_same, fitting_same}
 use Rattle.std.specs.Prelude.{Some, None}
 
 -- ---- one child among the records
@@ -211,3 +211,5 @@ module _ (size slots blocks xid n d : ℕ) (t : Tree) (part cs bytes image₀ bm
       pub end_left : (heads' fs' is' ps' : List ℕ) (v' : code.Flushing) → Left size slots t heads heads' bytes fs fs' is is' ps ps' v v'
           → Left size slots t heads₀ heads' bytes fs₀ fs' is₀ is' ps₀ ps' w v'
       end_left heads' fs' is' ps' v' l = left_on size slots t heads₀ heads heads' bytes fs₀ fs fs' is₀ is is' ps₀ ps ps' w v v' g.left l
+
+pub ruleset going = (leaf_wrote, leaf_fits, go_skip, end_alive, end_fits, end_wrote, end_left, kept_on, spaced_same, fitting_same)

@@ -16,12 +16,13 @@ use Rattle.std.proofs.lemmas.Nat.{and_mask, mod-pow-add}
 use Rattle.std.proofs.lemmas.Nat.Bits.{and_high}
 use Rattle.std.specs.Int.{div_ceil, trailing_ones, w8}
 use Rattle.std.specs.Int.Count.{ones, ones_step, count_trailing_zeros}
-use borrow.Author.Tests.{eqb-true, eqb-false, eq-eqb, ne_eqb, leb-true, leb-false, le-leb, lt-leb}
+use borrow.Author.Tests.{ltb-true, ltb-false, eqb-true, eqb-false, eq-eqb, ne_eqb, leb-true, leb-false, le-leb, lt-leb}
 use Rattle.tree.specs.laws.base.Node.{by_test, never, and_split, and-false}
 use Rattle.tree.specs.Lent.{is_size}
 use Rattle.flush.specs.Space.{Space, Choice, space_of, chunk_blocks, is_used, mark_used, ones_below, first_zero, first_free, zeros_below, zeros, choose_from, choose, choice_means, taken, allocated, lesser, usable_from, usable, chunks_hold, space_holds, Held}
 use Rattle.flush.specs.laws.SpaceLaws.{Chosen, chosen, mark_length_lem}
-use Rattle.std.specs.Prelude.{Option, Some, None, option_to_list}
+use Rattle.std.specs.Prelude.{Option, Some, None, option_to_list, ltb}
+use Rattle.std.specs.Bool.{then_some}
 use Rattle.flush.specs.declared.space.Choice as code
 
 -- ---- one bit
@@ -168,16 +169,24 @@ first_nothing bm m a e = rw e
 pub first_start : (bm : List ℕ) (n a : ℕ) → first_free bm (n - 0) (a + 0) ≡ first_free bm n a
 first_start bm n a = let p : n - 0 ≡ n = omega arith in rw (p, add-zero a)
 
-pub first_found : (bm : List ℕ) (n a i z : ℕ) → a % 8 ≡ 0 → i % 8 ≡ 0 → z ≡ first_zero (get_or bm ((a + i) / 8) 0) → z < 8 → i + z < n
+first_found : (bm : List ℕ) (n a i z : ℕ) → a % 8 ≡ 0 → i % 8 ≡ 0 → z ≡ first_zero (get_or bm ((a + i) / 8) 0) → z < 8 → i + z < n
     → first_free bm (n - i) (a + i) ≡ first_free bm n a → (a + i + z) ∷ [] ≡ first_free bm n a
 first_found bm n a i z e f p h k v =
     sym (free_first bm (n - i - z) (a + i + z) (omega arith) (byte_free bm (a + i) z (omega arith) p h))
     ∙ sym (byte_past bm (a + i) (n - i) z (omega arith) p) ∙ v
 
-pub first_past : (bm : List ℕ) (n a i z : ℕ) → a % 8 ≡ 0 → i % 8 ≡ 0 → z ≡ first_zero (get_or bm ((a + i) / 8) 0) → z < 8 → n ≤ i + z
+first_past : (bm : List ℕ) (n a i z : ℕ) → a % 8 ≡ 0 → i % 8 ≡ 0 → z ≡ first_zero (get_or bm ((a + i) / 8) 0) → z < 8 → n ≤ i + z
     → first_free bm (n - i) (a + i) ≡ first_free bm n a → [] ≡ first_free bm n a
 first_past bm n a i z e f p h k v =
     sym (first_nothing bm (n - i - z) (a + i + z) (omega arith)) ∙ sym (byte_past bm (a + i) (n - i) z (omega arith) p) ∙ v
+
+-- the first 0 bit of a byte is the answer where it is one of the n
+pub first_one : (bm : List ℕ) (n a i z : ℕ) (r : Option ℕ) → a % 8 ≡ 0 → i % 8 ≡ 0 → z ≡ first_zero (get_or bm ((a + i) / 8) 0) → z < 8
+    → r ≡ then_some (ltb (i + z) n) (a + i + z) → first_free bm (n - i) (a + i) ≡ first_free bm n a → option_to_list r ≡ first_free bm n a
+first_one bm n a i z r e f p h q v =
+    by_test (ltb (i + z) n)
+    (λ t. ap option_to_list (rw t at q) ∙ first_found bm n a i z e f p h (ltb-true (i + z) n t) v)
+    (λ t. ap option_to_list (rw t at q) ∙ first_past bm n a i z e f p h (ltb-false (i + z) n t) v)
 
 pub first_next : (bm : List ℕ) (n a i z : ℕ) → a % 8 ≡ 0 → i % 8 ≡ 0 → z ≡ first_zero (get_or bm ((a + i) / 8) 0) → 8 ≤ z
     → first_free bm (n - i) (a + i) ≡ first_free bm n a → first_free bm (n - (i + 8)) (a + (i + 8)) ≡ first_free bm n a
@@ -655,7 +664,7 @@ pub ruleset using_up = (chunk_aligned, chunk_mapped, chunk_small, chunk_free, us
 
 pub ruleset holding = (bitmap_fits, space_chunks, space_counts, space_map)
 
-pub ruleset first = (first_start, first_found, first_past, first_next, first_last, first_end)
+pub ruleset first = (first_start, first_one, first_next, first_last, first_end)
 
 pub ruleset choosing = (choose_start, choose_found, choose_next, choose_end)
 

@@ -13,8 +13,9 @@ use Rattle.tree.specs.Lookup.{get_in}
 use Rattle.tree.specs.Workspace.{state_of}
 use Rattle.tree.specs.Answers.{got_means}
 use Rattle.tree.specs.Trusts.{Trusts, GotCalled}
+use Rattle.tree.specs.internal.Bank.{ReadyAfter}
 use Rattle.tree.specs.internal.Loaded.{LeafIs}
-use Rattle.tree.specs.internal.Get.{got_at, ReadyGot}
+use Rattle.tree.specs.internal.Get.{got_at}
 use Rattle.tree.specs.laws.lookup.LoadedCalls.{leaf_suits, leaf_answer, got_left}
 use Rattle.tree.specs.declared.editor.Tree.{Tree}
 use Rattle.tree.specs.declared.get.Copied.{Copied}
@@ -64,7 +65,7 @@ module _ (image heads bytes k : List ℕ) (l : Lent) (t : Tree) (p : Trusts imag
 
   pub quick_left : (out : List ℕ) (room : ℕ) (g : std.Result (Tree × Option Copied) Refusal)
       → got_means l.size heads bytes out g ≡ got_at (state_of l.size t heads bytes) room m k
-      → ReadyGot l.size l.slots heads bytes g → GotCalled image l t heads bytes heads bytes g
+      → ReadyAfter l.size l.slots heads bytes g → GotCalled image l t heads bytes heads bytes g
   quick_left out room g e r = got_left image l t heads bytes p k out room g (e ∙ quick_is room) r
 
 pub ruleset get_trusted_laws = (trusts_loaded, quick_suits, quick_is, got)

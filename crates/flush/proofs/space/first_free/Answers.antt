@@ -1,11 +1,8 @@
 use borrow.Author.Rules.{rules}
-use Rattle.flush.specs.laws.SpaceSteps.{first_start, first_found, first_past, first_next, first_last, first_end}
+use Rattle.flush.specs.laws.SpaceSteps.{first_start, first_one, first_next, first_last, first_end}
 use Rattle.flush.proofs.space.first_free.Goals as goal
 
-ruleset laws = (rules, first_start, first_found, first_past, first_next, first_last, first_end)
-
-pub returns-then-i-z : goal.returns-then-i-z
-returns-then-i-z c = search laws
+ruleset laws = (rules, first_start, first_one, first_next, first_last, first_end)
 
 pub returns-then-z-lt8 : goal.returns-then-z-lt8
 returns-then-z-lt8 c = search laws

@@ -1,5 +1,5 @@
 use Rattle.std.proofs.Common.{arith, rules, refl, sym, ap, ◌∙◌}
-use Rattle.flush.specs.laws.GoingLaws.{go_start, go_skip, go_turn, go_alive, go_fits, end_alive, end_fits, end_wrote, end_left}
+use Rattle.flush.specs.laws.GoingLaws.{go_start, go_turn, go_alive, go_fits}
 use Rattle.flush.specs.laws.StepLaws.{kept_refl, kept_on, spaced_same, fitting_same}
 use Rattle.flush.proofs.flush.Source.+write_from.Goals as goal
 
@@ -10,31 +10,16 @@ loop-r-init t c =
     let f = ap (λ x. x.records) w ∙ c.walk-r-items.ensures.0 in
     let a = c.args in
     let p = c.requires in
+    let v = c.view-view.ensures in
+    let g = rw (v.0, v.1, v.2, v.3) at c.records-records.ensures.entries in
     record {
-      same = rw f c.records-records.ensures.entries;
+      same = rw f g;
       image = refl;
       bitmap = refl;
       free = refl;
       heads = refl;
       kept = kept_refl _;
       going = rw e (go_start _ a.self.lent.slots _ a.self.xid a.n a.d a.self.tree _ _ _ _ _ _ _ _ _ _ _ _ p.standing p.chunks);
-    }
-
-pub loop-r-preserved-in_default : goal.loop-r-preserved-in_default
-loop-r-preserved-in_default t c =
-    let a = c.args in
-    let j = c.loop-r.invariant in
-    let s = c.in-Some.ensures.steps in
-    let o = s.start ∙ c.loop-r.r-iterator.start in
-    let k = rw s.slot at c.kid_of.ensures in
-    record {
-      same = rw s.records j.same;
-      image = j.image;
-      bitmap = j.bitmap;
-      free = j.free;
-      heads = j.heads;
-      kept = j.kept;
-      going = rw (s.next, s.records) (go_skip _ a.self.lent.slots _ a.self.xid a.n a.d a.self.tree _ _ _ _ _ _ _ _ _ _ _ _ _ _ _ _ _ _ _ _ _ j.going s.within _ o _ k (search rules));
     }
 
 pub write_from-requires : goal.write_from-requires
@@ -78,34 +63,4 @@ loop-r-preserved t c =
       heads = search (rules, c.write_from.auto, j);
       kept = kept_on _ _ _ j.kept e.kept;
       going = rw (s.next, s.records) (go_turn _ a.self.lent.slots _ a.self.xid a.n a.d a.self.tree _ _ _ _ _ _ _ _ _ _ _ _ _ _ _ _ _ _ _ _ _ j.going s.within _ o _ k _ c.in-Some-kid_of.is _ _ _ _ _ _ _ _ e.wrote e.left (spaced_same _ _ _ _ (sym j.image) e.spaced));
-    }
-
-pub write_node-requires-2 : goal.write_node-requires-2
-write_node-requires-2 t c =
-    let a = c.args in
-    let p = c.requires in
-    let j = c.loop-r.invariant in
-    let z = c.in-None.ensures.steps in
-    let g = j.going in
-    record {
-      standing = g.left.standing;
-      alive = end_alive _ a.self.lent.slots _ a.self.xid a.n a.d a.self.tree _ _ _ _ _ _ _ _ _ _ _ _ _ _ _ _ _ _ _ _ _ g c.if-d-eq0.false j.same p.alive (omega arith);
-      chunks = spaced_same _ _ _ _ j.image g.spaced;
-      fitting = fitting_same _ _ _ _ _ _ _ j.kept.freed.long j.kept.ids.long j.kept.places.long
-          (end_fits _ a.self.lent.slots _ a.self.xid a.n a.d a.self.tree _ _ _ _ _ _ _ _ _ _ _ _ _ _ _ _ _ _ _ _ _ g c.if-d-eq0.false j.same p.alive (omega arith) _ _ _ p.fitting);
-    }
-
-pub returns : goal.returns
-returns t c =
-    let a = c.args in
-    let p = c.requires in
-    let j = c.loop-r.invariant in
-    let z = c.in-None.ensures.steps in
-    let g = j.going in
-    let e = c.write_node-2.ensures in
-    record {
-      wrote = end_wrote _ a.self.lent.slots _ a.self.xid a.n a.d a.self.tree _ _ _ _ _ _ _ _ _ _ _ _ _ _ _ _ _ _ _ _ _ g c.if-d-eq0.false j.same p.alive (omega arith) _ e.wrote;
-      left = end_left _ a.self.lent.slots _ a.self.xid a.n a.d a.self.tree _ _ _ _ _ _ _ _ _ _ _ _ _ _ _ _ _ _ _ _ _ g c.if-d-eq0.false j.same p.alive (omega arith) _ _ _ _ _ e.left;
-      spaced = spaced_same _ _ _ _ (sym j.image) e.spaced;
-      kept = kept_on _ _ _ j.kept e.kept;
     }

@@ -12,6 +12,8 @@ write_from-requires-clause-fitting c =
     let a = c.args in
     let p = c.requires in
     let d = c.list_dead.ensures in
+    let v = c.view-v.ensures in
+    let e = rw (v.0, v.1, v.2, v.3) at c.level_at-level.ensures in
     fitting_same _ _ _ _ _ _ _ (d.kept.freed.long ∙ p.long.0) (ap (λ (x : MutBor (List ℕ)). length x.now) d.kept.ids ∙ p.long.2)
     (ap (λ (x : MutBor (List ℕ)). length x.now) d.kept.places ∙ p.long.3)
-    (walk_fits _ a.self.lent.slots a.self.xid a.lists.now.done.next _ a.self.tree _ _ _ _ _ _ _ _ _ _ _ c.level_at-level.ensures d.listed p.fitting)
+    (walk_fits _ a.self.lent.slots a.self.xid a.lists.now.done.next _ a.self.tree _ _ _ _ _ _ _ _ _ _ _ e d.listed p.fitting)
