@@ -48,20 +48,11 @@ pub fn empty(each: u64) -> BTreeInfo
     } }
 {
     BTreeInfo {
-        flags: 0,
         node_size: SIZE as u64,
         key_size: each,
         val_size: each,
-        longest_key: 0,
-        longest_val: 0,
-        key_count: 0,
-        node_count: 1,
+        ..BTreeInfo::EMPTY
     }
-}
-
-// The key or value of two numbers.
-fn pair(a: u64, b: u64) -> [u8; 16] {
-    Order::pair_key(a, b)
 }
 
 // What is lent to the calls. One for `dock` too would be a library, whose contracts would say again what those of the calls say.
@@ -126,16 +117,20 @@ impl Desk {
             &self.image,
             &mut self.heads,
             &mut self.bytes,
-            &mut self.scratch,
             LENT,
             key,
             Some(value),
+            &mut self.scratch,
         )
     }
 
     // An id's mapping at a transaction put: the address is the transaction.
     pub fn put(&mut self, tree: Tree, id: u64, xid: u64) -> Result<Tree, Refusal> {
-        self.upsert(tree, &pair(id, xid), &pair((SIZE as u64) << 32, xid))
+        self.upsert(
+            tree,
+            &Order::pair_key(id, xid),
+            &Order::pair_key((SIZE as u64) << 32, xid),
+        )
     }
 
     // An id's mapping at 1 taken out.
@@ -144,9 +139,9 @@ impl Desk {
             &self.image,
             &mut self.heads,
             &mut self.bytes,
-            &mut self.scratch,
             LENT,
-            &pair(id, 1),
+            &Order::pair_key(id, 1),
+            &mut self.scratch,
         )?;
         Ok(tree)
     }

@@ -42,14 +42,10 @@ const EMPTY: NodeBuild = NodeBuild {
     level: 0,
     root: true,
     info: BTreeInfo {
-        flags: 0,
         node_size: SIZE as u64,
         key_size: 16,
         val_size: 16,
-        longest_key: 0,
-        longest_val: 0,
-        key_count: 0,
-        node_count: 1,
+        ..BTreeInfo::EMPTY
     },
 };
 
@@ -137,12 +133,12 @@ impl Desk {
             &self.image,
             &mut self.heads,
             &mut self.bytes,
-            &mut self.scratch,
             LENT,
             id,
             xid,
             address,
             SIZE as u64,
+            &mut self.scratch,
         );
         let (refusal, tree) = match got {
             Ok(edited) => (0, edited),

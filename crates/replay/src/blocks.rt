@@ -9,12 +9,14 @@ use seal::checksum;
 impl Memory<'_> {
     // A block's bit set, the free count of its chunk lowered if the bit was 0; a count of 0 stays.
     pub fn mark(&mut self, a: usize) {
-        let each = self.sizes.chunk();
-        if each == 0 || self.bitmap.len() <= a / 8 || space::is_used(self.bitmap, a) {
+        let Some(sizes) = self.sizes else {
+            return;
+        };
+        if self.bitmap.len() <= a / 8 || space::is_used(self.bitmap, a) {
             return;
         }
         space::mark_used(self.bitmap, a);
-        if let Some(free) = self.free.get_mut(a / each) {
+        if let Some(free) = self.free.get_mut(a / sizes.chunk()) {
             *free = free.saturating_sub(1);
         }
     }
@@ -45,8 +47,8 @@ impl State<'_> {
 
     // (mark ADDR COUNT)
     pub fn mark(&mut self, a: u64, n: u64) -> Result<(), Fault> {
-        let blocks = self.memory.sizes.blocks as u64;
-        if blocks == 0 || blocks < a || blocks - a < n {
+        let blocks = self.memory.sizes()?.blocks as u64;
+        if blocks < a || blocks - a < n {
             return Err(Fault::NotTaken);
         }
         for b in a..a + n {
@@ -61,7 +63,7 @@ impl State<'_> {
         let n = u32::try_from(blocks)?;
         let f = u32::try_from(free)?;
         let c = chunk as usize;
-        if self.memory.sizes.chunks() <= c || self.memory.counts.len() <= c {
+        if self.memory.sizes()?.chunks() <= c || self.memory.counts.len() <= c {
             return Err(Fault::NotTaken);
         }
         self.memory.counts[c] = n;

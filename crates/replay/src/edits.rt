@@ -22,7 +22,7 @@ impl State<'_> {
             scratch,
             lent,
         } = self.memory.workspace(place.map)?;
-        let tree = tree.upsert(image, heads, bytes, scratch, lent, key, value)?;
+        let tree = tree.upsert(image, heads, bytes, lent, key, value, scratch)?;
         self.accept(Opened { tree, place }, b"upsert 0");
         Ok(())
     }
@@ -39,7 +39,7 @@ impl State<'_> {
             scratch,
             lent,
         } = self.memory.workspace(place.map)?;
-        let (tree, found) = tree.remove(image, heads, bytes, scratch, lent, key)?;
+        let (tree, found) = tree.remove(image, heads, bytes, lent, key, scratch)?;
         let answer: &[u8] = if found {
             b"remove 0 yes"
         } else {
@@ -52,7 +52,7 @@ impl State<'_> {
     // (put ID XID ADDR)
     pub fn put(&mut self, id: u64, xid: u64, a: u64) -> Result<(), Fault> {
         let Opened { tree, place } = self.opened()?;
-        let size = self.memory.sizes.size as u64;
+        let size = self.memory.sizes()?.size as u64;
         let Workspace {
             image,
             heads,
@@ -60,7 +60,7 @@ impl State<'_> {
             scratch,
             lent,
         } = self.memory.workspace(place.map)?;
-        let tree = tree.omap_put(image, heads, bytes, scratch, lent, id, xid, a, size)?;
+        let tree = tree.omap_put(image, heads, bytes, lent, id, xid, a, size, scratch)?;
         self.accept(Opened { tree, place }, b"put 0");
         Ok(())
     }
@@ -75,7 +75,7 @@ impl State<'_> {
             scratch,
             lent,
         } = self.memory.workspace(place.map)?;
-        let tree = tree.omap_drop(image, heads, bytes, scratch, lent, id)?;
+        let tree = tree.omap_drop(image, heads, bytes, lent, id, scratch)?;
         self.accept(Opened { tree, place }, b"drop 0");
         Ok(())
     }

@@ -43,10 +43,7 @@ impl Root {
             node_size: size as u64,
             key_size: u64::from(self.key_size),
             val_size: u64::from(self.val_size),
-            longest_key: 0,
-            longest_val: 0,
-            key_count: 0,
-            node_count: 1,
+            ..BTreeInfo::EMPTY
         }
     }
 

@@ -15,7 +15,7 @@ impl Memory<'_> {
         xid: u64,
         next: u64,
     ) -> Result<Flushed, Fault> {
-        let s = self.sizes;
+        let s = self.sizes()?;
         let flushed = flush::flush::flush(
             tree,
             first_mut(self.image, s.image_bytes())?,

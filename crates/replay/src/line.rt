@@ -2,7 +2,7 @@
 use crate::empty::{Root, Storage};
 use node::order::Order;
 use script::words;
-use script::words::ByteString;
+use script::words::{ByteString, bytes, number, number_u32};
 
 #[derive(Clone, Copy)]
 pub enum Line<'a> {
@@ -58,21 +58,6 @@ pub enum Call<'a> {
     Walk,
 }
 
-// Word k as a number.
-fn number(w: &[u8], k: usize) -> Option<u64> {
-    words::number(words::word(w, k))
-}
-
-// Word k as a number below 2^32.
-fn number_u32(w: &[u8], k: usize) -> Option<u32> {
-    words::number_u32(words::word(w, k))
-}
-
-// Word k as a byte string.
-fn bytes(w: &[u8], k: usize) -> Option<ByteString<'_>> {
-    words::bytes(words::word(w, k))
-}
-
 fn storage_of(word: &[u8]) -> Option<Storage> {
     match word {
         b"physical" => Some(Storage::Physical),
@@ -89,83 +74,87 @@ fn order_of(word: &[u8]) -> Option<Order> {
     }
 }
 
-// (empty ADDR STORAGE ID XID SUBTYPE FLAGS KEY VALUE)
-fn root_of(w: &[u8]) -> Option<Root> {
-    Some(Root {
-        address: number(w, 1)?,
-        storage: storage_of(words::word(w, 2))?,
-        id: number(w, 3)?,
-        xid: number(w, 4)?,
-        subtype: number_u32(w, 5)?,
-        flags: number_u32(w, 6)?,
-        key_size: number_u32(w, 7)?,
-        val_size: number_u32(w, 8)?,
-    })
-}
-
-fn set_up_of(w: &[u8]) -> Option<SetUp<'_>> {
-    let line = match (words::count(w), words::word(w, 0)) {
-        (3, b"image") => SetUp::Image {
-            blocks: number(w, 1)?,
-            size: number(w, 2)?,
+fn set_up_of<'a>(line: &[&'a [u8]]) -> Option<SetUp<'a>> {
+    let line = match line {
+        [b"image", blocks, size] => SetUp::Image {
+            blocks: number(blocks)?,
+            size: number(size)?,
         },
-        (2, b"slots") => SetUp::Slots(number(w, 1)?),
-        (3, b"block") => SetUp::Block {
-            address: number(w, 1)?,
-            bytes: bytes(w, 2)?,
+        [b"slots", n] => SetUp::Slots(number(n)?),
+        [b"block", address, hex] => SetUp::Block {
+            address: number(address)?,
+            bytes: bytes(hex)?,
         },
-        (2, b"seal") => SetUp::Seal(number(w, 1)?),
-        (3, b"mark") => SetUp::Mark {
-            address: number(w, 1)?,
-            count: number(w, 2)?,
+        [b"seal", address] => SetUp::Seal(number(address)?),
+        [b"mark", address, count] => SetUp::Mark {
+            address: number(address)?,
+            count: number(count)?,
         },
-        (4, b"count") => SetUp::Count {
-            chunk: number(w, 1)?,
-            blocks: number(w, 2)?,
-            free: number(w, 3)?,
+        [b"count", chunk, blocks, free] => SetUp::Count {
+            chunk: number(chunk)?,
+            blocks: number(blocks)?,
+            free: number(free)?,
         },
-        (9, b"empty") => SetUp::Empty(root_of(w)?),
-        (2, b"map") => SetUp::Map(match words::word(w, 1) {
-            b"-" => None,
-            address => Some(words::number(address)?),
+        [
+            b"empty",
+            address,
+            storage,
+            id,
+            xid,
+            subtype,
+            flags,
+            key,
+            value,
+        ] => SetUp::Empty(Root {
+            address: number(address)?,
+            storage: storage_of(storage)?,
+            id: number(id)?,
+            xid: number(xid)?,
+            subtype: number_u32(subtype)?,
+            flags: number_u32(flags)?,
+            key_size: number_u32(key)?,
+            val_size: number_u32(value)?,
         }),
+        [b"map", b"-"] => SetUp::Map(None),
+        [b"map", address] => SetUp::Map(Some(number(address)?)),
         _ => return None,
     };
     Some(line)
 }
 
-fn call_of(w: &[u8]) -> Option<Call<'_>> {
-    let call = match (words::count(w), words::word(w, 0)) {
-        (4, b"open") => Call::Open {
-            root: number(w, 1)?,
-            order: order_of(words::word(w, 2))?,
-            xid: number(w, 3)?,
+fn call_of<'a>(line: &[&'a [u8]]) -> Option<Call<'a>> {
+    let call = match line {
+        [b"open", root, order, xid] => Call::Open {
+            root: number(root)?,
+            order: order_of(order)?,
+            xid: number(xid)?,
         },
-        (2, b"get") => Call::Get(bytes(w, 1)?),
-        (2, b"floor") => Call::Floor(bytes(w, 1)?),
-        (3, b"range") => Call::Range {
-            low: bytes(w, 1)?,
-            high: bytes(w, 2)?,
+        [b"get", key] => Call::Get(bytes(key)?),
+        [b"floor", key] => Call::Floor(bytes(key)?),
+        [b"range", low, high] => Call::Range {
+            low: bytes(low)?,
+            high: bytes(high)?,
         },
-        (3, b"upsert") => Call::Upsert {
-            key: bytes(w, 1)?,
-            value: match words::word(w, 2) {
-                b"-" => None,
-                value => Some(words::bytes(value)?),
-            },
+        [b"upsert", key, b"-"] => Call::Upsert {
+            key: bytes(key)?,
+            value: None,
         },
-        (2, b"remove") => Call::Remove(bytes(w, 1)?),
-        (4, b"put") => Call::Put {
-            id: number(w, 1)?,
-            xid: number(w, 2)?,
-            address: number(w, 3)?,
+        [b"upsert", key, value] => Call::Upsert {
+            key: bytes(key)?,
+            value: Some(bytes(value)?),
         },
-        (2, b"drop") => Call::Drop(number(w, 1)?),
-        (3, b"flush") => Call::Flush {
-            xid: number(w, 1)?,
-            next: number(w, 2)?,
+        [b"remove", key] => Call::Remove(bytes(key)?),
+        [b"put", id, xid, address] => Call::Put {
+            id: number(id)?,
+            xid: number(xid)?,
+            address: number(address)?,
         },
-        (1, b"walk") => Call::Walk,
+        [b"drop", id] => Call::Drop(number(id)?),
+        [b"flush", xid, next] => Call::Flush {
+            xid: number(xid)?,
+            next: number(next)?,
+        },
+        [b"walk"] => Call::Walk,
         _ => return None,
     };
     Some(call)
@@ -199,10 +188,11 @@ pub fn parse(line: &[u8]) -> Option<Line<'_>> {
     if is_passed(line) {
         return Some(Line::Passed);
     }
-    let w = words::inner(line);
-    set_up_of(w)
+    let words = words::split(words::inner(line))?;
+    let words = words.as_slice();
+    set_up_of(words)
         .map(Line::SetUp)
-        .or_else(|| call_of(w).map(Line::Call))
+        .or_else(|| call_of(words).map(Line::Call))
 }
 
 // The same of a line that is longer than there is room for, by its start: a comment at most.

@@ -27,7 +27,6 @@ use fault::Fault;
 use line::{Call, Line, SetUp};
 use memory::Memory;
 use script::input::{Lines, TooLong};
-use sizes::Sizes;
 use state::State;
 use std::io;
 
@@ -112,7 +111,7 @@ fn main(rt: HostRuntime) -> io::Result<()> {
     let mut ids = [0; limits::SLOTS];
     let mut places = [0; limits::SLOTS];
     let memory = Memory {
-        sizes: Sizes::NONE,
+        sizes: None,
         image: &mut image,
         bitmap: &mut bitmap,
         counts: &mut counts,

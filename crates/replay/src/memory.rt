@@ -7,7 +7,8 @@ use tree::lent::Lent;
 // The arrays are lent: a struct that held them would stand on the stack twice while it is made, past its 8 MiB.
 #[derive(Drop)]
 pub struct Memory<'a> {
-    pub sizes: Sizes,
+    // None where there is no image yet.
+    pub sizes: Option<Sizes>,
     pub image: &'a mut [u8; limits::IMAGE],
     pub bitmap: &'a mut [u8; limits::BITMAP],
     // A chunk's blocks, and how many of them are free.
@@ -40,13 +41,18 @@ pub fn first_mut<T, const N: usize>(s: &mut [T; N], n: usize) -> Result<&mut [T]
 }
 
 impl Memory<'_> {
+    // The sizes, of an image that is there.
+    pub fn sizes(&self) -> Result<Sizes, Fault> {
+        self.sizes.ok_or(Fault::NotTaken)
+    }
+
     // The image from a block on.
     pub fn image_from(&mut self, a: u64) -> Result<&mut [u8], Fault> {
-        let s = self.sizes;
+        let s = self.sizes()?;
         if s.blocks as u64 <= a {
             return Err(Fault::NotTaken);
         }
-        let start = (a as usize).saturating_mul(s.size);
+        let start = a as usize * s.size;
         let Memory { image, .. } = self;
         let whole = first_mut(image, s.image_bytes())?;
         whole.get_mut(start..).ok_or(Fault::NotTaken)
@@ -54,7 +60,7 @@ impl Memory<'_> {
 
     // A block of the image.
     pub fn block(&mut self, a: u64) -> Result<&mut [u8], Fault> {
-        let size = self.sizes.size;
+        let size = self.sizes()?.size;
         let rest = self.image_from(a)?;
         rest.get_mut(..size).ok_or(Fault::NotTaken)
     }
@@ -62,10 +68,7 @@ impl Memory<'_> {
     // What is lent to a call on the open tree, or to the one that opens it, with a map or without: an image there has
     // to be.
     pub fn workspace(&mut self, map: Option<u64>) -> Result<Workspace<'_>, Fault> {
-        let s = self.sizes;
-        if s.image_bytes() == 0 {
-            return Err(Fault::NotTaken);
-        }
+        let s = self.sizes()?;
         let Memory {
             image,
             heads,

@@ -1,5 +1,6 @@
 // The lines of an accepted flush.
 use crate::memory::Memory;
+use crate::sizes::Sizes;
 use crate::{answers, limits};
 use flush::flush::Flushed;
 use flush::space;
@@ -31,8 +32,10 @@ fn is_new(bitmap: &[u8], old: &[u8; limits::BITMAP], a: usize) -> bool {
 
 // The blocks written, in the order written: blocks are chosen by rising address.
 fn written(o: &mut Out, m: &Memory, old: &[u8; limits::BITMAP]) {
-    let size = m.sizes.size;
-    for a in (0..m.sizes.blocks).filter(|a| is_new(m.bitmap, old, *a)) {
+    let Some(Sizes { blocks, size, .. }) = m.sizes else {
+        return;
+    };
+    for a in (0..blocks).filter(|a| is_new(m.bitmap, old, *a)) {
         let start = a.saturating_mul(size);
         o.open(b"wrote");
         o.number(a as u64);

@@ -18,15 +18,11 @@ impl Memory<'_> {
     }
 
     // An image of zeros, and its block accounts.
-    fn wipe(&mut self, blocks: u32, size: u32) -> Result<(), Fault> {
-        self.sizes = Sizes {
-            blocks: blocks as usize,
-            size: size as usize,
-            ..Sizes::NONE
-        };
-        first_mut(self.image, self.sizes.image_bytes())?.fill(0);
+    fn wipe(&mut self, sizes: Sizes) -> Result<(), Fault> {
+        self.sizes = Some(sizes);
+        first_mut(self.image, sizes.image_bytes())?.fill(0);
         self.bitmap.fill(0);
-        self.count_chunks(blocks, size.saturating_mul(8));
+        self.count_chunks(sizes.blocks as u32, sizes.chunk() as u32);
         Ok(())
     }
 }
@@ -34,12 +30,8 @@ impl Memory<'_> {
 impl State<'_> {
     // (image BLOCKS SIZE)
     pub fn image(&mut self, blocks: u64, size: u64) -> Result<(), Fault> {
-        let fits = blocks.saturating_mul(size) <= limits::IMAGE as u64;
-        if blocks == 0 || !lent::is_size(size as usize) || !fits {
-            return Err(Fault::NotTaken);
-        }
-        self.memory
-            .wipe(u32::try_from(blocks)?, u32::try_from(size)?)?;
+        let sizes = Sizes::of_image(blocks as usize, size as usize).ok_or(Fault::NotTaken)?;
+        self.memory.wipe(sizes)?;
         self.map = None;
         self.opened = None;
         self.walked = None;
@@ -50,11 +42,13 @@ impl State<'_> {
     // (slots N)
     pub fn slots(&mut self, n: u64) -> Result<(), Fault> {
         let slots = n as usize;
-        let fits = slots.saturating_mul(self.memory.sizes.size) <= limits::ROOM;
-        if slots == 0 || lent::MOST_SLOTS < slots || !fits {
+        let size = self.memory.sizes.map_or(0, |s| s.size);
+        if !lent::is_slots(slots) || limits::ROOM < slots.saturating_mul(size) {
             return Err(Fault::NotTaken);
         }
-        self.memory.sizes.slots = slots;
+        if let Some(sizes) = self.memory.sizes {
+            self.memory.sizes = Some(sizes.with_slots(slots));
+        }
         self.opened = None;
         self.out.one(b"slots", n);
         Ok(())

@@ -5,16 +5,12 @@ use crate::fault::Fault;
 use crate::memory::{Memory, first_mut};
 use crate::state::{Place, State};
 use node::read;
-use node::read::{ReadEntry, ReadNode};
+use node::read::{Parent, ReadEntry, ReadNode};
 use node::val::{Child, Val};
 use tree::editor::Bounds;
+use tree::map::UNBOUNDED;
 use tree::mapped::Blocks;
 use tree::refusal::Refusal;
-
-const NO_BOUNDS: Bounds<&[u8]> = Bounds {
-    lower: None,
-    upper: None,
-};
 
 // What a walk reads: the image, what is lent to a call on its tree, the root, and the lists of where the last flush
 // moved ids.
@@ -62,19 +58,20 @@ impl<'a> Walk<'a> {
 
     // The child of an entry, within its bounds.
     fn child(self, entry: ReadEntry<'a>, b: Bounds<&'a [u8]>) -> Result<ReadNode<'a>, Fault> {
-        let r = match entry.value() {
-            Val::Child(Child::Disk(r)) => r,
-            _ => 0,
+        let Val::Child(Child::Disk(r)) = entry.value() else {
+            return Err(Fault::Refused(Refusal::Lent));
         };
         let v = entry.read.node;
         let Bounds { lower, upper } = b;
-        let place = read::Place {
-            root: false,
-            oid: r,
-            parent: v.level,
+        let parent = Parent {
+            level: v.level,
             ksize: v.ksize,
             vsize: v.vsize,
             lower,
+        };
+        let place = read::Place {
+            oid: r,
+            parent: Some(parent),
             upper,
         };
         self.load(place, self.address(r)?)
@@ -82,21 +79,11 @@ impl<'a> Walk<'a> {
 
     // The root, held to 10 as open has it.
     fn root(self) -> Result<ReadNode<'a>, Fault> {
-        let place = read::Place {
-            root: true,
-            oid: self.place.root,
-            parent: 0,
-            ksize: 0,
-            vsize: 0,
-            lower: None,
-            upper: None,
-        };
-        let a = self.address(self.place.root)?;
-        let read = self.load(place, a)?;
+        let root = self.place.root;
+        let a = self.address(root)?;
+        let read = self.load(read::Place::root(root), a)?;
         let by_id = self.place.map.is_some();
-        if !self.blocks.root_holds(a, by_id, read.node) {
-            return Err(Fault::Refused(Refusal::Root));
-        }
+        self.blocks.root_info(a, by_id, read.node)?;
         Ok(read)
     }
 
@@ -128,18 +115,15 @@ impl<'a> Walk<'a> {
         requires { (state : F) (x : _) → F.pre state x }
     {
         let root = self.root()?;
-        self.below(root, NO_BOUNDS, root.node.level, &mut to)
+        self.below(root, UNBOUNDED, root.node.level, &mut to)
     }
 }
 
 impl Memory<'_> {
     // What is read by a walk from a root.
     pub fn walk(&mut self, place: Place) -> Result<Walk<'_>, Fault> {
-        let s = self.sizes;
+        let s = self.sizes()?;
         let lent = s.lent(place.map);
-        if !(512..=65536).contains(&lent.size) {
-            return Err(Fault::Refused(Refusal::Lent));
-        }
         let Memory {
             image,
             ids,

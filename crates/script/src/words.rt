@@ -1,8 +1,10 @@
 // One line of the script language: what stands between its brackets, and the words there, parted by single spaces.
-ghost use Rattle.std.specs.Prelude.{◌≡◌, ◌++◌, ◌+◌, ◌*◌, ◌<◌, ◌^◌, min, length, take, drop, true, false, MatchOption, SomeIff, is_some};
+ghost use Rattle.std.specs.Prelude.{◌≡◌, ◌++◌, ◌+◌, ◌*◌, ◌<◌, ◌^◌, min, length, map, take, drop, true, false, MatchOption, SomeIff, is_some};
 ghost use Rattle.std.specs.List.{list_all};
-ghost use Rattle.script.specs.Words.{inner_of, word_count, word_of, number_read, u32_read, AreNumbers, LacksNumber};
+ghost use Rattle.script.specs.Words.{inner_of, word_count, word_of, words_of, number_read, u32_read, AreNumbers, LacksNumber};
 ghost use Rattle.script.specs.Words.{digit_of, nibble_of, is_bytes, decoded, bytes_of};
+
+use arrayvec::ArrayVec;
 
 // What stands between the brackets; nothing where there are none.
 #[tactic(auto, unfolding(crate::specs::Words::inner_of, crate::specs::Words::bracketed))]
@@ -27,6 +29,20 @@ pub fn word(s: &[u8], k: usize) -> &[u8]
     ensures { result.now ≡ word_of s.now k }
 {
     s.split(|b| *b == b' ').nth(k).unwrap_or(&[])
+}
+
+// The most words that a line has.
+pub const MOST: usize = 9;
+
+// The words of a text, where they are no more than a line has.
+pub fn split(s: &[u8]) -> Option<ArrayVec<&[u8], MOST>>
+    ensures { MatchOption result (9 < word_count s.now) (λ v. map (λ w. w.now) v.items ≡ words_of s.now) }
+{
+    let mut words = ArrayVec::new();
+    for w in s.split(|b| *b == b' ') {
+        words.try_push(w).ok()?;
+    }
+    Some(words)
 }
 
 // A number with one digit more, where the byte is one and the number stays below 2^64.
