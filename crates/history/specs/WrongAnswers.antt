@@ -220,32 +220,38 @@ flushed p n hs =
 
 unfoldable pub seal_rows : List Row
 seal_rows =
-    record { contract = "bytes::u8_at"; gives = get_or eight 2 0 ∷ []; right = 3 ∷ []; wrong = 2 ∷ []; wrong' = 0 ∷ [] }
-    ∷ record { contract = "bytes::u16_at"; gives = u16_at eight 1 ∷ []; right = 0x0302 ∷ []; wrong = 0x0203 ∷ []; wrong' = 0x0201 ∷ [] }
-    ∷ record { contract = "bytes::u32_at"; gives = u32_at eight 1 ∷ []; right = 0x05040302 ∷ []; wrong = 0x02030405 ∷ []; wrong' = 0x0302 ∷ [] }
+    record { contract = "bytes::field_at::<1>"; gives = get_or eight 2 0 ∷ []; right = 3 ∷ []; wrong = 2 ∷ []; wrong' = 0 ∷ [] }
+    ∷ record { contract = "bytes::field_at::<2>"; gives = u16_at eight 1 ∷ []; right = 0x0302 ∷ []; wrong = 0x0203 ∷ []; wrong' = 0x0201 ∷ [] }
     ∷ record {
-      contract = "bytes::u64_at";
+      contract = "bytes::field_at::<4>";
+      gives = u32_at eight 1 ∷ [];
+      right = 0x05040302 ∷ [];
+      wrong = 0x02030405 ∷ [];
+      wrong' = 0x0302 ∷ [];
+    }
+    ∷ record {
+      contract = "bytes::field_at::<8>";
       gives = u64_at eight 0 ∷ [];
       right = 0x0807060504030201 ∷ [];
       wrong = 0x0102030405060708 ∷ [];
       wrong' = 0x04030201 ∷ [];
     }
     ∷ record {
-      contract = "bytes::put_u16";
+      contract = "bytes::put_field::<2>";
       gives = splice eight 1 (bytes_of 2 0xABCD);
       right = 1 ∷ 0xCD ∷ 0xAB ∷ 4 ∷ 5 ∷ 6 ∷ 7 ∷ 8 ∷ [];
       wrong = 1 ∷ 0xAB ∷ 0xCD ∷ 4 ∷ 5 ∷ 6 ∷ 7 ∷ 8 ∷ [];
       wrong' = eight;
     }
     ∷ record {
-      contract = "bytes::put_u32";
+      contract = "bytes::put_field::<4>";
       gives = splice eight 4 (bytes_of 4 1);
       right = 1 ∷ 2 ∷ 3 ∷ 4 ∷ 1 ∷ 0 ∷ 0 ∷ 0 ∷ [];
       wrong = 1 ∷ 2 ∷ 3 ∷ 4 ∷ 1 ∷ 0 ∷ 7 ∷ 8 ∷ [];
       wrong' = 1 ∷ 2 ∷ 3 ∷ 1 ∷ 0 ∷ 0 ∷ 0 ∷ 8 ∷ [];
     }
     ∷ record {
-      contract = "bytes::put_u64";
+      contract = "bytes::put_field::<8>";
       gives = splice eight 0 (bytes_of 8 0x0102);
       right = 2 ∷ 1 ∷ 0 ∷ 0 ∷ 0 ∷ 0 ∷ 0 ∷ 0 ∷ [];
       wrong = 0 ∷ 0 ∷ 0 ∷ 0 ∷ 0 ∷ 0 ∷ 1 ∷ 2 ∷ [];
@@ -259,14 +265,14 @@ seal_rows =
       wrong' = 1 ∷ 9 ∷ 8 ∷ 4 ∷ 5 ∷ 6 ∷ 7 ∷ 8 ∷ [];
     }
     ∷ record {
-      contract = "bytes::move_down";
+      contract = "bytes::shift: down";
       gives = moved eight 2 1 4;
       right = 1 ∷ 3 ∷ 4 ∷ 5 ∷ 6 ∷ 6 ∷ 7 ∷ 8 ∷ [];
       wrong = 1 ∷ 6 ∷ 6 ∷ 6 ∷ 6 ∷ 6 ∷ 7 ∷ 8 ∷ [];
       wrong' = 1 ∷ 3 ∷ 4 ∷ 5 ∷ 5 ∷ 6 ∷ 7 ∷ 8 ∷ [];
     }
     ∷ record {
-      contract = "bytes::move_up";
+      contract = "bytes::shift: up";
       gives = moved eight 1 2 4;
       right = 1 ∷ 2 ∷ 2 ∷ 3 ∷ 4 ∷ 5 ∷ 7 ∷ 8 ∷ [];
       wrong = 1 ∷ 2 ∷ 2 ∷ 2 ∷ 2 ∷ 2 ∷ 7 ∷ 8 ∷ [];
@@ -359,7 +365,7 @@ order_rows =
       wrong' = 5 ∷ replicate 7 0 ++ 5 ∷ replicate 7 0;
     }
     ∷ record {
-      contract = "order::compare";
+      contract = "Order::compare";
       gives = number (is_eq (compared byte (1 ∷ []) (1 ∷ []))) ∷ number (is_eq (compared byte (1 ∷ []) (1 ∷ 1 ∷ []))) ∷ [];
       right = 1 ∷ 0 ∷ [];
       wrong = 1 ∷ 1 ∷ [];
@@ -400,28 +406,28 @@ record_rows =
       wrong' = 5 ∷ 0 ∷ 0xFFFE ∷ [];
     }
     ∷ record {
-      contract = "record::next, record::record_at";
+      contract = "Record::next, Record::parts";
       gives = record_length slot ∷ record_length (drop 7 slot) ∷ [];
       right = 7 ∷ 5 ∷ [];
       wrong = 3 ∷ 5 ∷ [];
       wrong' = 7 ∷ 4 ∷ [];
     }
     ∷ record {
-      contract = "record::lies";
+      contract = "Record::at";
       gives = number (leb (7 + record_length (drop 7 slot)) (length slot)) ∷ number (leb (7 + record_length (drop 7 slot)) 11) ∷ [];
       right = 1 ∷ 0 ∷ [];
       wrong = 1 ∷ 1 ∷ [];
       wrong' = 0 ∷ 0 ∷ [];
     }
     ∷ record {
-      contract = "record::child_at";
+      contract = "Record::value: a child";
       gives = number (is_child (entry_of slot).value) ∷ number (is_child (disk 3)) ∷ [];
       right = 0 ∷ 1 ∷ [];
       wrong = 1 ∷ 1 ∷ [];
       wrong' = 0 ∷ 0 ∷ [];
     }
     ∷ record {
-      contract = "record::suits";
+      contract = "Record::suits";
       gives = number (suit true (entry_of slot)) ∷ number (suit false (entry_of slot)) ∷ [];
       right = 1 ∷ 0 ∷ [];
       wrong = 1 ∷ 1 ∷ [];
@@ -435,7 +441,7 @@ record_rows =
           ∷ 1 ∷ 2 ∷ 9 ∷ [];
       wrong' = 2 ∷ 0 ∷ 1 ∷ 0 ∷ 9 ∷ 1 ∷ 2 ∷ [];
     }
-    ∷ record { contract = "slot::offset_of"; gives = records_length 1 slot ∷ []; right = 7 ∷ []; wrong = 0 ∷ []; wrong' = 12 ∷ [] }
+    ∷ record { contract = "Records::offset_of"; gives = records_length 1 slot ∷ []; right = 7 ∷ []; wrong = 0 ∷ []; wrong' = 12 ∷ [] }
     ∷ record {
       contract = "slot::records_hold";
       gives = number (records_hold 2 12 slot) ∷ number (records_hold 2 11 slot) ∷ [];
@@ -444,22 +450,22 @@ record_rows =
       wrong' = 0 ∷ 0 ∷ [];
     }
     ∷ record {
-      contract = "slot::marks_suit";
+      contract = "stands::check: what the entries hold";
       gives = number (suits true (entries_of 2 slot)) ∷ number (suits false (entries_of 2 slot)) ∷ [];
       right = 1 ∷ 0 ∷ [];
       wrong = 1 ∷ 1 ∷ [];
       wrong' = 0 ∷ 0 ∷ [];
     }
-    ∷ record { contract = "slot::key_of"; gives = (entry_of slot).key; right = 1 ∷ 2 ∷ []; wrong = 9 ∷ []; wrong' = 2 ∷ 0 ∷ [] }
+    ∷ record { contract = "Record::key"; gives = (entry_of slot).key; right = 1 ∷ 2 ∷ []; wrong = 9 ∷ []; wrong' = 2 ∷ 0 ∷ [] }
     ∷ record {
-      contract = "slot::value_of";
+      contract = "Record::value";
       gives = value_length (entry_of slot).value ∷ value_bytes (entry_of slot).value ++ value_length (entry_of (drop 7 slot)).value ∷ [];
       right = 1 ∷ 9 ∷ 0 ∷ [];
       wrong = 2 ∷ 1 ∷ 2 ∷ 0 ∷ [];
       wrong' = 1 ∷ 9 ∷ 8 ∷ [];
     }
     ∷ record {
-      contract = "slot::below";
+      contract = "Records::below";
       gives = place_of byte (3 ∷ []) two ∷ number (is_there byte (3 ∷ []) two) ∷ place_of byte (2 ∷ []) two ∷ number (is_there byte (2 ∷ []) two)
           ∷ [];
       right = 1 ∷ 1 ∷ 1 ∷ 0 ∷ [];
@@ -467,7 +473,7 @@ record_rows =
       wrong' = 1 ∷ 1 ∷ 1 ∷ 1 ∷ [];
     }
     ∷ record {
-      contract = "slot::not_above";
+      contract = "Records::not_above";
       gives = not_above byte (3 ∷ []) two ∷ not_above byte (0 ∷ []) two ∷ [];
       right = 2 ∷ 0 ∷ [];
       wrong = 1 ∷ 0 ∷ [];
@@ -538,17 +544,23 @@ record_rows =
 
 unfoldable pub fit_rows : List Row
 fit_rows =
-    record { contract = "fit::align8"; gives = align8 8 ∷ align8 9 ∷ []; right = 8 ∷ 16 ∷ []; wrong = 16 ∷ 16 ∷ []; wrong' = 8 ∷ 8 ∷ [] }
-    ∷ record { contract = "fit::padded"; gives = padded loose 9 ∷ []; right = 16 ∷ []; wrong = 9 ∷ []; wrong' = 8 ∷ [] }
+    record {
+      contract = "room::padded: of eight bytes";
+      gives = align8 8 ∷ align8 9 ∷ [];
+      right = 8 ∷ 16 ∷ [];
+      wrong = 16 ∷ 16 ∷ [];
+      wrong' = 8 ∷ 8 ∷ [];
+    }
+    ∷ record { contract = "room::padded"; gives = padded loose 9 ∷ []; right = 16 ∷ []; wrong = 9 ∷ []; wrong' = 8 ∷ [] }
     ∷ record {
-      contract = "fit::data_space";
+      contract = "room::data_space";
       gives = data_space 512 true ∷ data_space 512 false ∷ [];
       right = 416 ∷ 456 ∷ [];
       wrong = 456 ∷ 456 ∷ [];
       wrong' = 416 ∷ 416 ∷ [];
     }
     ∷ record {
-      contract = "fit::toc_slots";
+      contract = "Shape::toc_slots";
       gives = toc_slots loose true 0 17 ∷ toc_slots tight true 0 1 ∷ [];
       right = 24 ∷ 16 ∷ [];
       wrong = 17 ∷ 16
@@ -556,35 +568,35 @@ fit_rows =
       wrong' = 24 ∷ 11 ∷ [];
     }
     ∷ record {
-      contract = "fit::toc_length";
+      contract = "Shape::toc_length";
       gives = toc_length loose true 0 17 ∷ toc_length tight true 0 1 ∷ [];
       right = 192 ∷ 64 ∷ [];
       wrong = 192 ∷ 128 ∷ [];
       wrong' = 96 ∷ 64 ∷ [];
     }
     ∷ record {
-      contract = "fit::fits_sums";
+      contract = "Shape::fits_sums";
       gives = number (fits_sums loose true 0 1 288) ∷ number (fits_sums loose true 0 1 289) ∷ [];
       right = 1 ∷ 0 ∷ [];
       wrong = 0 ∷ 0 ∷ [];
       wrong' = 1 ∷ 1 ∷ [];
     }
     ∷ record {
-      contract = "fit::fits";
+      contract = "SlotNode::fits";
       gives = number (fits tight true 0 (pairs 12 0)) ∷ number (fits tight false 0 (pairs 12 0)) ∷ number (fits tight true 1 (children 14 0)) ∷ [];
       right = 0 ∷ 1 ∷ 1 ∷ [];
       wrong = 1 ∷ 1 ∷ 1 ∷ [];
       wrong' = 0 ∷ 1 ∷ 0 ∷ [];
     }
     ∷ record {
-      contract = "fit::longer";
+      contract = "Lengths::longer";
       gives = lengths_numbers (longer_of loose slot (record { at = 0; keys = 0; values = 0 }));
       right = 7 ∷ 8 ∷ 8 ∷ [];
       wrong = 7 ∷ 2 ∷ 1 ∷ [];
       wrong' = 7 ∷ 8 ∷ 0 ∷ [];
     }
     ∷ record {
-      contract = "fit::lengths_of";
+      contract = "Records::lengths";
       gives = lengths_numbers (lengths_of loose 2 slot);
       right = 12 ∷ 16 ∷ 8 ∷ [];
       wrong = 12 ∷ 8 ∷ 8 ∷ [];
@@ -592,7 +604,7 @@ fit_rows =
     }
     ∷ record { contract = "flush: fill"; gives = packed_length loose true 0 two ∷ []; right = 152 ∷ []; wrong = 132 ∷ []; wrong' = 24 ∷ [] }
     ∷ record {
-      contract = "cut::cut";
+      contract = "SlotNode::cut";
       gives = outcome (λ c. c ∷ []) (cut tight 0 (pairs 13 0)) ++ outcome (λ c. c ∷ []) (cut tight 0 (pairs 1 0));
       right = 0 ∷ 6 ∷ 13 ∷ [];
       wrong = 0 ∷ 7 ∷ 13 ∷ [];
@@ -634,7 +646,7 @@ block_rows =
       wrong' = 2 ∷ 1 ∷ [];
     }
     ∷ record {
-      contract = "read::value_at, read::child_at";
+      contract = "ReadEntry::value, ReadEntry::child";
       gives = value_bytes (entry_at node block 0).value ++ value_length (entry_at node block 1).value ∷ [];
       right = 9 ∷ 0 ∷ [];
       wrong = 0 ∷ 0 ∷ [];
@@ -648,7 +660,7 @@ block_rows =
       wrong' = 6 ∷ 3 ∷ [];
     }
     ∷ record {
-      contract = "search::not_above";
+      contract = "ReadNode::not_above";
       gives = not_above byte (3 ∷ []) (entries_from node block 0 2) ∷ not_above byte (2 ∷ []) (entries_from node block 0 2) ∷ [];
       right = 2 ∷ 1 ∷ [];
       wrong = 1 ∷ 1 ∷ [];
@@ -662,7 +674,7 @@ block_rows =
       wrong' = 0 ∷ 2 ∷ 12 ∷ 1 ∷ 40 ∷ 1 ∷ 7 ∷ 1 ∷ 0 ∷ [];
     }
     ∷ record {
-      contract = "adopt::adopt";
+      contract = "ReadNode::adopt";
       gives = records_of (entries_from node block 0 2);
       right = take 12 slot;
       wrong = take 7 slot;
@@ -718,7 +730,7 @@ tree_rows =
       wrong' = 1 ∷ 0 ∷ 1 ∷ 1 ∷ [];
     }
     ∷ record {
-      contract = "map::address_of: of transactions 8 and 2, and without a map";
+      contract = "Blocks::address_of: of transactions 8 and 2, and without a map";
       gives = address_as (address_of (lent_of (root_of tight 0 versions) mapped) 8 5) ++ address_as
           (address_of (lent_of (root_of tight 0 versions) mapped) 2 5) ++ address_as (address_of (lent_of (root_of tight 0 versions) lent) 8 5);
       right = 0 ∷ 3 ∷ 18 ∷ 0 ∷ 5 ∷ [];
@@ -884,7 +896,7 @@ space_rows =
       wrong' = 9 ∷ 8 ∷ [];
     }
     ∷ record { contract = "space::zeros"; gives = zeros (0xF0 ∷ 0 ∷ []) 6 2 ∷ []; right = 2 ∷ []; wrong = 4 ∷ []; wrong' = 6 ∷ [] }
-    ∷ record { contract = "space::choose"; gives = chosen (choose 512 space); right = 9 ∷ 0 ∷ []; wrong = 8 ∷ 0 ∷ []; wrong' = [] }
+    ∷ record { contract = "Chunks::choose"; gives = chosen (choose 512 space); right = 9 ∷ 0 ∷ []; wrong = 8 ∷ 0 ∷ []; wrong' = [] }
     ∷ record {
       contract = "space::alloc";
       gives = take 2 (allocated 512 space).bitmap ++ (allocated 512 space).free;
@@ -893,7 +905,7 @@ space_rows =
       wrong' = 0xFF ∷ 0xFD ∷ 0 ∷ [];
     }
     ∷ record {
-      contract = "space::usable";
+      contract = "Chunks::usable";
       gives = usable 512 space ∷ usable 512
           (record { bitmap = replicate 512 0; counts = 16 ∷ []; free = 3 ∷ [] }) ∷ [];
       right = 1 ∷ 3 ∷ [];
