@@ -16,9 +16,9 @@ const MODULUS: u64 = WORD - 1;
 const CHUNK: usize = 4096;
 
 #[derive(Clone, Copy, Default)]
-struct Sums {
-    sum1: u64,
-    sum2: u64,
+pub struct Sums {
+    pub sum1: u64,
+    pub sum2: u64,
 }
 
 impl Sums {

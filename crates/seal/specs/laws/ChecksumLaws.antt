@@ -1,7 +1,7 @@
 -- Laws of the words and the two sums, and of loops that add them up. Assumes nothing.
 use Rattle.std.specs.Prelude.{◌≡◌, refl, List, [], ◌∷◌, ◌++◌, ℕ, zero, suc, ◌+◌, ◌-◌, ◌*◌, ◌/◌, ◌%◌, ◌^◌, ◌≤◌, ◌<◌, length, take, drop, get_or, min}
 use Rattle.std.specs.Simd.{first_chunks}
-use Rattle.std.proofs.Common.{sym, ap, ap₂, ◌∙◌, arith, add-one, append-nil, length-append, length-drop, drop-drop, drop-cons}
+use Rattle.std.proofs.Common.{sym, ap, ap₂, ◌∙◌, arith, add-one, append-nil, length-append, length-drop, length-take-le, take-append-drop, drop-drop, drop-cons}
 use Rattle.std.proofs.lemmas.List.{take_rest}
 use Rattle.seal.specs.Bytes.{window, le, field_at, u32_at, u64_at, AreBytes}
 use Rattle.seal.specs.Checksum.{M, words, s1, s2, stored_for, fletcher}
@@ -145,22 +145,22 @@ one_left l rest ps k a b x y w c e h f n m g p q =
 -- ---- a turn that adds one chunk and reduces, and the end
 
 -- the words of a run are those of its first chunk and those of what is left
-words_chunk : (l c r : List ℕ) → l ≡ c ++ r → length c ≡ min 4096 (length l) → words l ≡ words c ++ words r
+words_first : (l c r : List ℕ) → l ≡ c ++ r → length c ≡ min 4096 (length l) → words l ≡ words c ++ words r
 unfolding words
-words_chunk l c [] e h = rw (append-nil, e, append-nil)
-words_chunk l c (x ∷ r) e h =
+words_first l c [] e h = rw (append-nil, e, append-nil)
+words_first l c (x ∷ r) e h =
     let n : length l ≡ length c + suc (length r) = rw (e, length-append) in
     ap words e ∙ words_append c (x ∷ r) (omega arith)
 
 pub chunk_turn_1 : (c r : List ℕ) (a : ℕ) → length c ≡ min 4096 (length (c ++ r))
     → s1 (s1 a (words c) % M) (words r) % M ≡ s1 a (words (c ++ r)) % M
 chunk_turn_1 c r a h =
-    rw (words_chunk (c ++ r) c r refl h, s1_append) (s1_mod (s1 a (words c) % M) (s1 a (words c)) (words r) (omega arith))
+    rw (words_first (c ++ r) c r refl h, s1_append) (s1_mod (s1 a (words c) % M) (s1 a (words c)) (words r) (omega arith))
 
 pub chunk_turn_2 : (c r : List ℕ) (a b : ℕ) → length c ≡ min 4096 (length (c ++ r))
     → s2 (s1 a (words c) % M) (s2 a b (words c) % M) (words r) % M ≡ s2 a b (words (c ++ r)) % M
 chunk_turn_2 c r a b h =
-    rw (words_chunk (c ++ r) c r refl h, s2_append)
+    rw (words_first (c ++ r) c r refl h, s2_append)
     (s2_mod (s1 a (words c) % M) (s1 a (words c)) (s2 a b (words c) % M) (s2 a b (words c)) (words r) (omega arith) (omega arith))
 
 pub chunk_end_1 : (l : List ℕ) (a : ℕ) → length l < 4 → s1 a (words l) ≡ a
@@ -187,3 +187,24 @@ compute_law l t u c1 c2 e f p q =
     let a : c1 ≡ M - (x + y) % M = omega arith in
     let b : c2 ≡ M - (x + c1) % M = omega arith in
     rw (b, a)
+
+-- ---- at any place
+
+-- the words from i on are those of a chunk of n bytes and those after it
+pub words_chunk : (l : List ℕ) (i n : ℕ) → n ≤ length l - i → n % 4 ≡ 0 → words (drop i l) ≡ words (take n (drop i l)) ++ words (drop (i + n) l)
+words_chunk l i n h d =
+    let k : n ≤ length (drop i l) = rw length-drop h in
+    let e : length (take n (drop i l)) ≡ n = length-take-le n (drop i l) k in
+    let z : length (take n (drop i l)) % 4 ≡ 0 = omega arith in
+    ap words (sym (take-append-drop n (drop i l))) ∙ words_append (take n (drop i l)) (drop n (drop i l)) z
+    ∙ ap (λ (r : List ℕ). words (take n (drop i l)) ++ words r) (drop-drop n i l)
+
+-- one word more
+pub s1_next : (l : List ℕ) (i x w : ℕ) → 4 ≤ length l - i → w ≡ u32_at l i → s1 x (words (drop i l)) ≡ s1 (x + w) (words (drop (i + 4) l))
+unfolding s1
+s1_next l i x w h e = rw e (ap (s1 x) (words_next l i h))
+
+pub s2_next : (l : List ℕ) (i x y w : ℕ) → 4 ≤ length l - i → w ≡ u32_at l i → s2 x y (words (drop i l)) ≡ s2 (x + w) (y + (x + w))
+    (words (drop (i + 4) l))
+unfolding s2
+s2_next l i x y w h e = rw e (ap (s2 x y) (words_next l i h))

@@ -1,9 +1,9 @@
 -- Laws of little-endian numbers and of fields at an offset, each once over the width. Assumes nothing.
 use Rattle.std.specs.Prelude.{◌≡◌, refl, List, [], ◌∷◌, ◌++◌, ℕ, zero, suc, ◌+◌, ◌*◌, ◌/◌, ◌^◌, ◌≤◌, ◌<◌, length, take, drop, get_or}
-use Rattle.std.proofs.Common.{sym, ap, ◌∙◌, zero-add, one-mul, mul_assoc, mul-add, add_assoc, mul_comm, arith, drop-drop, get_or-drop}
-use Rattle.std.proofs.Math.Nat.{pow-zero, pow-succ'}
+use Rattle.std.proofs.Common.{sym, ap, ◌∙◌, zero-add, suc-add, one-mul, mul_assoc, mul-add, div-one, add_assoc, mul_comm, arith, drop-drop, get_or-drop}
+use Rattle.std.proofs.Math.Nat.{pow-zero, pow-succ', div-div-eq-div-mul}
 use Rattle.seal.specs.Bytes.{window, splice, le, bytes_of, field_at, AreBytes}
-use Rattle.seal.specs.laws.WindowLaws.{length_window, window_add, window_one, window_window, window_splice_before, window_splice_after, window_splice_same}
+use Rattle.seal.specs.laws.WindowLaws.{length_window, window_add, window_one, window_window, splice_two, window_splice_before, window_splice_after, window_splice_same}
 
 pub length_bytes_of : (n x : ℕ) → length (bytes_of n x) ≡ n
 unfolding bytes_of
@@ -107,3 +107,22 @@ field_fits n l i h = le_fits n (drop i l) (bytes_drop i l h)
 pub field_drop : (n a : ℕ) (l : List ℕ) (i : ℕ) → field_at n (drop a l) i ≡ field_at n l (a + i)
 unfolding field_at window
 field_drop n a l i = ap (λ (q : List ℕ). le (take n q)) (drop-drop i a l)
+
+-- ---- a field written in two parts
+
+-- the lowest n + m bytes of x are its lowest n, and then the lowest m of the rest
+pub bytes_of_add : (n m x : ℕ) → bytes_of (n + m) x ≡ bytes_of n x ++ bytes_of m (x / 256 ^ n)
+unfolding bytes_of
+bytes_of_add zero m x = simp (zero-add, pow-zero, div-one)
+bytes_of_add (suc n) m x = rw (suc-add, bytes_of_add n m (x / 256), div-div-eq-div-mul, pow-succ')
+
+-- l with the low n bytes of x, and then with m of the rest after them
+pub put_join : (l l₁ l₂ : List ℕ) (i n m x : ℕ) → i + (n + m) ≤ length l → l₁ ≡ splice l i (bytes_of n x)
+    → l₂ ≡ splice l₁ (i + n) (bytes_of m (x / 256 ^ n)) → l₂ ≡ splice l i (bytes_of (n + m) x)
+put_join l l₁ l₂ i n m x h p q =
+    let e : length (bytes_of n x) ≡ n = length_bytes_of n x in
+    let f : length (bytes_of m (x / 256 ^ n)) ≡ m = length_bytes_of m (x / 256 ^ n) in
+    q ∙ ap (λ (k : List ℕ). splice k (i + n) (bytes_of m (x / 256 ^ n))) p
+    ∙ ap (λ (k : ℕ). splice (splice l i (bytes_of n x)) (i + k) (bytes_of m (x / 256 ^ n))) (sym e)
+    ∙ splice_two l i (bytes_of n x) (bytes_of m (x / 256 ^ n)) (omega arith)
+    ∙ ap (splice l i) (sym (bytes_of_add n m x))

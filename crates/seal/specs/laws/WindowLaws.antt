@@ -1,9 +1,9 @@
 -- Laws of `window` and `splice`: lengths, what lies where a run was replaced and where it was not. Assumes nothing.
-use Rattle.std.specs.Prelude.{◌≡◌, List, [], ◌∷◌, ◌++◌, ℕ, zero, suc, ◌+◌, ◌≤◌, ◌<◌, ◌-◌, length, take, drop, get_or}
-use Rattle.std.proofs.Common.{sym, ap, ap₂, ◌∙◌, append_assoc, append-nil, add-zero, add_assoc, not-suc-le-zero, le_of_suc-le-suc, arith, length-append, length-take, length-drop, take-append-drop, take-add, drop-drop, drop-cons, length-take-le, take_at, drop_at, take-take, get_or-take, get_or-drop}
+use Rattle.std.specs.Prelude.{◌≡◌, List, [], ◌∷◌, ◌++◌, ℕ, zero, suc, ◌+◌, ◌≤◌, ◌<◌, ◌-◌, length, take, drop, get_or, set}
+use Rattle.std.proofs.Common.{sym, ap, ap₂, ◌∙◌, append_assoc, append-nil, add-zero, add_assoc, not-suc-le-zero, le_of_suc-le-suc, add-one, arith, length-append, length-take, length-drop, take-append-drop, take-add, drop-drop, drop-cons, length-take-le, take_at, drop_at, take-take, get_or-take, get_or-drop}
 use Rattle.std.proofs.Math.Nat.{sub-zero, suc-sub-suc}
-use Rattle.std.proofs.lemmas.List.{take-append-le, drop-append-le}
-use Rattle.std.proofs.Math.Seq.{drop-append-add, take-nil, take-append_seam}
+use Rattle.std.proofs.lemmas.List.{take-append-le, drop-append-le, set_split}
+use Rattle.std.proofs.Math.Seq.{drop-append-add, take-nil, take-append_seam, append_snoc}
 use Rattle.seal.specs.Bytes.{window, splice}
 
 -- ---- lengths
@@ -121,4 +121,8 @@ get_d_after l i vs j h k =
     ap (λ (q : ℕ). get_or (splice l i vs) q 0) (sym (add-zero j)) ∙ sym (get_d_window j 1 (splice l i vs) 0 z)
     ∙ ap (λ (q : List ℕ). get_or q 0 0) (window_splice_after l i vs j 1 h k) ∙ get_d_window j 1 l 0 z ∙ ap (λ (q : ℕ). get_or l q 0) (add-zero j)
 
--- ---- a loop that stores one element a turn
+-- ---- one element stored
+
+pub set_is_splice : (l : List ℕ) (i v : ℕ) → i < length l → set l i v ≡ splice l i (v ∷ [])
+unfolding splice
+set_is_splice l i v h = set_split l i v h ∙ rw (add-one, ← append_snoc)
