@@ -1,4 +1,4 @@
--- The greatest number, the words of a line, the answers' bytes, a line's bounds: what the contracts of `script` cite.
+-- The greatest number and products below it, the words of a line, the answers' bytes, a line's bounds: what the contracts of `script` cite.
 pub mod Number
 pub mod Words
 pub mod Out

@@ -1,9 +1,14 @@
 -- Answers: the bytes that wait after a text was put, and what is written. Where as many wait as there is room for, they are
 -- written and the next byte waits alone.
-use Rattle.std.specs.Prelude.{◌≡◌, Option, IsSome, IsNone, List, [], ◌∷◌, ◌++◌, cond, ℕ, ◌+◌, ◌/◌, ◌%◌, length, ltb, decimal}
+use Rattle.std.specs.Prelude.{◌≡◌, Option, IsSome, IsNone, List, [], ◌∷◌, ◌++◌, cond, ℕ, ◌+◌, ◌/◌, ◌%◌, length, take, ltb, decimal}
 use Rattle.std.specs.Io.KnownBytes.{Appends}
 use Rattle.script.specs.declared.out.TheConstants.{ROOM}
 use Rattle.script.specs.declared.out.Out.{Out}
+use Rattle.script.specs.declared.waiting.Waiting.{Waiting}
+
+-- the bytes that wait, of an array of which so many do
+unfoldable pub items : Waiting → List ℕ
+items w = take w.len w.bytes
 
 -- the bytes that wait, with one more: behind the others, or alone where there is no room for it
 unfoldable pub put : List ℕ → ℕ → List ℕ
@@ -30,8 +35,8 @@ pub record Wrote {E : Type 0} (f g : Option E) (old new : Option (List ℕ)) (bs
 
 -- a buffer o that gathers a text is p then: what waits, and what is written
 pub record Gathers {W : Type 0} (contents : W → Option (List ℕ)) (o p : Out W) (s : List ℕ) : Type 0 where
-  pub buffer : p.waiting.items ≡ puts o.waiting.items s
-  pub written : Wrote o.failed p.failed (contents o.to) (contents p.to) (sents o.waiting.items s)
+  pub buffer : items p.waiting ≡ puts (items o.waiting) s
+  pub written : Wrote o.failed p.failed (contents o.to) (contents p.to) (sents (items o.waiting) s)
 
 -- a space and a decimal number
 abbrev pub number_text : ℕ → List ℕ

@@ -1,8 +1,10 @@
 -- One line of the script language: what stands between its brackets, the words there, the numbers and the byte strings.
 -- A text is a list of bytes.
-use Rattle.std.specs.Prelude.{Option, Some, None, List, [], ◌∷◌, Bool, true, cond, ◌&&◌, ℕ, ◌+◌, ◌-◌, ◌*◌, ◌%◌, ◌^◌, length, take, drop, get_or, leb, ltb, eqb, slice_get, slice_index, EachIndex, unwrap_or, is_some, ◌≡◌, ◌<◌}
+use Rattle.std.specs.Prelude.{Option, Some, None, List, [], ◌∷◌, Bool, true, cond, ◌&&◌, ℕ, zero, suc, ◌+◌, ◌-◌, ◌*◌, ◌/◌, ◌%◌, ◌^◌, min, length, take, drop, get_or, leb, ltb, eqb, slice_get, slice_index, EachIndex, unwrap_or, is_some, ◌≡◌, ◌<◌}
+use Rattle.std.specs.Borrow.{Bor}
 use Rattle.std.specs.List.{slice_split, list_all}
 use Rattle.script.specs.Number.{most}
+use Rattle.script.specs.declared.list.Words.{Words}
 use Rattle.script.specs.declared.words.ByteString.{ByteString}
 
 -- whether a line begins with ( and ends with )
@@ -24,6 +26,10 @@ word_count s = length (words_of s)
 -- word k; an empty one where there are fewer words
 unfoldable pub word_of : List ℕ → ℕ → List ℕ
 word_of s k = unwrap_or (slice_get (words_of s) k) []
+
+-- the words of an array of which so many are a line's
+unfoldable pub listed : Words → List (Bor (List ℕ))
+listed w = take w.count w.list
 
 -- the value of a decimal digit; 10 where a byte is none
 unfoldable pub digit_of : ℕ → ℕ
@@ -55,6 +61,19 @@ number_read w = cond (is_number w) (Some (spelled 0 w)) None
 abbrev pub u32_read : List ℕ → Option ℕ
 u32_read w = cond (is_number w && ltb (spelled 0 w) (2 ^ 32)) (Some (spelled 0 w)) None
 
+-- the number of a word; the greatest where it is above that
+unfoldable pub number_of : List ℕ → ℕ
+number_of w = min (spelled 0 w) most
+
+-- whether a word is a number below 2^32
+unfoldable pub is_u32 : List ℕ → Bool
+is_u32 w = is_number w && ltb (number_of w) (2 ^ 32)
+
+-- whether the n words from word k on are numbers
+unfoldable pub are_numbers : List ℕ → ℕ → ℕ → Bool
+are_numbers s k zero = true
+are_numbers s k (suc n) = is_number (word_of s k) && are_numbers s (k + 1) n
+
 -- whether each of the words from word k on, as many as there are numbers, is its number
 abbrev pub AreNumbers : List ℕ → ℕ → List ℕ → Type 0
 AreNumbers s k xs = EachIndex xs (λ i. number_read (word_of s (k + i)) ≡ Some (slice_index xs i))
@@ -70,6 +89,10 @@ nibble_of b = cond (leb 48 b && leb b 57) (Some (b - 48)) (cond (leb 97 b && leb
 -- whether a word is a byte string: x and two lower-case hexadecimal digits a byte
 unfoldable pub is_bytes : List ℕ → Bool
 is_bytes w = eqb (length w % 2) 1 && eqb (get_or w 0 0) 120 && list_all (λ b. is_some (nibble_of b)) (drop 1 w)
+
+-- how many bytes a byte string has: two digits a byte, behind the x
+abbrev pub byte_count : List ℕ → ℕ
+byte_count w = (length w - 1) / 2
 
 -- the byte of two hexadecimal digits, the upper first
 abbrev pub byte_of : ℕ → ℕ → ℕ

@@ -2,5 +2,8 @@
 #![tactic(auto)]
 
 pub mod input;
+pub mod list;
+pub mod number;
 pub mod out;
+mod waiting;
 pub mod words;

@@ -1,19 +1,22 @@
 // Answers, gathered in a buffer that is written when it is full and at the end.
-ghost use Rattle.std.specs.Prelude.{◌≡◌, [], ◌∷◌, IsOk, IsNone, MatchOption, Err};
-ghost use Rattle.script.specs.Out.{Gathers, Wrote, hex_text, number_text, bytes_text, word_text};
+ghost use Rattle.std.specs.Prelude.{◌≡◌, ◌*◌, ◌<◌, ◌≤◌, [], ◌∷◌, length, take, IsOk, IsNone, MatchOption, Err};
+ghost use Rattle.script.specs.Out.{items, Gathers, Wrote, hex_digit, hex_text, number_text, bytes_text, word_text};
 ghost use Rattle.script.specs.Out.{open_text, close_text, one_text, two_open_text, two_text, error_text};
 
-use arrayvec::ArrayVec;
+use crate::waiting::Waiting;
 use std::io::{Error, Stdout, Write};
 
 // How many bytes of answers are gathered before they are written.
 pub const ROOM: usize = 32768;
 
+// How many bytes of a byte string are shown at once.
+const SHOWN: usize = 64;
+
 // A buffer of answers, and where it is written. `BufWriter` would allocate.
 #[derive(Drop)]
 pub struct Out<W = Stdout> {
     // The bytes that wait.
-    waiting: ArrayVec<u8, ROOM>,
+    waiting: Waiting,
     to: W,
     // The first write that failed: no more is written after it.
     failed: Option<Error>,
@@ -24,12 +27,12 @@ impl<W> Out<W> {
     pub fn new(to: W) -> Out<W>
     where
         W: Drop,
-        ensures waiting { result.waiting.items ≡ [] }
+        ensures waiting { items result.waiting ≡ [] }
         ensures to { result.to ≡ to }
         ensures failed { IsNone result.failed }
     {
         Out {
-            waiting: ArrayVec::new(),
+            waiting: Waiting::new(),
             to,
             failed: None,
         }
@@ -49,29 +52,34 @@ impl<W> Out<W> {
 impl<W: Write> Out<W> {
     // Writes what waits: nothing waits then.
     pub fn flush(&mut self)
-        ensures waiting { self.new.waiting.items ≡ [] }
+        ensures waiting { items self.new.waiting ≡ [] }
         ensures written { Wrote self.old.failed self.new.failed (W.contents self.old.to) (W.contents self.new.to)
-            self.old.waiting.items }
+            (items self.old.waiting) }
     {
         if self.failed.is_none() {
             self.failed = self.to.write_all(self.waiting.as_slice()).err();
         }
-        self.waiting.clear();
+        self.waiting.truncate(0);
     }
 
     #[tactic(auto, unfolding(crate::specs::Out::puts, crate::specs::Out::put, crate::specs::Out::sents, crate::specs::Out::sent))]
     pub fn byte(&mut self, b: u8)
         ensures { Gathers W.contents self.old self.new (b ∷ []) }
     {
-        if self.waiting.is_full() {
+        if self.waiting.room() == 0 {
             self.flush();
         }
         self.waiting.push(b);
     }
 
+    // Copied at once where there is room for all of it.
     pub fn text(&mut self, s: &[u8])
         ensures { Gathers W.contents self.old self.new s.now }
     {
+        if s.len() <= self.waiting.room() {
+            self.waiting.extend(s);
+            return;
+        }
         for b in s {
             self.byte(*b);
         }
@@ -87,15 +95,22 @@ impl<W: Write> Out<W> {
         self.text(&digits[..n]);
     }
 
+    // Two hexadecimal digits a byte, of bytes that are shown at once.
+    fn hex_part(&mut self, part: &[u8])
+        requires { length part.now ≤ SHOWN }
+        ensures { Gathers W.contents self.old self.new (hex_text part.now) }
+    {
+        let mut digits = [0; 2 * SHOWN];
+        hex_digits(part, &mut digits);
+        self.text(&digits[..2 * part.len()]);
+    }
+
     // Two hexadecimal digits a byte.
-    #[tactic(auto, using(crate::specs::laws::OutLaws::gathered), unfolding(crate::specs::Out::hex_text))]
     fn hex(&mut self, s: &[u8])
         ensures { Gathers W.contents self.old self.new (hex_text s.now) }
     {
-        let mut digits = [0; 16];
-        for b in s {
-            let n = io::hex(u64::from(*b), 2, &mut digits);
-            self.text(&digits[..n]);
+        for part in s.chunks(SHOWN) {
+            self.hex_part(part);
         }
     }
 
@@ -162,5 +177,26 @@ impl<W: Write> Out<W> {
         ensures { Gathers W.contents self.old self.new error_text }
     {
         self.text(b"(error)\n");
+    }
+}
+
+// A lower-case hexadecimal digit.
+#[tactic(auto, unfolding(crate::specs::Out::hex_digit))]
+fn hex_digit(d: u8) -> u8
+    requires { d < 16 }
+    ensures { result ≡ hex_digit d }
+{
+    if d < 10 { b'0' + d } else { b'a' + (d - 10) }
+}
+
+// Two hexadecimal digits a byte, at the front of a room.
+#[tactic(auto, using(crate::specs::laws::OutLaws::shown))]
+fn hex_digits(s: &[u8], room: &mut [u8])
+    requires { 2 * length s.now ≤ length room.old }
+    ensures { take (2 * length s.now) room.new ≡ hex_text s.now }
+{
+    for (i, b) in s.iter().enumerate() {
+        room[2 * i] = hex_digit(*b / 16);
+        room[2 * i + 1] = hex_digit(*b % 16);
     }
 }

@@ -1,10 +1,11 @@
 // One line of the script language: what stands between its brackets, and the words there, parted by single spaces.
-ghost use Rattle.std.specs.Prelude.{◌≡◌, ◌++◌, ◌+◌, ◌*◌, ◌<◌, ◌^◌, min, length, map, take, drop, true, false, MatchOption, SomeIff, is_some};
+ghost use Rattle.std.specs.Prelude.{◌≡◌, ◌++◌, ◌+◌, ◌-◌, ◌*◌, ◌<◌, ◌^◌, min, length, map, take, drop, true, false, MatchOption, SomeIff, is_some};
 ghost use Rattle.std.specs.List.{list_all};
-ghost use Rattle.script.specs.Words.{inner_of, word_count, word_of, words_of, number_read, u32_read, AreNumbers, LacksNumber};
-ghost use Rattle.script.specs.Words.{digit_of, nibble_of, is_bytes, decoded, bytes_of};
+ghost use Rattle.script.specs.Words.{inner_of, word_count, word_of, words_of, listed, number_read, u32_read, AreNumbers, LacksNumber};
+ghost use Rattle.script.specs.Words.{digit_of, is_number, number_of, is_u32, are_numbers};
+ghost use Rattle.script.specs.Words.{nibble_of, is_bytes, byte_count, decoded, bytes_of};
 
-use arrayvec::ArrayVec;
+use crate::list::Words;
 
 // What stands between the brackets; nothing where there are none.
 #[tactic(auto, unfolding(crate::specs::Words::inner_of, crate::specs::Words::bracketed))]
@@ -35,12 +36,12 @@ pub fn word(s: &[u8], k: usize) -> &[u8]
 pub const MOST: usize = 9;
 
 // The words of a text, where they are no more than a line has.
-pub fn split(s: &[u8]) -> Option<ArrayVec<&[u8], MOST>>
-    ensures { MatchOption result (9 < word_count s.now) (λ v. map (λ w. w.now) v.items ≡ words_of s.now) }
+pub fn split(s: &[u8]) -> Option<Words<'_>>
+    ensures { MatchOption result (9 < word_count s.now) (λ v. map (λ w. w.now) (listed v) ≡ words_of s.now) }
 {
-    let mut words = ArrayVec::new();
+    let mut words = Words::new();
     for w in s.split(|b| *b == b' ') {
-        words.try_push(w).ok()?;
+        words.push(w)?;
     }
     Some(words)
 }
@@ -69,11 +70,60 @@ pub fn number(w: &[u8]) -> Option<u64>
     Some(n)
 }
 
+// Whether a word is a decimal number below 2^64.
+#[tactic(auto, using(crate::specs::laws::NumberLaws::number_there))]
+pub fn is_number(w: &[u8]) -> bool
+    ensures { result ≡ is_number w.now }
+{
+    number(w).is_some()
+}
+
+// The value of a decimal digit; 10 where it is none.
+#[tactic(auto, unfolding(crate::specs::Words::digit_of))]
+fn digit(b: u8) -> u64
+    ensures { result ≡ digit_of b }
+{
+    char::from(b).to_digit(10).map_or(10, u64::from)
+}
+
+// The number of a word, whatever it is; the greatest where it is above that.
+#[tactic(auto, using(crate::specs::laws::NumberLaws::mosts))]
+pub fn number_or_most(w: &[u8]) -> u64
+    ensures { result ≡ number_of w.now }
+{
+    let mut n: u64 = 0;
+    for b in w {
+        n = n.saturating_mul(10).saturating_add(digit(*b));
+    }
+    n
+}
+
 // The number of a word, where it is a decimal number below 2^32.
 pub fn number_u32(w: &[u8]) -> Option<u32>
     ensures { result ≡ u32_read w.now }
 {
     u32::try_from(number(w)?).ok()
+}
+
+// Whether a word is a number below 2^32.
+#[tactic(auto, using(crate::specs::laws::NumberLaws::u32_there))]
+pub fn is_u32(w: &[u8]) -> bool
+    ensures { result ≡ is_u32 w.now }
+{
+    number_u32(w).is_some()
+}
+
+// Whether words from one to another, without it, are numbers.
+#[tactic(auto, using(crate::specs::laws::NumberLaws::all_numbers))]
+pub fn are_numbers(s: &[u8], from: usize, to: usize) -> bool
+    ensures { result ≡ are_numbers s.now from (to - from) }
+{
+    for k in from..to {
+        if !is_number(word(s, k)) {
+            return false;
+        }
+    }
+    true
 }
 
 // The numbers of the words from one on, where all are numbers.
@@ -102,6 +152,29 @@ pub fn bytes(w: &[u8]) -> Option<ByteString<'_>>
 {
     let digits = w.strip_prefix(b"x")?;
     (digits.len() % 2 == 0 && are_nibbles(digits)).then_some(ByteString { digits })
+}
+
+// Whether a word is a byte string: x and two hexadecimal digits a byte.
+pub fn is_bytes(w: &[u8]) -> bool
+    ensures { result ≡ is_bytes w.now }
+{
+    bytes(w).is_some()
+}
+
+// How many bytes a byte string has.
+pub fn length(w: &[u8]) -> usize
+    ensures { result ≡ byte_count w.now }
+{
+    w.len().saturating_sub(1) / 2
+}
+
+// The bytes of a byte string, as many as there is room for; 0 for a digit that is none. The answer is how many.
+pub fn decode(w: &[u8], out: &mut [u8]) -> usize
+    ensures { (result ≡ min (byte_count w.now) (length out.old))
+        × (out.new ≡ take result (decoded w.now) ++ drop result out.old) }
+{
+    let digits = &w[w.len().min(1)..];
+    ByteString { digits }.decode(out)
 }
 
 // Whether every byte is a lower-case hexadecimal digit.

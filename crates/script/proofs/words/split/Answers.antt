@@ -5,9 +5,9 @@ use Rattle.std.proofs.lemmas.Iterator.Splits.{YieldsList-from_slice_split}
 use Rattle.script.specs.Words.{words_of}
 use Rattle.script.proofs.words.split.Goals as goal
 
-pub returns-in_err-ok : goal.returns-in_err-ok
+pub returns-in_err-push : goal.returns-in_err-push
 unfolding words_of
-returns-in_err-ok c =
+returns-in_err-push c =
     let turn = YieldsList-turn
     (YieldsList-at c.into_iter-w-iterator.ensures.into_iter_gives
     (YieldsList-from_slice_split _ (λ b. eqb b 32) c.args.s.now c.split-w-items.ensures.rest c.split-w-items.ensures.done c.split-w-items.ensures.closure (λ x b q k. search (rules, tests))))
