@@ -1,7 +1,7 @@
 // Little-endian fields at an offset of a slice, and runs of bytes copied, moved and cleared (bytes.rs; the
 // `put_*` of write/mod.rs). A field comes back as a u64 whatever its width, since every caller computes with it.
 ghost use Rattle.std.specs.Prelude.{◌≡◌, ◌+◌, ◌≤◌, ◌<◌, ◌^◌, length, replicate};
-ghost use Rattle.seal.specs.Bytes.{field_at, splice, moved, bytes_of};
+ghost use Rattle.seal.specs.Bytes.{field_at, splice, moved, bytes_of, window};
 
 // The field of N bytes at offset i.
 #[tactic(auto, using(crate::specs::laws::WordLaws::field_read, crate::specs::laws::WordLaws::field_read_fits))]
@@ -26,22 +26,80 @@ pub fn put_field<const N: usize>(s: &mut [u8], i: usize, x: u64)
     s[i..i + N].copy_from_slice(&x.to_le_bytes()[..N]);
 }
 
-// All of `src`, stored in `dst` from `at` on.
+// 8 bytes of `src` from k on, stored in `dst` from p on: one load and one store.
+#[tactic(auto, using(crate::specs::laws::CopyLaws::word_moved))]
+fn copy_word(src: &[u8], k: usize, dst: &mut [u8], p: usize)
+    requires { (k + 8 ≤ length src.now) × (p + 8 ≤ length dst.old) }
+    ensures { dst.new ≡ splice dst.old p (window k 8 src.now) }
+{
+    put_field::<8>(dst, p, field_at::<8>(src, k));
+}
+
+// All of a `src` of 8 bytes or more, by words. The last word may overlap the one before: then no single bytes are left.
+#[tactic(auto, using(crate::specs::laws::CopyLaws::word_next, crate::specs::laws::CopyLaws::word_last, crate::specs::laws::CopyLaws::copy_start))]
+fn copy_words(src: &[u8], dst: &mut [u8], at: usize)
+    requires { (8 ≤ length src.now) × (at + length src.now ≤ length dst.old) }
+    ensures { dst.new ≡ splice dst.old at src.now }
+{
+    let last = src.len() - 8;
+    let mut k = 0;
+    while k < last {
+        copy_word(src, k, dst, at + k);
+        k += 8;
+    }
+    copy_word(src, last, dst, at + last);
+}
+
+// All of `src`, stored in `dst` from `at` on. A key or a value of a few words is stored here: the library's copy is a call, which takes
+// longer than they do.
 #[tactic(auto, using(crate::specs::laws::PartLaws::part_stored))]
 pub fn copy_to(src: &[u8], dst: &mut [u8], at: usize)
     requires { at + length src.now ≤ length dst.old }
     ensures { dst.new ≡ splice dst.old at src.now }
 {
-    dst[at..at + src.len()].copy_from_slice(src);
+    if (8..=64).contains(&src.len()) {
+        copy_words(src, dst, at);
+    } else {
+        dst[at..at + src.len()].copy_from_slice(src);
+    }
 }
 
-// n bytes from a moved to b, whether the two runs overlap or not.
-#[tactic(auto, using(crate::specs::laws::MoveLaws::moved_within))]
+// n bytes from a down to b, the first first: what is overwritten has been moved already.
+#[tactic(auto, using(crate::specs::laws::MoveLaws::moved_none, crate::specs::laws::MoveLaws::down_next, crate::specs::laws::MoveLaws::down_stop))]
+pub fn move_down(s: &mut [u8], a: usize, b: usize, n: usize)
+    requires { (b ≤ a) × (a + n ≤ length s.old) }
+    ensures { s.new ≡ moved s.old a b n }
+{
+    let mut k = 0;
+    while k < n {
+        s[b + k] = s[a + k];
+        k += 1;
+    }
+}
+
+// n bytes from a up to b, the last first.
+pub fn move_up(s: &mut [u8], a: usize, b: usize, n: usize)
+    requires { (a ≤ b) × (b + n ≤ length s.old) }
+    ensures { s.new ≡ moved s.old a b n }
+{
+    let mut k = n;
+    while 0 < k {
+        k -= 1;
+        s[b + k] = s[a + k];
+    }
+}
+
+// n bytes from a moved to b, whether the two runs overlap or not. By a loop in either direction: the library's `copy_within` asks for
+// C's `memmove`, which who links the library would owe it.
 pub fn shift(s: &mut [u8], a: usize, b: usize, n: usize)
     requires { (a + n ≤ length s.old) × (b + n ≤ length s.old) }
     ensures { s.new ≡ moved s.old a b n }
 {
-    s.copy_within(a..a + n, b);
+    if b <= a {
+        move_down(s, a, b, n);
+    } else {
+        move_up(s, a, b, n);
+    }
 }
 
 // Zeros from a on, n of them.
