@@ -18,7 +18,7 @@ impl ReadEntry<'_> {
         let s = self.span();
         let key = read::key_in(self.read.block, s);
         let value = self.value();
-        record::put(slot, at, key, value);
+        record::put_value(slot, at, key, value);
         at + 4 + key.len() + value.len()
     }
 }

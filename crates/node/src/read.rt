@@ -132,6 +132,17 @@ pub struct Block<'b> {
     ghost long: { 512 ≤ length held.now },
 }
 
+impl<'b> Block<'b> {
+    // The block that a slice is. A slice is lent to this function wherever its caller has it from, so no caller owes that it holds bytes.
+    #[tactic(auto, using(crate::specs::laws::base::Bytes::bytes_known))]
+    pub fn of(held: &'b [u8]) -> Block<'b>
+        requires { 512 ≤ length held.now }
+        ensures { result.held ≡ held.entry }
+    {
+        Block { held }
+    }
+}
+
 impl Node {
     // The header's fields and the places that follow from them; nothing is checked.
     #[tactic(auto, unfolding(crate::specs::Read::parsed))]
@@ -367,6 +378,15 @@ impl<'b> ReadEntry<'b> {
 }
 
 impl<'b> ReadNode<'b> {
+    // A node in its block, whose entries are known to lie there; as with a block, no caller owes that the slice holds bytes.
+    #[tactic(auto, using(crate::specs::laws::base::Bytes::bytes_known))]
+    pub fn of(block: &'b [u8], node: Node) -> ReadNode<'b>
+        requires { Sound node block.now }
+        ensures { (result.block ≡ block.entry) × (result.node ≡ node) }
+    {
+        ReadNode { block, node }
+    }
+
     // Entry i.
     pub fn entry(self, i: usize) -> ReadEntry<'b>
         requires { i < self.node.nkeys }

@@ -2,7 +2,7 @@
 ghost use Rattle.std.specs.Prelude.{◌≡◌, false, ◌+◌, ◌≤◌, ◌<◌, ◌^◌, length, drop, leb, MatchOption};
 ghost use Rattle.seal.specs.Bytes.{splice, bytes_of, u16_at};
 ghost use Rattle.node.specs.Entry.{value_length, value_bytes};
-ghost use Rattle.node.specs.Records.{mark_of, mark_length, record_of, record_length, entry_of};
+ghost use Rattle.node.specs.Records.{mark_of, mark_length, record_bytes, record_of, record_length, entry_of};
 ghost use Rattle.node.specs.internal.SlotSteps.{parts_at};
 ghost use Rattle.node.specs.Slot.{is_child, suit, child_means, value_means};
 
@@ -220,9 +220,22 @@ impl Val<'_> {
     }
 }
 
-// A record stored at an offset.
+// A record stored at an offset: a key, any mark and any bytes.
 #[tactic(auto, using(crate::specs::laws::slot::Records::put_record))]
-pub fn put(slot: &mut [u8], at: usize, key: &[u8], value: Val<'_>)
+pub fn put(slot: &mut [u8], at: usize, key: &[u8], mark: u64, value: &[u8])
+    requires { at + 4 + length key.now + length value.now ≤ length slot.old }
+    ensures { slot.new ≡ splice slot.old at (record_bytes key.now mark value.now) }
+{
+    let klen = key.len();
+    bytes::put_field::<2>(slot, at, klen as u64);
+    bytes::put_field::<2>(slot, at + 2, mark);
+    bytes::copy_to(key, slot, at + 4);
+    bytes::copy_to(value, slot, at + 4 + klen);
+}
+
+// A record stored at an offset: that of a key and a value.
+#[tactic(auto, using(crate::specs::laws::slot::Records::put_record_of))]
+pub fn put_value(slot: &mut [u8], at: usize, key: &[u8], value: Val<'_>)
     requires { at + 4 + length key.now + value_length (value_means value) ≤ length slot.old }
     ensures { slot.new ≡ splice slot.old at (record_of (record { key = key.now; value = value_means value.entry })) }
 {

@@ -191,7 +191,7 @@ pub fn insert(slot: &mut [u8], e: EntryAt, key: &[u8], value: Val<'_>) -> usize
 {
     let next = e.at + 4 + key.len() + value.len();
     bytes::shift(slot, e.at, next, e.used - e.at);
-    record::put(slot, e.at, key, value);
+    record::put_value(slot, e.at, key, value);
     next + (e.used - e.at)
 }
 

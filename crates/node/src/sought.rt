@@ -4,7 +4,7 @@ ghost use Rattle.seal.specs.Bytes.{u16_at};
 ghost use Rattle.node.specs.Order.{pair, byte};
 ghost use Rattle.node.specs.Records.{entry_of};
 ghost use Rattle.node.specs.internal.Lead.{LeadOf};
-ghost use Rattle.node.specs.internal.SlotSteps.{pair_id};
+ghost use Rattle.node.specs.internal.SlotSteps.{pair_id, id_below};
 ghost use Rattle.node.specs.internal.Sought.{Below, compared};
 
 use crate::lead;
@@ -87,8 +87,13 @@ impl<'a> Sought for PairKey<'a> {
 
     ghost wanted = { λ s. s.key.now };
 
-    #[tactic(auto, using(crate::specs::laws::slot::Id::id_lies))]
-    fn passes(&self, r: Record<'_>, klen: u64) -> bool {
+    // Whether its key is a pair with an id below the key's: no other record is passed, and each of these is.
+    #[tactic(auto, using(crate::specs::laws::slot::Id::ids))]
+    fn passes(&self, r: Record<'_>, klen: u64) -> bool
+        requires { klen ≡ u16_at r.slot.now r.at }
+        ensures below { result ≡ true → Below pair (entry_of (drop r.entry.at r.entry.slot.now)).key self.now.key.now }
+        ensures id { result ≡ id_below (entry_of (drop r.entry.at r.entry.slot.now)).key self.now.id }
+    {
         klen == 16 && bytes::field_at::<8>(r.slot, r.at + 4) < self.id
     }
 

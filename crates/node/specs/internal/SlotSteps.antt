@@ -1,6 +1,6 @@
 -- What the functions over one slot compute: where a record lies, what records take, where a key is, the words of a node just read,
 -- one pass over the records.
-use Rattle.std.specs.Prelude.{◌≡◌, List, Bool, true, cond, ◌&&◌, ℕ, ◌+◌, ◌-◌, ◌≤◌, ◌<◌, length, drop, leb, eqb, Option, Some, None, Result, Ok, Err, is_some, unwrap_or}
+use Rattle.std.specs.Prelude.{◌≡◌, List, Bool, true, cond, ◌&&◌, ℕ, ◌+◌, ◌-◌, ◌≤◌, ◌<◌, length, drop, leb, ltb, eqb, Option, Some, None, Result, Ok, Err, is_some, unwrap_or}
 use Rattle.seal.specs.Bytes.{u16_at, u64_at}
 use Rattle.node.specs.Entry.{rising, every}
 use Rattle.node.specs.Records.{mark_length, record_length, entries_of, records_length}
@@ -39,6 +39,10 @@ longer_of t l s =
 -- the id of a pair key; of other keys 0, which no id is below
 unfoldable pub pair_id : List ℕ → ℕ
 pair_id k = cond (eqb (length k) 16) (u64_at k 0) 0
+
+-- a pair key whose id is below an id
+unfoldable pub id_below : List ℕ → ℕ → Bool
+id_below k id = eqb (length k) 16 && ltb (u64_at k 0) id
 
 -- the place of a key among the n records of a slot and where it lies, as a record that has the key or as one that would stand there
 unfoldable pub found_in : ℕ → List ℕ → ℕ → List ℕ → Result RecordAt RecordAt

@@ -161,8 +161,13 @@ unfolding every
 least_all o [] = refl
 least_all o (e ∷ es) = rw (none_below o e.key) (least_all o es)
 
+either : (s t : Bool) → t ≡ true → (s || t) ≡ true
+either true t h = refl
+either false t h = h
+
 module _ (o : ℕ) (e : Entry) (es : List Entry) (ks : Keys o (e ∷ es)) (up : rising o (e ∷ es) ≡ true) where
-  pub lower_first : (t : Bool) (lo : Option (Bor (List ℕ))) → Bytes (lent_key lo) → (is_none lo || keyed o (lent_key lo)) ≡ true
+  -- `t`: there is no such bound, as a root has no lower one
+  pub lower_first : (t : Bool) (lo : Option (Bor (List ℕ))) → Bytes (lent_key lo) → (t || (is_none lo || keyed o (lent_key lo))) ≡ true
       → every (λ (x : Entry). t || not (less o x.key (lent_key lo))) (e ∷ es) ≡ (t || not (less o e.key (lent_key lo)))
   lower_first true lo bb k = every_all (e ∷ es)
   lower_first false None bb k = least_all o (e ∷ es) ∙ sym (rw (none_below o e.key))
@@ -195,7 +200,7 @@ module _ (o : ℕ) (p : Place) (lo : Option (Bor (List ℕ))) (upper : List ℕ)
     unfolding keys_rise
     rising_of = and_right (every (λ (x : Entry). keyed o x.key) (entries_from v b 0 (suc n))) (rising o (entries_from v b 0 (suc n))) h
 
-    above_all : (is_none lo || keyed o (lent_key lo)) ≡ true
+    above_all : (p.root || (is_none lo || keyed o (lent_key lo))) ≡ true
         → every (λ (x : Entry). is_above x.key) (entries_from v b 0 (suc n)) ≡ is_above (entry_at v b 0).key
     unfolding entries_from
     above_all u = lower_first o (entry_at v b 0) (entries_from v b 1 n) keys_of rising_of p.root lo bl u
@@ -210,7 +215,7 @@ module _ (o : ℕ) (p : Place) (lo : Option (Bor (List ℕ))) (upper : List ℕ)
         upper_last o (entry_at v b 0) (entries_from v b 1 n) keys_of rising_of upper bu (not p.bounded) u ∙ ap is_below l
 
     -- of n + 1 keys that rise
-    ends_all : (is_none lo || keyed o (lent_key lo)) ≡ true → (not p.bounded || keyed o upper) ≡ true
+    ends_all : (p.root || (is_none lo || keyed o (lent_key lo))) ≡ true → (not p.bounded || keyed o upper) ≡ true
         → keys_within o p lower upper (entries_from v b 0 (suc n)) ≡ (is_above (entry_at v b 0).key && is_below (entry_at v b n).key)
     unfolding keys_within in_bounds
     ends_all u t =
@@ -218,7 +223,7 @@ module _ (o : ℕ) (p : Place) (lo : Option (Bor (List ℕ))) (upper : List ℕ)
         ∙ ap₂ (λ (x y : Bool). x && y) (above_all u) (below_all t)
 
     -- the first and the last speak for all
-    ends : (is_none lo || keyed o (lent_key lo)) ≡ true → (not p.bounded || keyed o upper) ≡ true
+    ends : (p.root || (is_none lo || keyed o (lent_key lo))) ≡ true → (not p.bounded || keyed o upper) ≡ true
         → in_bounds o p lower upper (entry_at v b 0).key ≡ true → in_bounds o p lower upper (entry_at v b n).key ≡ keys_within o p lower upper
         (entries_from v b 0 (suc n))
     unfolding in_bounds
@@ -229,20 +234,33 @@ module _ (o : ℕ) (p : Place) (lo : Option (Bor (List ℕ))) (upper : List ℕ)
         (above_all u ∙ a) (omega arith) in
         ap (λ (q : Bool). q && is_below (entry_at v b n).key) (z ∙ sym a) ∙ sym (ends_all u t)
 
-  pub within_ends : (u : Bool) (x y : List ℕ) (r q : Bool) → (v.nkeys ≡ 0 → ⊥) → keys_rise o (entries_from v b 0 v.nkeys) ≡ true
-      → u ≡ ((is_none lo || keyed o (lent_key lo)) && (not p.bounded || keyed o upper)) → u ≡ true
+  -- a root needs no lower bound that is a key
+  pub within_ends : (u t : Bool) (x y : List ℕ) (r q : Bool) → (v.nkeys ≡ 0 → ⊥) → keys_rise o (entries_from v b 0 v.nkeys) ≡ true
+      → u ≡ (p.root || (is_none lo || keyed o (lent_key lo))) → u ≡ true → t ≡ (not p.bounded || keyed o upper) → t ≡ true
       → x ≡ (entry_at v b 0).key → r ≡ in_bounds o p lower upper x → r ≡ true
       → y ≡ (entry_at v b (v.nkeys - 1)).key → q ≡ in_bounds o p lower upper y
       → q ≡ keys_within o p lower upper (entries_from v b 0 v.nkeys)
-  within_ends u x y r q some h eu nu ex er nr ey eq =
+  within_ends u t x y r q some h eu nu et nt ex er nr ey eq =
       let n : ℕ = v.nkeys - 1 in
       let m : v.nkeys ≡ suc n = omega arith in
       let first : in_bounds o p lower upper (entry_at v b 0).key ≡ true = ap (in_bounds o p lower upper) (sym ex) ∙ sym er ∙ nr in
       let h' : keys_rise o (entries_from v b 0 (suc n)) ≡ true = ap (λ (z : ℕ). keys_rise o (entries_from v b 0 z)) (sym m) ∙ h in
       eq ∙ ap (in_bounds o p lower upper) ey
-      ∙ ends n h' (and_left (is_none lo || keyed o (lent_key lo)) (not p.bounded || keyed o upper) (sym eu ∙ nu))
-      (and_right (is_none lo || keyed o (lent_key lo)) (not p.bounded || keyed o upper) (sym eu ∙ nu)) first
+      ∙ ends n h' (sym eu ∙ nu) (sym et ∙ nt) first
       ∙ ap (λ (z : ℕ). keys_within o p lower upper (entries_from v b 0 z)) (sym m)
+
+  -- the same of one test of both bounds, for a root too
+  pub within_ends_lent : (u : Bool) (x y : List ℕ) (r q : Bool) → (v.nkeys ≡ 0 → ⊥) → keys_rise o (entries_from v b 0 v.nkeys) ≡ true
+      → u ≡ ((is_none lo || keyed o (lent_key lo)) && (not p.bounded || keyed o upper)) → u ≡ true
+      → x ≡ (entry_at v b 0).key → r ≡ in_bounds o p lower upper x → r ≡ true
+      → y ≡ (entry_at v b (v.nkeys - 1)).key → q ≡ in_bounds o p lower upper y
+      → q ≡ keys_within o p lower upper (entries_from v b 0 v.nkeys)
+  within_ends_lent u x y r q some h eu nu =
+      let a : (is_none lo || keyed o (lent_key lo)) ≡ true =
+      and_left (is_none lo || keyed o (lent_key lo)) (not p.bounded || keyed o upper) (sym eu ∙ nu) in
+      let z : (not p.bounded || keyed o upper) ≡ true =
+      and_right (is_none lo || keyed o (lent_key lo)) (not p.bounded || keyed o upper) (sym eu ∙ nu) in
+      within_ends true true x y r q some h (sym (either p.root (is_none lo || keyed o (lent_key lo)) a)) refl (sym z) refl
 
 -- ---- a value in place
 
@@ -293,7 +311,7 @@ module _ (v : Node) (b : List ℕ) (i : ℕ) (s : Span) (e : s ≡ span_at v b i
 
 -- ---- what the code takes of these
 
-pub ruleset bounds = (within_none, within_first, within_ends)
+pub ruleset bounds = (within_none, within_first, within_ends_lent)
 
 pub ruleset value = (place_ghost, place_leaf, place_child, value_start, value_end, child_room)
 

@@ -1,9 +1,9 @@
--- Laws of the load line: what its checks leave, and what a node that was read keeps. Assumes nothing.
-use Rattle.std.specs.Prelude.{◌≡◌, List, Bool, cond, ◌&&◌, ◌||◌, not, ℕ, ◌+◌, ◌-◌, ◌*◌, ◌≤◌, length, leb, eqb}
-use Rattle.std.proofs.Math.Path.{ap}
-use Rattle.std.proofs.Common.{arith}
+-- Laws of the load line: each refusal as `read_node` reaches it, and what a node that was read keeps. Assumes nothing.
+use Rattle.std.specs.Prelude.{◌≡◌, refl, List, Bool, cond, ◌&&◌, ◌||◌, not, ℕ, ◌+◌, ◌-◌, ◌*◌, ◌/◌, ◌%◌, ◌≤◌, length, leb, eqb}
+use Rattle.std.proofs.Math.Path.{sym, ap}
+use Rattle.std.proofs.Common.{◌∙◌, arith}
 use Rattle.std.proofs.Math.Bool.{true, false}
-use borrow.Author.Tests.{leb-true}
+use borrow.Author.Tests.{not-true, not-false, leb-true, eq-eqb, ne_eqb}
 use Rattle.seal.specs.Checksum.{verified}
 use Rattle.node.specs.laws.base.Tests.{and_left, and_right}
 use Rattle.node.specs.Result.{Result, ok, ◌>>◌, check}
@@ -12,7 +12,8 @@ use Rattle.node.specs.Obj.{is_node}
 use Rattle.std.specs.Prelude as std
 use Rattle.std.specs.Prelude.{Ok, Err}
 use Rattle.node.specs.declared.refusal.Refusal.{Refusal}
-use Rattle.node.specs.Read.{map_ok, parsed, is_fixed, flags_hold, layout_holds, spans_hold, spans_length, entries_hold, entries_from, keys_rise, keys_within, keys_hold, OnDisk, on_disk, read_node}
+use Rattle.node.specs.declared.refusal.Refusal.TheVariants as is
+use Rattle.node.specs.Read.{map_ok, parsed, is_fixed, flags_hold, layout_holds, spans_hold, spans_length, entries_hold, entries_from, keys_rise, keys_within, keys_hold, OnDisk, on_disk, read_node, read_of}
 use Rattle.node.specs.internal.ReadSteps.{Laid, Sound}
 use Rattle.node.specs.declared.read.Node.{Node}
 use Rattle.node.specs.Place.{Place}
@@ -92,6 +93,90 @@ module _ (o : ℕ) (p : Place) (lower upper b : List ℕ) where
   pub node_line : (v : Node) → v ≡ parsed p b → line_of v ≡ read_node o p lower upper b
   unfolding line read_node keys_hold
   node_line v e = ap line_of e
+
+  -- each refusal, where the tests before it pass and its own does not; and the node, where all pass
+  pub load_3 : (r : Bool) → r ≡ verified b → not r ≡ true → read_of b (Err is.Fletcher) ≡ read_node o p lower upper b
+  unfolding read_of line
+  load_3 r e n =
+      let f : verified b ≡ false = sym e ∙ not-true r n in
+      sym (sym (node_line (parsed p b) refl) ∙ rw f)
+
+  module _ (v : Node) (ev : v ≡ parsed p b) (r3 : Bool) (e3 : r3 ≡ verified b) (n3 : not r3 ≡ false) where
+    is_3 : verified b ≡ true
+    is_3 = sym e3 ∙ not-false r3 n3
+
+    pub load_4 : (r : Bool) → r ≡ is_kind v → not r ≡ true → read_of b (Err is.Kind) ≡ read_node o p lower upper b
+    unfolding read_of line
+    load_4 r e n =
+        let f : is_kind v ≡ false = sym e ∙ not-true r n in
+        sym (sym (node_line v ev) ∙ rw (is_3, f))
+
+    module _ (r4 : Bool) (e4 : r4 ≡ is_kind v) (n4 : not r4 ≡ false) where
+      is_4 : is_kind v ≡ true
+      is_4 = sym e4 ∙ not-false r4 n4
+
+      pub load_5 : v.flags / 8 % 2 ≡ 1 → read_of b (Err is.Hashed) ≡ read_node o p lower upper b
+      unfolding read_of line flag
+      load_5 h = sym (sym (node_line v ev) ∙ rw (is_3, is_4, eq-eqb (v.flags / 8 % 2) 1 h))
+
+      module _ (n5 : v.flags / 8 % 2 ≡ 1 → ⊥) where
+        is_5 : not (flag v.flags 8) ≡ true
+        unfolding flag
+        is_5 = rw (ne_eqb (v.flags / 8 % 2) 1 n5)
+
+        pub load_6 : (r : Bool) → r ≡ layout_holds p v → not r ≡ true → read_of b (Err is.Layout) ≡ read_node o p lower upper b
+        unfolding read_of line
+        load_6 r e n =
+            let f : layout_holds p v ≡ false = sym e ∙ not-true r n in
+            sym (sym (node_line v ev) ∙ rw (is_3, is_4, is_5, f))
+
+        module _ (r6 : Bool) (e6 : r6 ≡ layout_holds p v) (n6 : not r6 ≡ false) where
+          is_6 : layout_holds p v ≡ true
+          is_6 = sym e6 ∙ not-false r6 n6
+
+          pub load_7 : (r : Bool) → r ≡ is_level p v → not r ≡ true → read_of b (Err is.Level) ≡ read_node o p lower upper b
+          unfolding read_of line
+          load_7 r e n =
+              let f : is_level p v ≡ false = sym e ∙ not-true r n in
+              sym (sym (node_line v ev) ∙ rw (is_3, is_4, is_5, is_6, f))
+
+          module _ (r7 : Bool) (e7 : r7 ≡ is_level p v) (n7 : not r7 ≡ false) where
+            is_7 : is_level p v ≡ true
+            is_7 = sym e7 ∙ not-false r7 n7
+
+            pub load_8 : (r : Bool) → r ≡ entries_hold p v b → not r ≡ true → read_of b (Err is.Entry) ≡ read_node o p lower upper b
+            unfolding read_of line
+            load_8 r e n =
+                let f : entries_hold p v b ≡ false = sym e ∙ not-true r n in
+                sym (sym (node_line v ev) ∙ rw (is_3, is_4, is_5, is_6, is_7, f))
+
+            module _ (r8 : Bool) (e8 : r8 ≡ entries_hold p v b) (n8 : not r8 ≡ false) where
+              is_8 : entries_hold p v b ≡ true
+              is_8 = sym e8 ∙ not-false r8 n8
+
+              pub load_9_rise : (r : Bool) → r ≡ keys_rise o (entries_from v b 0 v.nkeys) → not r ≡ true
+                  → read_of b (Err is.Keys) ≡ read_node o p lower upper b
+              unfolding read_of line
+              load_9_rise r e n =
+                  let f : keys_rise o (entries_from v b 0 v.nkeys) ≡ false = sym e ∙ not-true r n in
+                  sym (sym (node_line v ev) ∙ rw (is_3, is_4, is_5, is_6, is_7, is_8, f))
+
+              module _ (r9 : Bool) (e9 : r9 ≡ keys_rise o (entries_from v b 0 v.nkeys)) (n9 : not r9 ≡ false) (r : Bool)
+                  (e : r ≡ keys_within o p lower upper (entries_from v b 0 v.nkeys)) where
+                is_9 : keys_rise o (entries_from v b 0 v.nkeys) ≡ true
+                is_9 = sym e9 ∙ not-false r9 n9
+
+                pub load_9 : not r ≡ true → read_of b (Err is.Keys) ≡ read_node o p lower upper b
+                unfolding read_of line
+                load_9 n =
+                    let f : keys_within o p lower upper (entries_from v b 0 v.nkeys) ≡ false = sym e ∙ not-true r n in
+                    sym (sym (node_line v ev) ∙ rw (is_3, is_4, is_5, is_6, is_7, is_8, is_9, f))
+
+                pub loaded : not r ≡ false → read_of b (Ok v) ≡ read_node o p lower upper b
+                unfolding read_of line
+                loaded n =
+                    let f : keys_within o p lower upper (entries_from v b 0 v.nkeys) ≡ true = sym e ∙ not-false r n in
+                    sym (sym (node_line v ev) ∙ rw (is_3, is_4, is_5, is_6, is_7, is_8, is_9, f))
 
 -- ---- of an answer, the node
 

@@ -10,7 +10,7 @@ use Rattle.seal.specs.Bytes.{u16_at, u64_at}
 use Rattle.seal.specs.laws.FieldLaws.{field_window, field_drop}
 use Rattle.node.specs.Order.{pair, less}
 use Rattle.node.specs.Records.{record_length, entry_of}
-use Rattle.node.specs.internal.SlotSteps.{pair_id}
+use Rattle.node.specs.internal.SlotSteps.{pair_id, id_below}
 use Rattle.node.specs.internal.Sought.{Below}
 use Rattle.node.specs.laws.base.Tests.{by_test}
 use Rattle.node.specs.laws.order.OrderSteps.{less_pair, pair_id_lem}
@@ -67,6 +67,14 @@ module _ (l : List ℕ) (at klen : ℕ) (h : at + record_length (drop at l) ≤ 
       let n : 0 + 8 ≤ u16_at (drop at l) 0 = let k = record_klen l at in omega arith in
       field_window 8 4 (u16_at (drop at l) 0) (drop at l) 0 n ∙ field_drop 8 at l 4 ∙ sym q
 
+  pub id_other : (id : ℕ) → (klen ≡ 16 → ⊥) → false ≡ id_below (entry_of (drop at l)).key id
+  unfolding id_below
+  id_other id n = rw (key_long, ne_eqb klen 16 n)
+
+  pub id_test : (x id : ℕ) → klen ≡ 16 → x ≡ u64_at l (at + 4) → ltb x id ≡ id_below (entry_of (drop at l)).key id
+  unfolding id_below
+  id_test x id e q = rw (key_long, eq-eqb klen 16 e, id_is x e q)
+
   -- a record with a pair key whose id is below that of another key
   pub below_by_id : (x id : ℕ) (k : List ℕ) → klen ≡ 16 → x ≡ u64_at l (at + 4) → id ≡ pair_id k → x < id → Below pair (entry_of (drop at l)).key k
   below_by_id x id k e q i s =
@@ -74,3 +82,7 @@ module _ (l : List ℕ) (at klen : ℕ) (h : at + record_length (drop at l) ≤ 
       let m : length a ≡ 16 = key_long ∙ e in
       let d : u64_at a 0 < id = let w = id_is x e q in omega arith in
       record { below = id_lower a k id i m d; not_above = id_not_above a k id i m d }
+
+-- ---- what a search takes of these
+
+pub ruleset ids = (id_lies, id_other, id_test)

@@ -143,16 +143,23 @@ head_joined l l₁ l₂ l₃ k at m h p q r =
     (omega arith) (omega arith) p q in
     splice_run l l₂ l₃ at (bytes_of 2 (length k) ++ bytes_of 2 m) (at + 4) k (omega arith) (omega arith) pq r
 
-pub put_record : (l l₁ l₂ l₃ l₄ k : List ℕ) (v : Val) (at m : ℕ) → at + 4 + length k + value_length v ≤ length l
+pub put_record : (l l₁ l₂ l₃ l₄ k v : List ℕ) (at m : ℕ) → at + 4 + length k + length v ≤ length l → l₁ ≡ splice l at (bytes_of 2 (length k))
+    → l₂ ≡ splice l₁ (at + 2) (bytes_of 2 m)
+    → l₃ ≡ splice l₂ (at + 4) k → l₄ ≡ splice l₃ (at + 4 + length k) v → l₄ ≡ splice l at (record_bytes k m v)
+unfolding record_bytes
+put_record l l₁ l₂ l₃ l₄ k v at m h e₁ e₂ e₃ e₄ =
+    let n : length (bytes_of 2 (length k) ++ bytes_of 2 m ++ k) ≡ 4 + length k = length_head_key k m in
+    splice_run l l₃ l₄ at (bytes_of 2 (length k) ++ bytes_of 2 m ++ k) (at + 4 + length k) v (omega arith) h
+    (head_joined l l₁ l₂ l₃ k at m (omega arith) e₁ e₂ e₃) e₄
+
+-- of a value: its own mark and bytes
+pub put_record_of : (l l₁ l₂ l₃ l₄ k : List ℕ) (v : Val) (at m : ℕ) → at + 4 + length k + value_length v ≤ length l
     → l₁ ≡ splice l at (bytes_of 2 (length k)) → m ≡ mark_of v → l₂ ≡ splice l₁ (at + 2) (bytes_of 2 m)
     → l₃ ≡ splice l₂ (at + 4) k → l₄ ≡ splice l₃ (at + 4 + length k) (value_bytes v) → l₄ ≡ splice l at (record_of (record { key = k; value = v }))
-unfolding record_of
-put_record l l₁ l₂ l₃ l₄ k v at m h e₁ em e₂ e₃ e₄ =
-    let n : length (bytes_of 2 (length k) ++ bytes_of 2 m ++ k) ≡ 4 + length k = length_head_key k m in
-    splice_run l l₃ l₄ at (bytes_of 2 (length k) ++ bytes_of 2 m ++ k) (at + 4 + length k) (value_bytes v) (omega arith)
-    (omega (arith, length_value_bytes v))
-    (head_joined l l₁ l₂ l₃ k at m (omega arith) e₁ e₂ e₃) e₄
-    ∙ ap (λ (x : ℕ). splice l at (bytes_of 2 (length k) ++ bytes_of 2 x ++ k ++ value_bytes v)) em
+unfolding record_of record_bytes
+put_record_of l l₁ l₂ l₃ l₄ k v at m h e₁ em e₂ e₃ e₄ =
+    put_record l l₁ l₂ l₃ l₄ k (value_bytes v) at m (omega (arith, length_value_bytes v)) e₁ e₂ e₃ e₄
+    ∙ ap (λ (x : ℕ). splice l at (record_bytes k x (value_bytes v))) em
 
 -- ---- records that lists with the same first m bytes share
 
