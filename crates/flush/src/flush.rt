@@ -259,7 +259,7 @@ impl<'s> Source<'s> {
         let old = h.block();
         let freed = push(lists.freed, done.freed, old);
         self.pack_at(image, heads, n, a, oid);
-        block::rewrite(heads, n, a as u64, id);
+        block::rewrite_with_id(heads, n, a as u64, id);
         let number = self.tree.by_id.then_some(oid);
         let place = self.tree.by_id.then_some(a as u64);
         let moved = push(lists.ids, done.moved, number);

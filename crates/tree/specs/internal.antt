@@ -3,6 +3,7 @@ pub mod Bank
 pub mod View
 pub mod Undo
 pub mod Tree
+pub mod Steps
 pub mod Way
 pub mod Marks
 pub mod Mapped

@@ -5,7 +5,7 @@ ghost use Rattle.node.specs.Fit.{Sized, fits, data_space, packed_length};
 ghost use Rattle.node.specs.Slot.{head_at, head_words};
 ghost use Rattle.tree.specs.State.{node_at};
 ghost use Rattle.tree.specs.internal.Bank.{node_in};
-ghost use Rattle.tree.specs.internal.Block.{written_head, packed_slot};
+ghost use Rattle.tree.specs.internal.Block.{written_head, written_with_id, packed_slot};
 ghost use Rattle.tree.specs.internal.View.{seen};
 
 use crate::editor::Tree;
@@ -14,16 +14,33 @@ use node::build::NodeBuild;
 use node::head::Head;
 use node::{pack, room};
 
-// The node of slot n was written: its new block, its id, clean.
+// The node of slot n was written: its new block, the mark of an id and the id, clean.
 #[tactic(auto, unfolding(crate::specs::internal::Block::written_head))]
-pub fn rewrite(heads: &mut [u64], n: usize, a: u64, id: Option<u64>)
+pub fn rewrite(heads: &mut [u64], n: usize, a: u64, named: u64, id: u64)
     requires { (n + 1) * 9 ≤ length heads.old }
     ensures { heads.new
-        ≡ splice heads.old (n * 9) (head_words (written_head (head_at heads.old n) a id)) }
+        ≡ splice heads.old (n * 9) (head_words (written_head (head_at heads.old n) a named id)) }
 {
     let h = Head::load(heads, n);
-    let w = Head { dirty: 0, ..h };
-    w.with_block(Some(a)).with_id(id).store(heads, n);
+    let w = Head {
+        named,
+        id,
+        dirty: 0,
+        ..h
+    };
+    w.with_block(Some(a)).store(heads, n);
+}
+
+// The same with an id that it has, or none.
+pub fn rewrite_with_id(heads: &mut [u64], n: usize, a: u64, id: Option<u64>)
+    requires { (n + 1) * 9 ≤ length heads.old }
+    ensures { heads.new
+        ≡ splice heads.old (n * 9) (head_words (written_with_id (head_at heads.old n) a id)) }
+{
+    match id {
+        Some(id) => rewrite(heads, n, a, 1, id),
+        None => rewrite(heads, n, a, 0, 0),
+    }
 }
 
 impl<'h, 'b> View<'h, 'b> {

@@ -104,7 +104,7 @@ impl Tree {
         ensures { Rewritten lent.size lent.slots self heads.old bytes.old heads.new bytes.new
             (child_put (state_of lent.size self heads.old bytes.old) n i c) }
     {
-        let key = view!(self, heads, bytes, lent).first_key(c, scratch);
+        let len = view!(self, heads, bytes, lent).first_key(c, scratch);
         let spot = view!(self, heads, bytes, lent).spot_of(n, i);
         writers::insert_at(
             heads,
@@ -112,7 +112,7 @@ impl Tree {
             lent,
             self.used,
             spot,
-            key,
+            &scratch[..len],
             Val::Child(Child::Mem(c as u64)),
             DirtyMark::Set,
         );

@@ -1,5 +1,5 @@
 // What edits share: dirty marks, a node cut in two.
-ghost use Rattle.std.specs.Prelude.{◌≡◌, ◌+◌, ◌*◌, ◌^◌, ◌≤◌, ◌<◌, length};
+ghost use Rattle.std.specs.Prelude.{◌≡◌, ◌+◌, ◌*◌, ◌^◌, ◌≤◌, ◌<◌, length, take};
 ghost use Rattle.node.specs.Find.{key_at};
 ghost use Rattle.node.specs.Slot.{head_at};
 ghost use Rattle.tree.specs.Workspace.{state_of};
@@ -31,15 +31,17 @@ impl<'h, 'b> View<'h, 'b> {
         self.count_at(c) != 0 && i < self.count_at(n) && self.key_at(n, i) != self.key_at(c, 0)
     }
 
-    // The first key of a slot, copied into the scratch.
+    // The first key of a slot, copied to the scratch's start. The answer is its length. It doesn't lend that part: what the scratch holds after a
+    // loan of it could not be said.
     #[tactic(auto, using(crate::specs::laws::cut::IndexKey::first_key_laws))]
-    pub fn first_key<'s>(self, c: usize, scratch: &'s mut [u8]) -> &'s [u8]
+    pub fn first_key(self, c: usize, scratch: &mut [u8]) -> usize
         requires { length (key_at (node_at (seen self) c).entries 0) ≤ length scratch.old }
-        ensures { result.now ≡ key_at (node_at (seen self.entry) c).entries 0 }
+        ensures long { result ≤ length scratch.new }
+        ensures key { take result scratch.new ≡ key_at (node_at (seen self.entry) c).entries 0 }
     {
         let key = self.key_at(c, 0);
         bytes::copy_to(key, scratch, 0);
-        &scratch[..key.len()]
+        key.len()
     }
 }
 
@@ -159,8 +161,8 @@ impl Tree {
             (set_index_key (state_of lent.size self heads.old bytes.old) n i c) }
     {
         if view!(self, heads, bytes, lent).key_differs(n, i, c) {
-            let key = view!(self, heads, bytes, lent).first_key(c, scratch);
-            self.rekey(heads, bytes, lent, n, i, key);
+            let len = view!(self, heads, bytes, lent).first_key(c, scratch);
+            self.rekey(heads, bytes, lent, n, i, &scratch[..len]);
         }
     }
     // On a way, bottom up: each index key is its child's first key.

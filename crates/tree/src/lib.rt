@@ -22,6 +22,7 @@ pub mod mapped;
 pub mod omap;
 pub mod range;
 pub mod remove;
+pub mod steps;
 pub mod still;
 pub mod undo;
 pub mod upsert;

@@ -7,9 +7,9 @@ ghost use Rattle.tree.specs.internal.View.{seen};
 
 use crate::editor::{Position, Tree};
 use crate::kids;
+use crate::steps::Steps;
 use crate::view::View;
 use crate::way::Way;
-use arrayvec::ArrayVec;
 use node::order::Order;
 use node::record::Record;
 use node::slot::Records;
@@ -102,7 +102,7 @@ impl<'h, 'b> View<'h, 'b> {
         ensures { Walked self.entry.lent.size self.entry.tree self.entry.heads.now self.entry.bytes.now level key.now result }
     {
         let mut n = self.tree.root;
-        let mut steps = ArrayVec::new();
+        let mut steps = Steps::new();
         for _k in 0..level {
             let t = self.taken(n, key)?;
             steps.push(Position {

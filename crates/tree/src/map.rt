@@ -13,6 +13,7 @@ ghost use Rattle.tree.specs.internal.Tree.{edge_of, edges_of};
 ghost use Rattle.tree.specs.internal.Map.{load_at, map_read, map_child_at, map_loaded_of, leftward, found_of, spotted_of, address_at, looked_up};
 
 use crate::editor::Bounds;
+use crate::lent::Lent;
 use crate::mapped::{Blocks, MapNode, Mapped};
 use node::info::BTreeInfo;
 use node::obj::OBJ_PHYSICAL;
@@ -45,6 +46,30 @@ pub fn block_of(image: &[u8], size: usize, a: u64) -> &[u8]
     &image[start..end]
 }
 
+// 10: the numbers that a root stores, if its storage class and its node size hold. A class is how often OBJ_PHYSICAL goes into a
+// type: 0 virtual, 1 physical. Of blocks of any size, also one that is too large for a node.
+#[tactic(auto, using(crate::specs::laws::load::MapAddress::roots))]
+pub fn root_info(
+    image: &[u8],
+    lent: Lent,
+    a: u64,
+    by_id: bool,
+    v: Node,
+) -> Result<BTreeInfo, Refusal>
+    requires { (a < length image.now / lent.size) × (512 ≤ lent.size) }
+    ensures { MatchResult result
+        (λ info. (root_holds (lent_of image.now lent) a by_id (on_disk v (block_at (lent_of image.now lent) a)) ≡ true)
+        × (info ≡ info_at (block_at (lent_of image.now lent) a)))
+        (λ refusal. (root_holds (lent_of image.now lent) a by_id (on_disk v (block_at (lent_of image.now lent) a)) ≡ false)
+        × (refusal ≡ Root)) }
+{
+    check(Refusal::Root, v.otype / OBJ_PHYSICAL == u64::from(!by_id))?;
+    let size = lent.size;
+    let info = BTreeInfo::parse(block_of(image, size, a));
+    check(Refusal::Root, info.node_size == size as u64)?;
+    Ok(info)
+}
+
 impl<'i> Blocks<'i> {
     // 2 to 9: the node at an address, in its place.
     #[tactic(auto, using(crate::specs::laws::load::MapNode::loads))]
@@ -63,9 +88,7 @@ impl<'i> Blocks<'i> {
         read::read_node(block, order, place)
     }
 
-    // 10: the numbers that a root stores, if its storage class and its node size hold. A class is how often OBJ_PHYSICAL goes into a
-    // type: 0 virtual, 1 physical.
-    #[tactic(auto, using(crate::specs::laws::load::MapAddress::roots))]
+    // 10: what the function `root_info` answers, of an image of blocks that a node can have the size of.
     pub fn root_info(self, a: u64, by_id: bool, v: Node) -> Result<BTreeInfo, Refusal>
         requires { a < length self.image.now / self.lent.size }
         ensures { MatchResult result
@@ -75,11 +98,7 @@ impl<'i> Blocks<'i> {
             (λ refusal. (root_holds (lent_of self.entry.image.now self.entry.lent) a by_id
             (on_disk v (block_at (lent_of self.entry.image.now self.entry.lent) a)) ≡ false) × (refusal ≡ Root)) }
     {
-        check(Refusal::Root, v.otype / OBJ_PHYSICAL == u64::from(!by_id))?;
-        let size = self.lent.size;
-        let info = BTreeInfo::parse(block_of(self.image, size, a));
-        check(Refusal::Root, info.node_size == size as u64)?;
-        Ok(info)
+        root_info(self.image, self.lent, a, by_id, v)
     }
 }
 

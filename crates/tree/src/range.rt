@@ -26,7 +26,10 @@ use node::record::Record;
 use node::refusal::{Refusal, check};
 use node::slot::Records;
 
-// The answer of range: so many records of so many bytes together. No tree's entries come near the most that a sum can be.
+// Sums stop here, so that a caller can add two of them. No tree's entries come near it: its slots hold less.
+const MOST: u64 = 0x4000000000000000;
+
+// The answer of range: so many records of so many bytes together.
 #[derive(Clone, Copy)]
 pub struct Ranged {
     pub tree: Tree,
@@ -42,8 +45,8 @@ impl Ranged {
     {
         Ranged {
             tree: next.tree,
-            count: self.count.saturating_add(next.count),
-            length: self.length.saturating_add(next.length),
+            count: self.count.saturating_add(next.count).min(MOST),
+            length: self.length.saturating_add(next.length).min(MOST),
         }
     }
 }

@@ -9,33 +9,33 @@ ghost use Rattle.tree.specs.Trusts.{Ready};
 ghost use Rattle.tree.specs.Workspace.{state_of};
 ghost use Rattle.tree.specs.internal.Bank.{ReadyBy};
 ghost use Rattle.tree.specs.internal.Undo.{Follows};
+ghost use Rattle.tree.specs.internal.Steps.{positions};
 ghost use Rattle.tree.specs.internal.Way.{nth_step, way_of};
 ghost use Rattle.tree.specs.internal.View.{seen};
 
 use crate::editor::{Position, Tree, UNBOUNDED};
 use crate::lent::Lent;
+pub use crate::steps::STEPS;
+use crate::steps::Steps;
 use crate::view::{View, view};
-use arrayvec::ArrayVec;
 use node::order::Order;
 use node::refusal::Refusal;
 
-// The most nodes on a way: levels 32 to 0, and one more.
-pub const STEPS: usize = 34;
-
 // A way: the tree, what was loaded on it, and the steps, each the entry of a slot that the key goes on by.
-#[derive(Drop)]
+#[derive(Clone, Copy)]
 pub struct Way {
     pub tree: Tree,
-    pub steps: ArrayVec<Position, STEPS>,
+    pub steps: Steps,
 }
 
 impl Way {
     // The slot that it ends in.
     pub fn leaf(&self) -> usize
-        requires { 1 ≤ length self.now.steps.items }
-        ensures { result ≡ (nth_step self.now.steps.items (length self.now.steps.items - 1)).slot }
+        requires { 1 ≤ length (positions self.now.steps) }
+        ensures { result ≡ (nth_step (positions self.now.steps) (length (positions self.now.steps) - 1)).slot }
     {
-        self.steps[self.steps.len() - 1].slot
+        let way = self.steps.as_slice();
+        way[way.len() - 1].slot
     }
 }
 
@@ -73,7 +73,7 @@ impl Tree {
         let mut b = UNBOUNDED;
         let mut t = self;
         let mut n = self.root;
-        let mut steps = ArrayVec::new();
+        let mut steps = Steps::new();
         for _k in 0..level {
             let i = view!(t, heads, bytes, lent).way_index(n, key);
             let inner = view!(t, heads, bytes, lent).child_bounds(b, n, i);

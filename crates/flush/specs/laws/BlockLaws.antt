@@ -15,7 +15,7 @@ use Rattle.tree.specs.Format.{splice, MemNode, Head, head_at, head_words, marked
 use Rattle.tree.specs.State.{no_node}
 use Rattle.tree.specs.Workspace.{nodes_of, state_of}
 use Rattle.tree.specs.internal.Bank.{node_in, live, Put}
-use Rattle.tree.specs.internal.Block.{written_head, packed_slot}
+use Rattle.tree.specs.internal.Block.{written_with_id, packed_slot}
 use Rattle.tree.specs.laws.base.Node.{by_test}
 use Rattle.tree.specs.laws.base.NodeSlots.{part_back}
 use Rattle.tree.specs.laws.slots.Bank.{node_at_lem, put_set}
@@ -101,7 +101,7 @@ module _ (size slots xid n a : ℕ) (t : Tree) (image image' heads heads' bytes 
     (en : new ≡ t.by_id && eqb (length (option_to_list own)) 0) (ef : fresh ≡ then_some new w.next) (ei : id ≡ option_or own fresh)
     (eo : oid ≡ cond t.by_id (only (option_to_list id)) a) (el : option_to_list old ≡ marked h.placed h.block)
     (pf : Pushed w.freed (option_to_list old) fs fs' f) (em : image' ≡ packed_at (state_of size t heads bytes) xid n a oid image)
-    (es : heads' ≡ splice heads (n * 9) (head_words (written_head (head_at heads n) a id)))
+    (es : heads' ≡ splice heads (n * 9) (head_words (written_with_id (head_at heads n) a id)))
     (e1 : o ≡ then_some t.by_id oid) (e2 : o' ≡ then_some t.by_id a) (pi : Pushed w.moved (option_to_list o) is is' m)
     (pp : Pushed w.moved (option_to_list o') ps ps' m') (et : is_new ≡ is_some fresh)
     (ek : k ≡ from_bool is_new) where

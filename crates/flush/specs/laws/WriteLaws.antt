@@ -6,7 +6,7 @@ use borrow.Author.Tests.{eqb-true, eqb-false, ltb-true, ltb-false}
 use Rattle.tree.specs.Format.{splice, Entry, mem, val_at, MemNode, Head, head_at, head_words, marked, node_of, only, number_of, child_number, numbered_value, numbered}
 use Rattle.tree.specs.Workspace.{slot_bytes, nodes_of, state_of}
 use Rattle.tree.specs.internal.Bank.{node_in, live, number_holds, words_hold, Lies, Ready, Put}
-use Rattle.tree.specs.internal.Block.{written_head}
+use Rattle.tree.specs.internal.Block.{written_head, written_with_id}
 use Rattle.tree.specs.laws.base.Node.{by_test, never}
 use Rattle.tree.specs.laws.base.NodeSlots.{head_same, head_other}
 use Rattle.tree.specs.laws.slots.Bank.{live_words, node_at_lem, put_ready}
@@ -25,7 +25,7 @@ only_or (Some x) = refl
 
 -- ---- the words of a written node
 
-written_node : (h : Head) (l : List ℕ) (a : ℕ) (id : Option ℕ) → node_of (written_head h a id) l ≡ rewritten (node_of h l) a (option_to_list id)
+written_node : (h : Head) (l : List ℕ) (a : ℕ) (id : Option ℕ) → node_of (written_with_id h a id) l ≡ rewritten (node_of h l) a (option_to_list id)
 unfolding node_of written_head rewritten marked
 written_node h l a None = refl
 written_node h l a (Some x) = refl
@@ -37,7 +37,7 @@ dead_few true true false x b i h = never h refl
 dead_few true true true false b i h = never h refl
 dead_few true true true true b i h = refl
 
-written_words : (h : Head) (a : ℕ) (id : Option ℕ) → words_hold h ≡ true → words_hold (written_head h a id) ≡ true
+written_words : (h : Head) (a : ℕ) (id : Option ℕ) → words_hold h ≡ true → words_hold (written_with_id h a id) ≡ true
 unfolding words_hold written_head number_holds
 written_words h a None w =
     let k = dead_few (leb h.placed 1) (leb h.named 1) (leb h.dirty 1) (leb h.dead 1) (number_holds h.placed h.block)
@@ -49,12 +49,12 @@ written_words h a (Some x) w =
     rw k
 
 pub put_written : (size slots used n a : ℕ) (id : Option ℕ) (heads heads' bytes : List ℕ) → Ready size slots used heads bytes → n < used
-    → heads' ≡ splice heads (n * 9) (head_words (written_head (head_at heads n) a id))
+    → heads' ≡ splice heads (n * 9) (head_words (written_with_id (head_at heads n) a id))
     → Put size slots heads bytes heads' bytes n (rewritten (node_in size heads bytes n) a (option_to_list id))
 unfolding node_in live written_head
 put_written size slots used n a id heads heads' bytes r hn e =
     let h : Head = head_at heads n in
-    let d : Head = written_head (head_at heads n) a id in
+    let d : Head = written_with_id (head_at heads n) a id in
     let w : n * 9 + 9 ≤ length heads = omega (arith, r.words, r.within) in
     let s : head_at heads' n ≡ d = ap (λ (x : List ℕ). head_at x n) e ∙ head_same heads n d (omega arith) in
     let l : Lies size (live h) (slot_bytes size bytes n) = r.lies n hn in
@@ -65,11 +65,11 @@ put_written size slots used n a id heads heads' bytes r hn e =
       parts = λ j k z. refl;
     }
   where
-    lies_written : (h : Head) (l : List ℕ) → Lies size (live h) l → Lies size (live (written_head h a id)) l
+    lies_written : (h : Head) (l : List ℕ) → Lies size (live h) l → Lies size (live (written_with_id h a id)) l
     lies_written h l y = record {
       room = y.room;
       used = y.used;
-      holds = live_words (written_head h a id) ∙ written_words h a id (sym (live_words h) ∙ y.holds);
+      holds = live_words (written_with_id h a id) ∙ written_words h a id (sym (live_words h) ∙ y.holds);
     }
 
 -- ---- what is left

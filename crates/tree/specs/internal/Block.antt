@@ -6,19 +6,23 @@ use Rattle.tree.specs.internal.Bank.{node_in}
 use Rattle.tree.specs.declared.editor.Tree.{Tree}
 
 -- the words of a slot whose node was written: its new block, its id, clean
-unfoldable pub written_head : Head → ℕ → Option ℕ → Head
-written_head h a id =
+unfoldable pub written_head : Head → ℕ → ℕ → ℕ → Head
+written_head h a named id =
     record {
       level = h.level;
       count = h.count;
       used = h.used;
       placed = 1;
       block = a;
-      named = cond (is_some id) 1 0;
-      id = unwrap_or id 0;
+      named = named;
+      id = id;
       dirty = 0;
       dead = h.dead;
     }
+
+-- the same with an id that it has, or none
+abbrev pub written_with_id : Head → ℕ → Option ℕ → Head
+written_with_id h a id = written_head h a (cond (is_some id) 1 0) (unwrap_or id 0)
 
 -- the block of slot n's node
 unfoldable pub packed_slot : Tree → ℕ → List ℕ → List ℕ → ℕ → ℕ → ℕ → ℕ → List ℕ

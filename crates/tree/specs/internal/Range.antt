@@ -1,5 +1,5 @@
 -- What the steps of range compute, of the slots: nodes loaded and entries counted, then written out.
-use Rattle.std.specs.Prelude.{List, [], ◌∷◌, ◌++◌, Bool, cond, ◌&&◌, not, ℕ, zero, suc, ◌+◌, ◌-◌, ◌^◌, length, leb, Option, Some, None, Ok, Err}
+use Rattle.std.specs.Prelude.{List, [], ◌∷◌, ◌++◌, Bool, cond, ◌&&◌, not, ℕ, zero, suc, ◌+◌, ◌^◌, length, leb, Option, Some, None, Ok, Err}
 use Rattle.std.specs.Borrow.{Bor}
 use Rattle.std.specs.Prelude as std
 use Rattle.node.specs.Result.{Result, ok, refused, ◌>>=◌, ◌>>◌, check}
@@ -37,7 +37,7 @@ next_entered o lo hi es (suc m) i = cond (range_enters o lo hi es i) (Some i) (n
 -- ---- sums that are cut off
 
 abbrev pub most : ℕ
-most = 2 ^ 64 - 1
+most = 2 ^ 62
 
 unfoldable pub at_most : ℕ → ℕ
 at_most n = cond (leb n most) n most

@@ -13,6 +13,7 @@ use Rattle.node.specs.declared.refusal.Refusal.{Refusal}
 use Rattle.tree.specs.Lookup as lookup
 use Rattle.tree.specs.Edit as edit
 use Rattle.tree.specs.internal.Bank.{Ready}
+use Rattle.tree.specs.internal.Steps.{positions}
 use Rattle.tree.specs.internal.Undo.{Follows}
 use Rattle.tree.specs.Workspace.{state_of}
 use Rattle.tree.specs.declared.way.Way.{Way}
@@ -52,7 +53,7 @@ pub record PairTaken (way : List code.Position) (s t : Rev (ArrayWindows code.Po
 
 -- a way that the code walked
 unfoldable pub walked_of : ℕ → List ℕ → List ℕ → Way → lookup.Way
-walked_of size heads bytes w = record { state = state_of size w.tree heads bytes; steps = steps_in w.steps.items }
+walked_of size heads bytes w = record { state = state_of size w.tree heads bytes; steps = steps_in (positions w.steps) }
 
 unfoldable pub way_of : ℕ → List ℕ → List ℕ → std.Result Way Refusal → Result lookup.Way
 way_of size heads bytes (Err x) = refused (number_of x)

@@ -27,6 +27,7 @@ use Rattle.tree.specs.Workspace.{state_of}
 use Rattle.tree.specs.Load as load
 use Rattle.tree.specs.Lookup as lookup
 use Rattle.tree.specs.internal.Kids.{slots_of, kid_means}
+use Rattle.tree.specs.internal.Steps.{positions}
 use Rattle.tree.specs.internal.Way.{steps_of, steps_in, onto, way_of}
 use Rattle.tree.specs.internal.Loaded.{TakenOf, TakenBy, LeadsTo, LedTo, Leading, LedLeaf, LeafIs, Onward, Walked}
 use Rattle.tree.specs.laws.slots.Kids.{kid_slot}
@@ -37,7 +38,7 @@ use Rattle.tree.specs.declared.loaded.Taken.{Taken}
 use Rattle.std.specs.Prelude.{Ok, Some, None, Option}
 use Rattle.tree.specs.declared.way.Way.{Way}
 use Rattle.tree.specs.declared.editor.Position as code
-use Rattle.arrayvec.specs.ArrayVec.{ArrayVec}
+use Rattle.tree.specs.declared.steps.Steps.{Steps}
 
 -- ---- the entry taken
 
@@ -228,7 +229,7 @@ module _ (size : ℕ) (t : Tree) (heads bytes : List ℕ) (level : ℕ) (key : L
 
   pub walked_end : (way : List code.Position) (j n : ℕ) → level ≤ j
       → Onward (state_of size t heads bytes) level key (steps_in way) (level - j) n
-      → (taken : ArrayVec code.Position) → taken.items ≡ way ++ record { slot = n; index = 0 } ∷ []
+      → (taken : Steps) → positions taken ≡ way ++ record { slot = n; index = 0 } ∷ []
       → Walked size t heads bytes level key (Some (record { tree = t; steps = taken }))
   unfolding state_of
   walked_end way j n z g taken ew =

@@ -23,10 +23,11 @@ use Rattle.tree.specs.Lookup as lookup
 use Rattle.tree.specs.internal.Bank.{Ready, ReadyAfter}
 use Rattle.tree.specs.internal.Tree.{loaded_of, bound_of, bounds_of, BoundIn, BoundsIn}
 use Rattle.tree.specs.laws.slots.Tree.{used_nodes}
+use Rattle.tree.specs.internal.Steps.{positions}
 use Rattle.tree.specs.internal.Way.{steps_of, steps_in, onto, walked_of, way_of}
 use Rattle.tree.specs.declared.editor.Tree.{Tree}
 use Rattle.tree.specs.declared.editor.Position as code
-use Rattle.arrayvec.specs.ArrayVec.{ArrayVec}
+use Rattle.tree.specs.declared.steps.Steps.{Steps}
 use Rattle.tree.specs.declared.editor.Position.{Position}
 use Rattle.tree.specs.declared.editor.Bounds.{Bounds}
 use Rattle.std.specs.Prelude as std
@@ -227,12 +228,12 @@ module _ (l : Lent) (size : ℕ) (t : Tree) (heads bytes : List ℕ) (b inner : 
 pub way_end : (l : Lent) (size : ℕ) (t : Tree) (heads bytes : List ℕ) (bs : load.Bounds) (n level k : ℕ) (key : List ℕ) (way : List code.Position)
     (whole : Result lookup.Way)
     → level ≤ k → onto (steps_in way) (lookup.way_from (level - k) l (state_of size t heads bytes) bs n key) ≡ whole
-    → (taken : ArrayVec code.Position) → taken.items ≡ way ++ record { slot = n; index = 0 } ∷ []
+    → (taken : Steps) → positions taken ≡ way ++ record { slot = n; index = 0 } ∷ []
     → way_of size heads bytes (Ok (record { tree = t; steps = taken })) ≡ whole
 unfolding way_of walked_of onto lookup.way_from
 way_end l size t heads bytes bs n level k key way whole hk inv taken h =
     let z : level - k ≡ 0 = omega arith in
-    rw (steps_next way taken.items n 0 h) (ap (λ (m : ℕ). onto (steps_in way) (lookup.way_from m l (state_of size t heads bytes) bs n key))
+    rw (steps_next way (positions taken) n 0 h) (ap (λ (m : ℕ). onto (steps_in way) (lookup.way_from m l (state_of size t heads bytes) bs n key))
     (sym z)
     ∙ inv)
 

@@ -24,6 +24,7 @@ use Rattle.tree.specs.laws.refusal1.Roomy.{roomy_get}
 use Rattle.tree.specs.declared.lent.Lent.{Lent}
 use Rattle.tree.specs.internal.Bank.{Ready, ReadyBy, ReadyAfter}
 use Rattle.tree.specs.internal.Undo.{Undone}
+use Rattle.tree.specs.internal.Steps.{positions}
 use Rattle.tree.specs.internal.Way.{nth_step, steps_of, steps_in, walked_of, way_of}
 use Rattle.tree.specs.internal.Get.{got_held, held_at, got_at, got_way, GotCalled}
 use Rattle.tree.specs.laws.trust.Stands.{Stands, all, trusted_of}
@@ -102,7 +103,7 @@ module _ (l : lent.Lent) (size : ℕ) (t : Tree) (h0 b0 : List ℕ) (tr : truste
       s' = state_of size w.tree h b
 
       abbrev ps : List lookup.Step
-      ps = steps_in w.steps.items
+      ps = steps_in (positions w.steps)
 
       pub arrives : way_of size h b r ≡ ok (record { state = s'; steps = ps })
       unfolding way_of walked_of
@@ -112,24 +113,24 @@ module _ (l : lent.Lent) (size : ℕ) (t : Tree) (h0 b0 : List ℕ) (tr : truste
       loads = (way_loaded level l all all s unbounded t.root key stands live_root (sym ev)).at (record { state = s'; steps = ps })
           (sym er ∙ arrives)
 
-      long : length w.steps.items ≡ 1 + length loads.rest
-      long = let z = ap length loads.steps in omega (arith, steps_long w.steps.items (length w.steps.items))
+      long : length (positions w.steps) ≡ 1 + length loads.rest
+      long = let z = ap length loads.steps in omega (arith, steps_long (positions w.steps) (length (positions w.steps)))
 
-      pub get_some : 1 ≤ length w.steps.items
+      pub get_some : 1 ≤ length (positions w.steps)
       get_some = omega (arith, long)
 
-      leaf_lem : lookup.leaf_of ps ≡ (nth_step w.steps.items (length w.steps.items - 1)).slot
+      leaf_lem : lookup.leaf_of ps ≡ (nth_step (positions w.steps) (length (positions w.steps) - 1)).slot
       unfolding steps_of
       leaf_lem =
-          let z : length w.steps.items ≡ suc (length w.steps.items - 1) = omega (arith, long) in
-          ap (λ (k : ℕ). lookup.leaf_of (steps_of w.steps.items k)) z
-          ∙ leaf_last (steps_of w.steps.items (length w.steps.items - 1))
+          let z : length (positions w.steps) ≡ suc (length (positions w.steps) - 1) = omega (arith, long) in
+          ap (λ (k : ℕ). lookup.leaf_of (steps_of (positions w.steps) k)) z
+          ∙ leaf_last (steps_of (positions w.steps) (length (positions w.steps) - 1))
           (record {
-            slot = (nth_step w.steps.items (length w.steps.items - 1)).slot;
-            child = (nth_step w.steps.items (length w.steps.items - 1)).index;
+            slot = (nth_step (positions w.steps) (length (positions w.steps) - 1)).slot;
+            child = (nth_step (positions w.steps) (length (positions w.steps) - 1)).index;
           })
 
-      module _ (n : ℕ) (en : n ≡ (nth_step w.steps.items (length w.steps.items - 1)).slot) where
+      module _ (n : ℕ) (en : n ≡ (nth_step (positions w.steps) (length (positions w.steps) - 1)).slot) where
         leaf_is : lookup.leaf_of ps ≡ n
         leaf_is = leaf_lem ∙ sym en
 

@@ -20,6 +20,7 @@ use Rattle.tree.specs.Workspace.{state_of}
 use Rattle.tree.specs.Answers.{edited_of, removed_of}
 use Rattle.tree.specs.internal.Bank.{Ready, ReadyBy, ReadyAfter}
 use Rattle.tree.specs.internal.Undo.{Follows}
+use Rattle.tree.specs.internal.Steps.{positions}
 use Rattle.tree.specs.internal.Way.{nth_step, steps_of, steps_in, walked_of, way_of}
 use Rattle.tree.specs.internal.Found.{FoundAt}
 use Rattle.tree.specs.internal.Writers.{SpotIn}
@@ -107,7 +108,7 @@ module _ (image : List ℕ) (l : Lent) (t : Tree) (h0 b0 : List ℕ) (c : Trusts
       s' = state_of l.size w.tree h b
 
       abbrev ps : List lookup.Step
-      ps = steps_in w.steps.items
+      ps = steps_in (positions w.steps)
 
       arrives : lookup.way m s key ≡ ok (record { state = s'; steps = ps })
       unfolding way_of walked_of
@@ -116,23 +117,23 @@ module _ (image : List ℕ) (l : Lent) (t : Tree) (h0 b0 : List ℕ) (c : Trusts
       loads : WayLoaded m all all s s.root s' ps
       loads = (way_root m s key (trusted_of m s c.trust).1).at (record { state = s'; steps = ps }) arrives
 
-      pub remove_some : 1 ≤ length w.steps.items
+      pub remove_some : 1 ≤ length (positions w.steps)
       remove_some = get_some m l.size t h0 b0 c.trust level ev key [] h b r ew w e
 
       pub remove_ready : ReadyBy (λ w. w.tree) l.size l.slots h b r → Ready l.size l.slots w.tree.used h b
       remove_ready y = get_ready m l.size t h0 b0 c.trust level ev key [] h b r ew w e l.slots y
 
-      last : lookup.leaf_of ps ≡ (nth_step w.steps.items (length w.steps.items - 1)).slot
+      last : lookup.leaf_of ps ≡ (nth_step (positions w.steps) (length (positions w.steps) - 1)).slot
       unfolding steps_of
       last =
-          let z : length w.steps.items ≡ suc (length w.steps.items - 1) = omega (arith, remove_some) in
-          ap (λ (k : ℕ). lookup.leaf_of (steps_of w.steps.items k)) z
-          ∙ leaf_last (steps_of w.steps.items (length w.steps.items - 1)) (record {
-            slot = (nth_step w.steps.items (length w.steps.items - 1)).slot;
-            child = (nth_step w.steps.items (length w.steps.items - 1)).index;
+          let z : length (positions w.steps) ≡ suc (length (positions w.steps) - 1) = omega (arith, remove_some) in
+          ap (λ (k : ℕ). lookup.leaf_of (steps_of (positions w.steps) k)) z
+          ∙ leaf_last (steps_of (positions w.steps) (length (positions w.steps) - 1)) (record {
+            slot = (nth_step (positions w.steps) (length (positions w.steps) - 1)).slot;
+            child = (nth_step (positions w.steps) (length (positions w.steps) - 1)).index;
           })
 
-      pub remove_leaf : (n : ℕ) → n ≡ (nth_step w.steps.items (length w.steps.items - 1)).slot → n < w.tree.used
+      pub remove_leaf : (n : ℕ) → n ≡ (nth_step (positions w.steps) (length (positions w.steps) - 1)).slot → n < w.tree.used
       remove_leaf n en = omega (arith, last, en, live_used s' (lookup.leaf_of ps) (down_leaf s' ps loads.down).0, used_nodes l.size w.tree h b)
 
       remove_more : t.used ≤ w.tree.used
@@ -145,7 +146,7 @@ module _ (image : List ℕ) (l : Lent) (t : Tree) (h0 b0 : List ℕ) (c : Trusts
       order_same : s'.order ≡ s.order
       order_same = loads.loaded.loads.order
 
-      module _ (n : ℕ) (en : n ≡ (nth_step w.steps.items (length w.steps.items - 1)).slot) (f : std.Result Spot Spot)
+      module _ (n : ℕ) (en : n ≡ (nth_step (positions w.steps) (length (positions w.steps) - 1)).slot) (f : std.Result Spot Spot)
           (ef : FoundAt l.size (state_of l.size w.tree h b) h b n key f) where
         ends : lookup.leaf_of ps ≡ n
         ends = last ∙ sym en
@@ -158,7 +159,7 @@ module _ (image : List ℕ) (l : Lent) (t : Tree) (h0 b0 : List ℕ) (c : Trusts
         unfolding removed_of removed
         remove_absent z = sym (rw (arrives, there, not_ok f z))
 
-        module _ (spot : Spot) (z : f ≡ Ok spot) (way : List code.Position) (es : way ≡ w.steps.items) where
+        module _ (spot : Spot) (z : f ≡ Ok spot) (way : List code.Position) (es : way ≡ positions w.steps) where
           found : is_ok f ≡ true
           found = rw z
 

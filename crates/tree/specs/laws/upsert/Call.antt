@@ -15,6 +15,7 @@ use Rattle.tree.specs.Answers.{edited_of}
 use Rattle.tree.specs.Trusts.{Stays}
 use Rattle.tree.specs.internal.Bank.{ReadyBy, ReadyTree}
 use Rattle.tree.specs.internal.Undo.{Follows}
+use Rattle.tree.specs.internal.Steps.{positions}
 use Rattle.tree.specs.internal.Way.{walked_of, way_of}
 use Rattle.tree.specs.internal.Edits.{Trusts}
 use Rattle.tree.specs.internal.Upserting.{way_gone, Gone}
@@ -57,16 +58,16 @@ module _ (image : List ℕ) (l : Lent) (t : Tree) (h0 b0 : List ℕ) (c : Trusts
     went_refused v x e = sym (rw (way_went, e))
 
     module _ (w : Way) (e : r ≡ Ok w) where
-      arrived : lookup.way (lent_of image l) s key ≡ ok (way_gone l.size w.tree h b w.steps.items)
+      arrived : lookup.way (lent_of image l) s key ≡ ok (way_gone l.size w.tree h b (positions w.steps))
       unfolding way_of walked_of
       arrived = way_went ∙ rw e
 
-      pub went_answer : (v : Val) (way : List code.Position) → way ≡ w.steps.items → (y : Result State)
+      pub went_answer : (v : Val) (way : List code.Position) → way ≡ positions w.steps → (y : Result State)
           → y ≡ upsert_on (lent_of [] l) key v (way_gone l.size w.tree h b way)
           → y ≡ upserted (lent_of image l) (state_of l.size t h0 b0) key v
       unfolding upserted
       went_answer v way es y q =
-          rw es at q ∙ on_slots (lent_of [] l) (lent_of image l) key v (way_gone l.size w.tree h b w.steps.items) (unfold lent_of in refl)
+          rw es at q ∙ on_slots (lent_of [] l) (lent_of image l) key v (way_gone l.size w.tree h b (positions w.steps)) (unfold lent_of in refl)
           ∙ sym (rw arrived)
 
       -- a way only adds slots
@@ -74,12 +75,12 @@ module _ (image : List ℕ) (l : Lent) (t : Tree) (h0 b0 : List ℕ) (c : Trusts
           → Follows l.size l.slots t.used h0 b0 h' b'
       went_follows h' b' p q =
           let st = (trusted_of (lent_of image l) s c.trust).1 in
-          let z = (way_root (lent_of image l) s key st).at (way_gone l.size w.tree h b w.steps.items) arrived in
+          let z = (way_root (lent_of image l) s key st).at (way_gone l.size w.tree h b (positions w.steps)) arrived in
           follows_on l.size l.slots t.used w.tree.used h0 b0 h b h' b' p q
           (omega (arith, used_nodes l.size t h0 b0, used_nodes l.size w.tree h b, z.loaded.loads.longer))
 
       module _ (v : Val) (f : entry_fits (state_of l.size t h0 b0) key v ≡ true) (y : ReadyBy (λ w. w.tree) l.size l.slots h b r) where
-        pub went_gone : (way : List code.Position) → way ≡ w.steps.items → Gone l w.tree h b way key v
+        pub went_gone : (way : List code.Position) → way ≡ positions w.steps → Gone l w.tree h b way key v
         went_gone way es =
             rw es (record {
               image = image;

@@ -16,7 +16,7 @@ returns-clause-wrote c =
     let a = c.args in
     let p = c.requires in
     at_wrote _ _ _ _ _ a.self.tree _ _ _ _ _ _ _ _ _ _ _ a.lists.now.done p.standing p.dirty _ c.live_at-h.ensures _ _ _ _ _ _ _ _ _ _ _ _ _ c.id-own.ensures
-    c.takes_id.ensures c.then_some-fresh.ensures c.or-id.ensures c.block_id-oid.ensures c.block-old.ensures c.push-freed.ensures c.pack_at.ensures c.rewrite.ensures
+    c.takes_id.ensures c.then_some-fresh.ensures c.or-id.ensures c.block_id-oid.ensures c.block-old.ensures c.push-freed.ensures c.pack_at.ensures c.rewrite_with_id.ensures
     c.then_some-number.ensures c.then_some-place.ensures c.push-moved.ensures c.push.ensures c.is_some.ensures c.from.ensures
 
 pub returns-clause-left : goal.returns-clause-left
@@ -24,5 +24,5 @@ returns-clause-left c =
     let a = c.args in
     let p = c.requires in
     at_left _ _ _ _ _ a.self.tree _ _ _ _ _ _ _ _ _ _ _ a.lists.now.done p.standing p.dirty _ c.live_at-h.ensures _ _ _ _ _ _ _ _ _ _ _ _ _ c.id-own.ensures
-    c.takes_id.ensures c.then_some-fresh.ensures c.or-id.ensures c.block_id-oid.ensures c.block-old.ensures c.push-freed.ensures c.pack_at.ensures c.rewrite.ensures
-    c.then_some-number.ensures c.then_some-place.ensures c.push-moved.ensures c.push.ensures c.is_some.ensures c.from.ensures (search (rules, c.rewrite.auto))
+    c.takes_id.ensures c.then_some-fresh.ensures c.or-id.ensures c.block_id-oid.ensures c.block-old.ensures c.push-freed.ensures c.pack_at.ensures c.rewrite_with_id.ensures
+    c.then_some-number.ensures c.then_some-place.ensures c.push-moved.ensures c.push.ensures c.is_some.ensures c.from.ensures (search (rules, c.rewrite_with_id.auto))

@@ -12,9 +12,9 @@ pub insert_at-requires : goal.insert_at-requires
 insert_at-requires c =
     let p = c.requires in
     let a = c.args in
-    let k = c.first_key-key.ensures in
+    let k = c.first_key-len.ensures.key in
     record { ready = p.ready; place = rw c.spot_of-spot.ensures (record { slot = child_slot _ _ _ _ _ _ a.self _ _ p.ready p.room; upto = child_index _ _ _ _ _ _ a.self _ _ p.ready p.room; start = refl }, child_alive _ _ _ _ _ _ a.self _ _ p.ready p.room); room = rw c.spot_of-spot.ensures (child_room _ _ _ _ _ _ a.self _ _ p.ready p.room _ k); stored = (child_short _ _ _ _ _ _ a.self _ _ p.ready p.room _ k, child_held _ _ _ _ _ _ a.self _ _ p.ready p.room _ k) }
 
 pub returns : goal.returns
 returns c =
-    let p = c.requires in let a = c.args in let k = c.first_key-key.ensures in let w = c.insert_at in child_linked _ _ _ _ _ _ a.self _ _ p.ready p.room _ k _ _ w.auto.heads w.auto.bytes (rw c.spot_of-spot.ensures at w.ensures.put) w.ensures.follows
+    let p = c.requires in let a = c.args in let k = c.first_key-len.ensures.key in let w = c.insert_at in child_linked _ _ _ _ _ _ a.self _ _ p.ready p.room _ k _ _ w.auto.heads w.auto.bytes (rw c.spot_of-spot.ensures at w.ensures.put) w.ensures.follows
