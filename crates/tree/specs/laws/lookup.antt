@@ -17,3 +17,5 @@ pub mod RangeFirstChild
 pub mod RangeHeld
 pub mod RangeCall
 pub mod RangeLeaves
+-- Read and not used: the first child that range enters of a slot, by its words and bytes.
+pub use Rattle.tree.specs.laws.lookup.RangeFirstChild.{next_some}

@@ -11,3 +11,5 @@ pub mod Block
 pub mod Records
 pub mod FoundAt
 pub mod Touch
+-- Read and not used: where the bytes of a slot in use end, as a number of 32 bits.
+pub use Rattle.tree.specs.laws.slots.Writers.{slot_end}

@@ -130,10 +130,13 @@ module _ (size n : ℕ) (t : Tree) (heads bytes : List ℕ) (hn : n < t.used) (h
   pub whole_dead : h.dead ≡ 1 → true ≡ stays_whole (state_of size t heads bytes) n
   whole_dead d = rw (node_dead, eq-eqb h.dead 1 d)
 
+  pub alive_node : (h.dead ≡ 1 → ⊥) → (node_at (state_of size t heads bytes) n).dead ≡ false
+  alive_node d = node_dead ∙ ne_eqb h.dead 1 d
+
   pub whole_fits : (h.dead ≡ 1 → ⊥) → (b : Bool)
       → b ≡ fits t.info (eqb n t.root) (node_at (state_of size t heads bytes) n).level (node_at (state_of size t heads bytes) n).entries
       → b ≡ stays_whole (state_of size t heads bytes) n
   unfolding state_of
-  whole_fits d b e = rw (node_dead, ne_eqb h.dead 1 d) e
+  whole_fits d b e = rw (alive_node d) e
 
 pub ruleset fits_at_laws = (whole_dead, whole_fits)

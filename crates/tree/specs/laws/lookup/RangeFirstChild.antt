@@ -12,6 +12,8 @@ use Rattle.node.specs.Result.{Result, ok}
 use Rattle.node.specs.Entry.{Entry, ghost}
 use Rattle.node.specs.Find.{key_at}
 use Rattle.node.specs.Records.{record_length, records_length, entry_of, entries_of}
+use Rattle.node.specs.Slot.{head_at}
+use Rattle.node.specs.declared.head.Head.{Head}
 use Rattle.node.specs.laws.base.Tests.{by_test}
 use Rattle.node.specs.laws.slot.Slot.{at_lies, at_next}
 use Rattle.node.specs.laws.slot.Records.{entries_head, length_entries}
@@ -19,8 +21,11 @@ use Rattle.tree.specs.Lent.{Lent}
 use Rattle.tree.specs.State.{State, node_at}
 use Rattle.tree.specs.Load.{Bounds}
 use Rattle.tree.specs.Lookup.{Got, ends_above, range_enters, range_kids}
+use Rattle.tree.specs.Workspace.{slot_bytes, state_of}
+use Rattle.tree.specs.internal.Bank.{live}
 use Rattle.tree.specs.internal.Range.{next_entered}
-use Rattle.tree.specs.laws.slots.Records.{count_is}
+use Rattle.tree.specs.laws.slots.Records.{entries_here, count_is}
+use Rattle.tree.specs.declared.editor.Tree.{Tree}
 
 -- ---- a child at an offset
 
@@ -91,6 +96,17 @@ module _ (es : List Entry) (n : ℕ) (l : List ℕ) (e : es ≡ entries_of n l) 
   -- as many as there are entries
   pub next_start : (from : ℕ) → next_entered o lo hi es (n - from) from ≡ next_entered o lo hi es (length es - from) from
   next_start from = ap (λ (m : ℕ). next_entered o lo hi es (m - from) from) (count_is es n l e)
+
+-- the same of the entries of a slot, as its words and bytes have them
+pub next_some : (size : ℕ) (t : Tree) (heads bytes : List ℕ) (n from : ℕ) (lo : List ℕ) (hi : List (List ℕ)) → n < t.used → (h : Head)
+    → h ≡ live (head_at heads n) → (l : List ℕ) → l ≡ slot_bytes size bytes n → (r : Option ℕ)
+    → r ≡ next_entered t.order.code lo hi (entries_of h.count l) (h.count - from) from
+    → r ≡ next_entered t.order.code lo hi (node_at (state_of size t heads bytes) n).entries
+    (length (node_at (state_of size t heads bytes) n).entries - from) from
+next_some size t heads bytes n from lo hi hn h eh l el r e =
+    let z : (node_at (state_of size t heads bytes) n).entries ≡ entries_of h.count l = entries_here size t heads bytes n hn h eh l el in
+    e ∙ ap₂ (λ (x : List Entry) (m : ℕ). next_entered t.order.code lo hi x (m - from) from) (sym z)
+    (count_is (node_at (state_of size t heads bytes) n).entries h.count l z)
 
 -- ---- what is before it adds nothing
 

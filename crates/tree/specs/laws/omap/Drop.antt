@@ -1,16 +1,17 @@
 -- Laws of a drop: the range of an id's versions is loaded and counted, then listed in the scratch, then removed. Assumes nothing.
-use Rattle.std.specs.Prelude.{◌≡◌, refl, ℕ, ◌+◌, ◌*◌, ◌^◌, ◌≤◌, drop}
+use Rattle.std.specs.Prelude.{◌≡◌, refl, true, ◌&&◌, eqb, ℕ, ◌+◌, ◌*◌, ◌^◌, ◌≤◌, drop}
 use Rattle.std.proofs.Math.Path.{sym, ap, ap₂}
 use Rattle.std.proofs.Common.{◌∙◌, add-mul, mul_assoc, mul_left_comm, arith}
 use mathlib.Core.List.{List, ◌++◌}
 use Rattle.std.proofs.Math.ListN.{length}
-use borrow.Author.Tests.{le-leb}
+use borrow.Author.Tests.{le-leb, eqb-true}
 use Rattle.node.specs.Bytes.{splice}
-use Rattle.node.specs.Order.{pair_key}
-use Rattle.node.specs.Entry.{Entry}
+use Rattle.node.specs.Order.{pair, pair_key}
+use Rattle.node.specs.Entry.{Entry, every}
 use Rattle.node.specs.Records.{entries_of, records_length, records_of}
 use Rattle.node.specs.Result.{Result, ok, refused}
 use Rattle.node.specs.laws.base.Results.{no_answer}
+use Rattle.node.specs.laws.base.Tests.{and_left}
 use Rattle.node.specs.laws.base.Bytes.{Bytes}
 use Rattle.node.specs.laws.slot.Records.{Storables, entries_back, records_back}
 use Rattle.node.specs.laws.base.Seal.{length_splice}
@@ -20,7 +21,7 @@ use Rattle.tree.specs.State.{State, node_at}
 use Rattle.tree.specs.Load as load
 use Rattle.tree.specs.Load.{unbounded}
 use Rattle.tree.specs.Lookup.{Got, range_from}
-use Rattle.tree.specs.Omap.{versions_end, remove_all, dropped}
+use Rattle.tree.specs.Omap.{is_omap, versions_end, remove_all, dropped}
 use Rattle.tree.specs.Workspace.{state_of}
 use Rattle.tree.specs.Answers.{edited_of}
 use Rattle.tree.specs.internal.Bank.{ReadyBy}
@@ -35,6 +36,7 @@ use Rattle.tree.specs.laws.trust.Loads.{Loaded, loaded_trusted, range_loaded}
 use Rattle.tree.specs.laws.room.Calls.{roomy_range}
 use Rattle.tree.specs.laws.lookup.RangeSums.{range_weight, range_few}
 use Rattle.tree.specs.laws.lookup.RangeHeld.{held_again, range_storable}
+use Rattle.tree.specs.laws.omap.Listed.{Listed, keyed16, held_keyed, listed_as}
 use Rattle.tree.specs.declared.editor.Tree.{Tree}
 use Rattle.tree.specs.declared.lent.Lent.{Lent}
 use Rattle.tree.specs.declared.range.Ranged.{Ranged}
@@ -190,6 +192,20 @@ module _ (image : List ℕ) (l : Lent) (t : Tree) (h0 b0 : List ℕ) (id level :
 
       pub ranged_within : records_length v.count sc' ≤ length sc'
       ranged_within = rw count_is (listed_within es sc sc' stored eo (let z = ranged_room (length sc) w in omega arith))
+
+      -- of an object map, each listed key has 16 bytes
+      module _ (f : is_omap (state_of l.size t h0 b0) ≡ true) where
+        same_order : v.tree.order.code ≡ pair
+        unfolding is_omap state_of
+        same_order =
+            loaded.loads.order ∙ eqb-true t.order.code pair (and_left (eqb t.order.code pair) (eqb t.info.key_size 16)
+            (and_left (eqb t.order.code pair && eqb t.info.key_size 16) (eqb t.info.val_size 16) f))
+
+        keyed : every keyed16 es ≡ true
+        keyed = held_keyed L l.size v.tree h1 b1 ranged_trusts.trust same_order level lo end v.tree.root
+
+        pub ranged_listed : Listed 0 v.count sc'
+        ranged_listed = rw count_is (listed_as es sc sc' 0 stored keyed (let z = ranged_room (length sc) w in omega arith) eo)
 
       listed : entries_of v.count sc' ≡ g.answer
       listed = ap (λ (j : ℕ). entries_of j sc') count_is ∙ listed_entries es sc sc' stored eo ∙ held

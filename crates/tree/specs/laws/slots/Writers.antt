@@ -1,6 +1,6 @@
 -- Laws of the writers of one slot: it is saved, its records change, then its words. Assumes nothing.
 use Rattle.std.specs.Prelude.{◌≡◌, refl, List, ◌++◌, true, false, ℕ, ◌+◌, ◌*◌, ◌^◌, ◌≤◌, ◌<◌, length, get_or, take, drop}
-use Rattle.std.proofs.Common.{sym, ◌∙◌, arith}
+use Rattle.std.proofs.Common.{sym, ◌∙◌, mul-le-mul_right, arith}
 use Rattle.std.proofs.Math.Path.{ap}
 use Rattle.std.proofs.Math.Dec.{eqb}
 use Rattle.node.specs.Bytes.{splice}
@@ -67,6 +67,19 @@ edited_words Kept count used h e = live_words (recounted Kept count used h) ∙ 
 
 -- ---- a slot written
 
+-- where the words and the bytes of a slot in use end
+module _ (size slots used n : ℕ) (h1 b1 : List ℕ) (again : Ready size slots used h1 b1) (hn : n < used) where
+  pub slot_words_lem : (n + 1) * 9 ≤ length h1
+  slot_words_lem = omega (arith, again.words, again.within)
+
+  pub slot_part : n * (4 * size) + 4 * size ≤ length b1
+  slot_part = ready_part size slots used h1 b1 n again hn
+
+  pub slot_end : n * (4 * size) + 4 * size < 2 ^ 32
+  slot_end =
+      let p : n * (4 * size) ≤ 4096 * (4 * size) = mul-le-mul_right (4 * size) (omega (arith, again.many, again.within)) in
+      omega (arith, again.most)
+
 module _ (size slots used : ℕ) (h1 b1 : List ℕ) (s : Spot) (again : Ready size slots used h1 b1) (q : SpotAlive size used h1 b1 s)
     (h : Head) (e : EntryAt) (et : e ≡ entry_at s h) (eh : h ≡ live (head_at h1 s.slot)) (k : ℕ) (ek : k ≡ 4 * size) where
   abbrev n : ℕ
@@ -81,11 +94,11 @@ module _ (size slots used : ℕ) (h1 b1 : List ℕ) (s : Spot) (again : Ready si
   held : Lies size h l
   held = rw (eh, is) (again.lies n q.spot.slot)
 
-  slot_words_lem : (n + 1) * 9 ≤ length h1
-  slot_words_lem = omega (arith, again.words, again.within, q.spot.slot)
+  words_there : (n + 1) * 9 ≤ length h1
+  words_there = slot_words_lem size slots used s.slot h1 b1 again q.spot.slot
 
-  slot_part : n * (4 * size) + 4 * size ≤ length b1
-  slot_part = ready_part size slots used h1 b1 n again q.spot.slot
+  part_there : n * (4 * size) + 4 * size ≤ length b1
+  part_there = slot_part size slots used s.slot h1 b1 again q.spot.slot
 
   -- an entry's place, as its writer is given it
   pub slot_entry : EntryUpto l e
@@ -115,10 +128,10 @@ module _ (size slots used : ℕ) (h1 b1 : List ℕ) (s : Spot) (again : Ready si
     fits = omega (arith, ap (λ (x : Head). x.used) eh, ap (λ (x : EntryAt). x.used) et)
 
     there : slot_bytes size b2 n ≡ d
-    there = ap (λ (x : List ℕ). slot_bytes size x n) whole ∙ part_same size b1 d n wide slot_part
+    there = ap (λ (x : List ℕ). slot_bytes size x n) whole ∙ part_same size b1 d n wide part_there
 
     words : head_at h2 n ≡ recounted mark count more (head_at h1 n)
-    words = ap (λ (x : List ℕ). head_at x n) eh2 ∙ head_same h1 n (recounted mark count more (head_at h1 n)) slot_words_lem
+    words = ap (λ (x : List ℕ). head_at x n) eh2 ∙ head_same h1 n (recounted mark count more (head_at h1 n)) words_there
 
     is_edited : node_in size h2 b2 n ≡ edited mark (node_in size h1 b1 n) (f s.index (node_in size h1 b1 n).entries)
     unfolding node_in
@@ -140,10 +153,10 @@ module _ (size slots used : ℕ) (h1 b1 : List ℕ) (s : Spot) (again : Ready si
                     edited_words mark count more (head_at h1 n) (again.lies n q.spot.slot).holds;
               });
           words = λ j w. ap (λ (x : List ℕ). head_at x j) eh2
-              ∙ head_other h1 n j (recounted mark count more (head_at h1 n)) slot_words_lem (λ z. w (sym z));
-          parts = λ j w. ap (λ (x : List ℕ). slot_bytes size x j) whole ∙ part_other size b1 d n wide slot_part j w;
+              ∙ head_other h1 n j (recounted mark count more (head_at h1 n)) words_there (λ z. w (sym z));
+          parts = λ j w. ap (λ (x : List ℕ). slot_bytes size x j) whole ∙ part_other size b1 d n wide part_there j w;
           after = λ j w. ap (λ (x : List ℕ). get_or x j 0) eh2
-              ∙ word_after h1 n (recounted mark count more (head_at h1 n)) j w (omega (arith, slot_words_lem));
+              ∙ word_after h1 n (recounted mark count more (head_at h1 n)) j w (omega (arith, words_there));
         }
 
 -- one record more can be counted

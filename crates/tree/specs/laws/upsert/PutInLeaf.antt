@@ -79,6 +79,9 @@ pub with_value_is : (t : BTreeInfo) (value v : ℕ) → v ≡ max t.longest_val 
 unfolding with_longest with_counts
 with_value_is t value v b = rw (b, greater_is)
 
+pub count_found : (found : Bool) (keys : ℕ) → found ≡ true → true ≡ (found || ltb keys (2 ^ 64 - 1))
+count_found found keys e = rw e
+
 -- a word is at most 2^64 - 1
 pub count_new : (found : Bool) (keys : ℕ) → keys < 2 ^ 64 → found ≡ false → not (eqb keys 0xFFFFFFFFFFFFFFFF) ≡ (found || ltb keys (2 ^ 64 - 1))
 count_new found keys small e =
@@ -90,12 +93,20 @@ count_new found keys small e =
     rw (e, t, lt-ltb keys (2 ^ 64 - 1) y))
 
 -- how many entries there are after: alone, 13; beside others, 14
+pub refusal_first : (count : ℕ) (found : Bool) → count ≡ 0 → is.Single ≡ cond (ltb 1 (count + cond found 0 1)) is.NoCut is.Single
+refusal_first count true e = let z : ltb 1 (count + 0) ≡ false = le-ltb 1 (count + 0) (omega arith) in rw z
+refusal_first count false e = let z : ltb 1 (count + 1) ≡ false = le-ltb 1 (count + 1) (omega arith) in rw z
+
 pub refusal_beside : (count : ℕ) (found : Bool) → (count ≡ 0 → ⊥) → not found ≡ true
     → is.NoCut ≡ cond (ltb 1 (count + cond found 0 1)) is.NoCut is.Single
 refusal_beside count found n e = let z : ltb 1 (count + 1) ≡ true = lt-ltb 1 (count + 1) (omega arith) in rw (not-true found e, z)
 
 pub refusal_alone : (count : ℕ) (found : Bool) → count ≡ 1 → not found ≡ false → is.Single ≡ cond (ltb 1 (count + cond found 0 1)) is.NoCut is.Single
 refusal_alone count found n e = let z : ltb 1 (count + 0) ≡ false = le-ltb 1 (count + 0) (omega arith) in rw (not-false found e, z)
+
+pub refusal_others : (count : ℕ) (found : Bool) → (count ≡ 0 → ⊥) → (count ≡ 1 → ⊥) → not found ≡ false
+    → is.NoCut ≡ cond (ltb 1 (count + cond found 0 1)) is.NoCut is.Single
+refusal_others count found n m e = let z : ltb 1 (count + 0) ≡ true = lt-ltb 1 (count + 0) (omega arith) in rw (not-false found e, z)
 
 -- ---- 12
 
