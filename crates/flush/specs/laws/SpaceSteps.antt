@@ -279,20 +279,21 @@ none_zeros : (bm : List ℕ) (m a : ℕ) → m ≡ 0 → zeros bm m a ≡ 0
 unfolding zeros
 none_zeros bm m a e = rw e
 
-zeros_next : (bm : List ℕ) (n a i m r sum : ℕ) → a % 8 ≡ 0 → i % 8 ≡ 0 → m ≡ min (n - i) 8 → r ≡ zeros_below m (get_or bm ((a + i) / 8) 0)
+pub zeros_next : (bm : List ℕ) (n a i m r sum : ℕ) → a % 8 ≡ 0 → i % 8 ≡ 0 → m ≡ lesser (n - i) 8 → r ≡ zeros_below m (get_or bm ((a + i) / 8) 0)
     → sum + zeros bm (n - i) (a + i) ≡ zeros bm n a → sum + r + zeros bm (n - (i + 8)) (a + (i + 8)) ≡ zeros bm n a
+unfolding lesser
 zeros_next bm n a i m r sum e f p q v =
     by_test (leb (n - i) 8)
     (λ t.
     let h : n - i ≤ 8 = leb-true (n - i) 8 t in
-    let u : m ≡ n - i = omega arith in
+    let u : m ≡ n - i = rw t at p in
     let w : zeros bm m (a + i) ≡ zeros_below m (get_or bm ((a + i) / 8) 0) = zeros_first bm (a + i) m (omega arith) (omega arith) in
     let w' : zeros bm (n - i) (a + i) ≡ r = ap (λ (y : ℕ). zeros bm y (a + i)) (sym u) ∙ w ∙ sym q in
     let z : zeros bm (n - (i + 8)) (a + (i + 8)) ≡ 0 = none_zeros bm (n - (i + 8)) (a + (i + 8)) (omega arith) in
     omega arith)
     (λ t.
     let h : 8 < n - i = leb-false (n - i) 8 t in
-    let u : m ≡ 8 = omega arith in
+    let u : m ≡ 8 = rw t at p in
     let w : zeros bm m (a + i) ≡ zeros_below m (get_or bm ((a + i) / 8) 0) = zeros_first bm (a + i) m (omega arith) (omega arith) in
     let s : zeros bm (8 + (n - (i + 8))) (a + i) ≡ zeros bm 8 (a + i) + zeros bm (n - (i + 8)) (a + i + 8) = zeros_split bm 8 (n - (i + 8)) (a + i) in
     let d : 8 + (n - (i + 8)) ≡ n - i = omega arith in
@@ -314,7 +315,7 @@ module _ (bm : List ℕ) (n a : ℕ) where
     zeros_rest s (suc m) k q v =
         let b : (a + 8 * k) / 8 ≡ a / 8 + k = omega arith in
         let o : 8 * k + 8 ≡ 8 * (k + 1) = omega arith in
-        let i = zeros_next bm n a (8 * k) (min (n - 8 * k) 8) (zeros_of k) s e (omega arith) refl (rw b) v in
+        let i = zeros_next bm n a (8 * k) (min (n - 8 * k) 8) (zeros_of k) s e (omega arith) (lesser_is (n - 8 * k) 8) (rw b) v in
         zeros_rest (s + zeros_of k) m (k + 1) (omega arith) (rw o at i)
 
     pub zeros_all : sum_by zeros_of (range_with_len 0 (div_ceil n 8)) ≡ zeros bm n a
@@ -438,10 +439,14 @@ alloc_none size p x e i = rw (sym (alloc_full size p x e i))
 
 -- ---- usable: c chunks are passed
 
-pub usable_most : (size : ℕ) (bm cs fs : List ℕ) (c z r : ℕ) → Held size (space_of bm cs fs) → z ≤ get_or cs c 0 → r ≡ min z (get_or fs c 0)
-    → r ≤ 8 * size
+pub usable_most : (size : ℕ) (bm cs fs : List ℕ) (c z r : ℕ) → Held size (space_of bm cs fs) → z ≤ get_or cs c 0 → r ≤ z → r ≤ 8 * size
 unfolding chunk_blocks
 usable_most size bm cs fs c z r h k l = let n : get_or cs c 0 ≤ 8 * size = h.counted c in omega arith
+
+-- the smaller of the 0 bits and the free count
+pub usable_least : (size : ℕ) (bm cs fs : List ℕ) (c z r : ℕ) → Held size (space_of bm cs fs) → z ≤ get_or cs c 0 → r ≡ min z (get_or fs c 0)
+    → r ≤ 8 * size
+usable_least size bm cs fs c z r h k l = usable_most size bm cs fs c z r h k (omega arith)
 
 pub usable_is : (size : ℕ) (bm : List ℕ) (n f c z r : ℕ) → z ≡ zeros bm n (c * (8 * size)) → r ≡ min z f
     → r ≡ lesser f (zeros bm n (c * chunk_blocks size))
@@ -660,7 +665,7 @@ pub ruleset counting = (mask_some, masked_most, zeros_left)
 
 pub ruleset finding = (chunk_aligned, chunk_mapped, chunk_small, chunk_free, free_none, free_some)
 
-pub ruleset using_up = (chunk_aligned, chunk_mapped, chunk_small, chunk_free, usable_most, usable_is)
+pub ruleset using_up = (chunk_aligned, chunk_mapped, chunk_small, chunk_free, usable_least, usable_is)
 
 pub ruleset holding = (bitmap_fits, space_chunks, space_counts, space_map)
 

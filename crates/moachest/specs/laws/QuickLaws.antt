@@ -49,8 +49,9 @@ stored_same (x0 ∷ x1 ∷ x2 ∷ x3 ∷ x4 ∷ x5 ∷ x6 ∷ x7 ∷ x8 ∷ x9 �
 stored_same (x0 ∷ x1 ∷ x2 ∷ x3 ∷ x4 ∷ x5 ∷ x6 ∷ x7 ∷ x8 ∷ x9 ∷ x10 ∷ x11 ∷ x12 ∷ x13 ∷ w) h e = rw (mark_small x10 e) refl
 
 -- trust in the words is trust in the tree that they are
-pub trusts_loaded : (image heads bytes : List ℕ) (l : Lent) (t u : Tree) → t ≡ u → Trusts image l u heads bytes → Trusts image l t heads bytes
-trusts_loaded image heads bytes l t u e h = rw e h
+pub trusts_loaded : (image heads bytes : List ℕ) (l m : Lent) (t u : Tree) → l ≡ m → t ≡ u → Trusts image m u heads bytes
+    → Trusts image l t heads bytes
+trusts_loaded image heads bytes l m t u el et h = rw (el, et) h
 
 pub words_kept : (w : List ℕ) (t : Tree) (b : Bool) → t ≡ tree_of w → 14 ≤ length w → b ≡ ltb (get_or w 10 0) 2 → b ≡ true → w ≡ stored w t
 words_kept w t b e h p y = rw e (sym (stored_same w h (ltb-true (get_or w 10 0) 2 (sym p ∙ y))))
