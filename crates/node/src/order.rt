@@ -83,9 +83,7 @@ fn pair_compare(a: &[u8], b: &[u8]) -> Ordering
     ids.then_with(|| bytes::field_at::<8>(a, 8).cmp(&bytes::field_at::<8>(b, 8)))
 }
 
-// Whether a stands before b as bytes. It is called and not repeated where `less` stands: with its loop there, a range over pairs takes
-// a quarter longer.
-#[inline(never)]
+// Whether a stands before b as bytes.
 #[tactic(auto, using(crate::specs::laws::order::Compared::compared_lt))]
 fn byte_less(a: &[u8], b: &[u8]) -> bool
     ensures { result ≡ less byte a.now b.now }

@@ -64,7 +64,9 @@ pub fn copy_to(src: &[u8], dst: &mut [u8], at: usize)
     }
 }
 
-// n bytes from a down to b, the first first: what is overwritten has been moved already.
+// n bytes from a down to b, the first first: what is overwritten has been moved already. It is called, and not repeated where `shift`
+// stands: beside its test the compiler takes the loop for C's `memmove`.
+#[inline(never)]
 #[tactic(auto, using(crate::specs::laws::MoveLaws::moved_none, crate::specs::laws::MoveLaws::down_next, crate::specs::laws::MoveLaws::down_stop))]
 pub fn move_down(s: &mut [u8], a: usize, b: usize, n: usize)
     requires { (b ≤ a) × (a + n ≤ length s.old) }
@@ -77,7 +79,8 @@ pub fn move_down(s: &mut [u8], a: usize, b: usize, n: usize)
     }
 }
 
-// n bytes from a up to b, the last first.
+// n bytes from a up to b, the last first. Called, as the other direction is.
+#[inline(never)]
 pub fn move_up(s: &mut [u8], a: usize, b: usize, n: usize)
     requires { (a ≤ b) × (b + n ≤ length s.old) }
     ensures { s.new ≡ moved s.old a b n }

@@ -58,8 +58,11 @@ pub struct Asked<'l, 'h> {
     pub hi: Option<&'h [u8]>,
 }
 
+// Its tests are repeated where they are called: of a short range, most of the time is these tests of an index node's children, which as
+// calls took half as many instructions again.
 impl Asked<'_, '_> {
     // Whether a key lies below the end.
+    #[inline(always)]
     #[tactic(auto, unfolding(crate::specs::Lookup::ends_above, crate::specs::internal::Range::end_of))]
     fn ends_above(self, order: Order, key: &[u8]) -> bool
         ensures { result ≡ ends_above order.code (end_of self.entry.hi) key.now }
@@ -68,6 +71,7 @@ impl Asked<'_, '_> {
     }
 
     // Whether a key lies between.
+    #[inline(always)]
     #[tactic(auto, unfolding(crate::specs::internal::Range::lies_between))]
     fn holds(self, order: Order, key: &[u8]) -> bool
         ensures { result ≡ lies_between order.code self.entry.lo.now (end_of self.entry.hi) key.now }
@@ -76,6 +80,7 @@ impl Asked<'_, '_> {
     }
 
     // Whether range looks into child i, whose record is lent: its key lies below the end, and the next, if any, above lo.
+    #[inline(always)]
     #[tactic(auto, using(crate::specs::laws::lookup::RangeFirstChild::entered))]
     fn enters(self, order: Order, records: Records<'_>, i: u64, r: Record<'_>) -> bool
         requires { (i < records.count) × (r.at ≡ records_length i records.slot.now) × (r.slot.now ≡ records.slot.now) }
