@@ -50,17 +50,29 @@ fn copy_words(src: &[u8], dst: &mut [u8], at: usize)
     copy_word(src, last, dst, at + last);
 }
 
-// All of `src`, stored in `dst` from `at` on. A key or a value of a few words is stored here: the library's copy is a call, which takes
-// longer than they do.
-#[tactic(auto, using(crate::specs::laws::PartLaws::part_stored))]
+// All of a short `src`, byte by byte.
+#[tactic(auto, using(crate::specs::laws::CopyLaws::copy_start, crate::specs::laws::CopyLaws::copy_next, crate::specs::laws::CopyLaws::copy_done))]
+fn copy_bytes(src: &[u8], dst: &mut [u8], at: usize)
+    requires { at + length src.now ≤ length dst.old }
+    ensures { dst.new ≡ splice dst.old at src.now }
+{
+    let mut k = 0;
+    while k < src.len() {
+        dst[at + k] = src[k];
+        k += 1;
+    }
+}
+
+// All of `src`, stored in `dst` from `at` on. The library's `copy_from_slice` is a call of C's `memmove`, which who links the library would
+// owe it, and which takes longer than a key or a value of a few words.
 pub fn copy_to(src: &[u8], dst: &mut [u8], at: usize)
     requires { at + length src.now ≤ length dst.old }
     ensures { dst.new ≡ splice dst.old at src.now }
 {
-    if (8..=64).contains(&src.len()) {
-        copy_words(src, dst, at);
+    if src.len() < 8 {
+        copy_bytes(src, dst, at);
     } else {
-        dst[at..at + src.len()].copy_from_slice(src);
+        copy_words(src, dst, at);
     }
 }
 

@@ -1,10 +1,10 @@
--- Laws of a copy that goes by words of 8 bytes, of which the last may overlap the one before. Assumes nothing.
-use Rattle.std.specs.Prelude.{◌≡◌, refl, List, [], ◌∷◌, ◌++◌, ℕ, suc, ◌+◌, ◌-◌, ◌*◌, ◌/◌, ◌%◌, ◌≤◌, ◌<◌, length, take, drop, get_or}
-use Rattle.std.proofs.Common.{sym, ap, ap₂, ◌∙◌, append_assoc, arith, Fits, length-append, length-drop, take-add, drop-drop, take_at, length-take-le, take_all}
+-- Laws of a copy that goes byte by byte, or by words of 8 bytes, of which the last may overlap the one before. Assumes nothing.
+use Rattle.std.specs.Prelude.{◌≡◌, refl, List, [], ◌∷◌, ◌++◌, ℕ, suc, ◌+◌, ◌-◌, ◌*◌, ◌/◌, ◌%◌, ◌≤◌, ◌<◌, length, take, drop, get_or, set}
+use Rattle.std.proofs.Common.{sym, ap, ap₂, ◌∙◌, append_assoc, arith, Fits, length-append, length-drop, take-add, drop-drop, take_at, length-take-le, take_all, take-suc, add-one}
 use Rattle.std.specs.Int.{w8}
 use Rattle.std.proofs.Math.Seq.{drop-append-add}
 use Rattle.seal.specs.Bytes.{window, splice, le, bytes_of, field_at, u64_at, AreBytes}
-use Rattle.seal.specs.laws.WindowLaws.{length_window, length_splice, splice_two, splice_run, splice_none}
+use Rattle.seal.specs.laws.WindowLaws.{length_window, length_splice, splice_two, splice_run, splice_none, set_is_splice}
 use Rattle.seal.specs.laws.FieldLaws.{bytes_take, bytes_drop}
 
 bytes_back : (l : List ℕ) → AreBytes l → bytes_of (length l) (le l) ≡ l
@@ -30,6 +30,25 @@ word_moved l d k i p x h r ex ek =
 -- nothing is stored yet
 pub copy_start : (l src : List ℕ) (at : ℕ) → l ≡ splice l at (take 0 src)
 copy_start l src at = sym (splice_none l at)
+
+-- a byte more
+pub copy_next : (l s src : List ℕ) (at k : ℕ) → s ≡ splice l at (take k src) → at + length src ≤ length l → k < length src
+    → set s (at + k) (get_or src k 0) ≡ splice l at (take (k + 1) src)
+copy_next l s src at k e room h =
+    let le1 : k ≤ length src = omega arith in
+    let lt : length (take k src) ≡ k = length-take-le k src le1 in
+    let ls : length s ≡ length l = ap length e ∙ length_splice l at (take k src) (omega arith) in
+    let in_it : at + k < length s = omega arith in
+    let fit : at + length (take k src) + 1 ≤ length l = omega arith in
+    set_is_splice s (at + k) (get_or src k 0) in_it
+    ∙ ap (λ (q : List ℕ). splice q (at + k) (get_or src k 0 ∷ [])) e
+    ∙ ap (λ (q : ℕ). splice (splice l at (take k src)) (at + q) (get_or src k 0 ∷ [])) (sym lt)
+    ∙ splice_two l at (take k src) (get_or src k 0 ∷ []) fit
+    ∙ ap (splice l at) (sym (rw add-one (take-suc src k 0 h)))
+
+-- all of them
+pub copy_done : (l s src : List ℕ) (at k : ℕ) → s ≡ splice l at (take k src) → length src ≤ k → s ≡ splice l at src
+copy_done l s src at k e h = e ∙ ap (splice l at) (take_all k src h)
 
 pub word_next : (l s t src : List ℕ) (at k last : ℕ) → s ≡ splice l at (take k src) → at + length src ≤ length l → last + 8 ≡ length src → k < last
     → t ≡ splice s (at + k) (window k 8 src) → t ≡ splice l at (take (k + 8) src)
