@@ -1,9 +1,11 @@
+use Rattle.std.proofs.Common.{arith}
 use Rattle.flush.specs.laws.BlockLaws.{at_wrote, at_left, room_freed, room_next}
 use borrow.Author.Rules.{rules}
 use Rattle.flush.proofs.flush.Source.write_at.Goals as goal
 
+-- by cases, since a push of less has the room too: a wrong program is refused for what it lists
 pub push-freed-requires : goal.push-freed-requires
-push-freed-requires c = room_freed _ _ _ _ _ _ _ _ _ c.requires.room _ c.live_at-h.ensures _ c.block-old.ensures
+push-freed-requires c = grind (arith, room_freed _ _ _ _ _ _ _ _ _ c.requires.room _ c.live_at-h.ensures _ c.block-old.ensures)
 
 pub overflow_add-lists : goal.overflow_add-lists
 overflow_add-lists c =
