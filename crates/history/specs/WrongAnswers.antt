@@ -9,7 +9,7 @@ use Rattle.seal.specs.Obj.{header_at, header_bytes, kind_of, storage_of}
 use Rattle.node.specs.Result.{Result}
 use Rattle.node.specs.Order.{pair, byte, known, keyed_length, less, pair_key}
 use Rattle.node.specs.Entry.{Entry, Val, ghost, leaf, disk, value_length, value_bytes}
-use Rattle.node.specs.Records.{mark_of, record_of, records_of, mark_length, record_length, entry_of, records_length, entries_of}
+use Rattle.node.specs.Records.{mark_of, record_bytes, record_of, records_of, mark_length, record_length, entry_of, records_length, entries_of}
 use Rattle.node.specs.Find.{place_of, is_there, not_above}
 use Rattle.node.specs.Fit.{align8, padded, data_space, toc_slots, toc_length, fits_sums, fits, packed_length}
 use Rattle.node.specs.Cut.{cut}
@@ -435,6 +435,14 @@ record_rows =
     }
     ∷ record {
       contract = "record::put";
+      gives = record_bytes (1 ∷ 2 ∷ []) 1 (9 ∷ []);
+      right = 2 ∷ 0 ∷ 1 ∷ 0 ∷ 1 ∷ 2 ∷ 9 ∷ [];
+      wrong = 1 ∷ 0 ∷ 2 ∷ 0
+          ∷ 1 ∷ 2 ∷ 9 ∷ [];
+      wrong' = 2 ∷ 0 ∷ 1 ∷ 0 ∷ 9 ∷ 1 ∷ 2 ∷ [];
+    }
+    ∷ record {
+      contract = "record::put_value";
       gives = record_of (record { key = 1 ∷ 2 ∷ []; value = leaf (9 ∷ []) });
       right = 2 ∷ 0 ∷ 1 ∷ 0 ∷ 1 ∷ 2 ∷ 9 ∷ [];
       wrong = 1 ∷ 0 ∷ 2 ∷ 0

@@ -1,6 +1,7 @@
 // A node's block, read (`Node` of btree.rs). The bytes stay in the block.
 ghost use Rattle.std.specs.Prelude.{◌≡◌, true, not, ◌&&◌, ◌||◌, ◌+◌, ◌-◌, ◌≤◌, ◌<◌, ◌^◌, length, is_some, is_none, IfOk};
 ghost use Rattle.seal.specs.Bytes.{window};
+ghost use Rattle.node.specs.Bytes.{Bytes};
 ghost use Rattle.node.specs.Obj.{is_node};
 ghost use Rattle.node.specs.Order.{keyed};
 ghost use Rattle.node.specs.Entry.{disk};
@@ -8,7 +9,6 @@ ghost use Rattle.node.specs.Slot.{value_means};
 ghost use Rattle.node.specs.Place.{place_of, lent_root, lower_of, lent_key};
 ghost use Rattle.node.specs.Read.{parsed, is_fixed, flags_hold, layout_holds, span_at, is_ghost, span_holds, span_length, entries_hold, entry_at, entries_from, in_bounds, keys_rise, keys_within, read_node, read_of, map_ok};
 ghost use Rattle.node.specs.internal.ReadSteps.{Laid, Sound};
-ghost use Rattle.node.specs.laws.base.Bytes.{Bytes};
 
 use crate::info::BTreeInfo;
 use crate::order::Order;

@@ -5,7 +5,7 @@ ghost use Rattle.node.specs.Find.{val_at};
 ghost use Rattle.node.specs.Records.{records_length, entries_of};
 ghost use Rattle.node.specs.Slot.{head_at, with_value, is_child};
 ghost use Rattle.node.specs.Read.{spans_length, on_disk};
-ghost use Rattle.node.specs.laws.base.Bytes.{Bytes};
+ghost use Rattle.node.specs.Bytes.{Bytes};
 ghost use Rattle.tree.specs.State.{with_entries, marked_dirty};
 ghost use Rattle.tree.specs.Load.{adopted};
 ghost use Rattle.tree.specs.Workspace.{slot_bytes};

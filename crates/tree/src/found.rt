@@ -3,7 +3,7 @@ ghost use Rattle.std.specs.Prelude.{◌≡◌, ◌≤◌, ◌<◌, ◌^◌, leng
 ghost use Rattle.node.specs.Fit.{Sized};
 ghost use Rattle.node.specs.Records.{entries_of};
 ghost use Rattle.node.specs.Slot.{head_at};
-ghost use Rattle.node.specs.laws.base.Bytes.{Bytes};
+ghost use Rattle.node.specs.Bytes.{Bytes};
 ghost use Rattle.tree.specs.State.{node_at};
 ghost use Rattle.tree.specs.Workspace.{slot_bytes};
 ghost use Rattle.tree.specs.Trusts.{live};

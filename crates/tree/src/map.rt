@@ -1,10 +1,9 @@
 // The object map: a physical tree of pairs, its nodes read where they lie in the image.
 ghost use Rattle.std.specs.Prelude.{◌≡◌, ◌*◌, ◌/◌, ◌≤◌, ◌<◌, length, take, drop, ◌-◌, IfOk, OnOk, MatchResult, true, false, unwrap_or};
-ghost use Rattle.node.specs.Bytes.{window};
+ghost use Rattle.node.specs.Bytes.{window, Bytes};
 ghost use Rattle.node.specs.Order.{pair};
 ghost use Rattle.node.specs.Find.{key_at, val_at};
 ghost use Rattle.node.specs.Place.{place_of, lower_of, lent_key};
-ghost use Rattle.node.specs.laws.base.Bytes.{Bytes};
 ghost use Rattle.node.specs.Read.{read_of, map_ok, on_disk, info_at};
 ghost use Rattle.node.specs.declared.refusal.Refusal.TheVariants.{Root};
 ghost use Rattle.tree.specs.Lent.{block_at, lent_of};

@@ -3,12 +3,9 @@ use Rattle.std.specs.Prelude.{◌≡◌, refl, List, [], ◌∷◌, ◌++◌, �
 use Rattle.std.proofs.Common.{ap₂, arith, Fits}
 use Rattle.std.proofs.Math.Nat.{suc_inj}
 use Rattle.std.specs.Int.{w8}
-use Rattle.seal.specs.Bytes.{window, splice, le, bytes_of, field_at, AreBytes}
+use Rattle.seal.specs.Bytes.{window, splice, le, bytes_of, field_at}
 use Rattle.seal.specs.laws.FieldLaws as of
-
--- every element is a byte (past the end `get_or` answers 0)
-pub record Bytes (l : List ℕ) : Type 0 where
-  pub below : AreBytes l
+pub use Rattle.node.specs.Bytes.{Bytes}
 
 -- what a proof knows of a lent slice, `c .. .shared-slice-known .given` or `c .. .slice-known .given`
 pub bytes_known : (l : List ℕ) → ((i : ℕ) → Fits w8 (get_or l i 0)) → Bytes l
