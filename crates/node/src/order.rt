@@ -44,7 +44,10 @@ impl Order {
     pub fn compare(self, a: &[u8], b: &[u8]) -> Ordering
         ensures { result ≡ compared self.code a.now b.now }
     {
-        if self.code == Self::PAIR && a.len() == 16 && b.len() == 16 {
+        if self.code != Self::PAIR {
+            return lead::byte_compare(a, b);
+        }
+        if a.len() == 16 && b.len() == 16 {
             return pair_compare(a, b);
         }
         lead::byte_compare(a, b)
@@ -55,7 +58,10 @@ impl Order {
     pub fn less(self, a: &[u8], b: &[u8]) -> bool
         ensures { result ≡ less self.code a.now b.now }
     {
-        if self.code == Self::PAIR && a.len() == 16 && b.len() == 16 {
+        if self.code != Self::PAIR {
+            return byte_less(a, b);
+        }
+        if a.len() == 16 && b.len() == 16 {
             return pair_compare(a, b).is_lt();
         }
         byte_less(a, b)

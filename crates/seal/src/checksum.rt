@@ -33,10 +33,9 @@ impl Sums {
     }
 }
 
-// The words of one chunk, summed onto two sums that are reduced, without reducing. A turn reads two words at once and
-// takes them into four sums of which each waits for one addition only: the words at even places (with sum1), those at
-// odd places, and what each of the two comes to turn by turn. With the words v and u a turn, sum2 grows by
-// (even + odd - u) + (even + odd).
+// The words of one chunk, summed onto two sums that are reduced, without reducing. A turn takes two words into four
+// sums of which each waits for one addition only: the words at even places (with sum1), those at odd places, and what
+// each of the two comes to turn by turn. With the words v and u a turn, sum2 grows by (even + odd - u) + (even + odd).
 #[tactic(auto, using(crate::specs::laws::ChecksumLaws::pair_turns))]
 fn add_chunk(chunk: &[u8], sums: Sums) -> Sums
     requires { (length chunk.now ≤ 4096) × (sums.sum1 < M) × (sums.sum2 < M) }
@@ -49,9 +48,8 @@ fn add_chunk(chunk: &[u8], sums: Sums) -> Sums
     let mut evens = 0;
     let mut odds = 0;
     for pair in pairs {
-        let pair = field_at::<8>(pair, 0);
-        even += pair % WORD;
-        odd += pair / WORD;
+        even += field_at::<4>(pair, 0);
+        odd += field_at::<4>(pair, 4);
         evens += even;
         odds += odd;
     }

@@ -3,9 +3,9 @@ use Rattle.std.specs.Prelude.{◌≡◌, refl, List, [], ◌∷◌, ◌++◌, �
 use Rattle.std.specs.Simd.{first_chunks}
 use Rattle.std.proofs.Common.{sym, ap, ap₂, ◌∙◌, arith, add-one, append-nil, length-append, length-drop, length-take-le, take-append-drop, drop-drop, drop-cons}
 use Rattle.std.proofs.lemmas.List.{take_rest}
-use Rattle.seal.specs.Bytes.{window, le, field_at, u32_at, u64_at, AreBytes}
+use Rattle.seal.specs.Bytes.{window, le, field_at, u32_at}
 use Rattle.seal.specs.Checksum.{M, words, s1, s2, stored_for, fletcher}
-use Rattle.seal.specs.laws.FieldLaws.{field_window, field_join, field_fits, bytes_drop}
+use Rattle.seal.specs.laws.FieldLaws.{field_window}
 use Rattle.std.proofs.Math.ListN.{drop_of_length-le}
 
 -- ---- words
@@ -72,73 +72,70 @@ s2_mod a a' b b' (w ∷ ws) h k = s2_mod (a + w) (a' + w) (b + (a + w)) (b' + (a
 -- the words of runs of eight bytes
 unfoldable pub pair_words : List (List ℕ) → List ℕ
 pair_words [] = []
-pair_words (p ∷ ps) = u64_at p 0 % 2 ^ 32 ∷ u64_at p 0 / 2 ^ 32 ∷ pair_words ps
+pair_words (p ∷ ps) = u32_at p 0 ∷ u32_at p 4 ∷ pair_words ps
 
 -- the words of a run of bytes are those of its pairs and those of what is left
-words_pairs : (l : List ℕ) (k : ℕ) → AreBytes l → k * 8 ≤ length l → words l ≡ pair_words (first_chunks 8 k l) ++ words (drop (k * 8) l)
+words_pairs : (l : List ℕ) (k : ℕ) → k * 8 ≤ length l → words l ≡ pair_words (first_chunks 8 k l) ++ words (drop (k * 8) l)
 unfolding pair_words field_at window
-words_pairs l zero b h = refl
-words_pairs l (suc k) b h =
+words_pairs l zero h = refl
+words_pairs l (suc k) h =
     let r : List ℕ = drop 8 l in
     let e : 8 + k * 8 ≡ suc k * 8 = omega arith in
     let w : words l ≡ u32_at l 0 ∷ u32_at l 4 ∷ words r = words_next l 0 (omega arith) ∙ ap (λ (q : List ℕ). u32_at l 0 ∷ q)
     (words_next l 4 (omega arith)) in
-    let p : u64_at (take 8 l) 0 ≡ u64_at l 0 = field_window 8 0 8 l 0 (omega arith) in
-    let j : u32_at l 0 + u32_at l 4 * 2 ^ 32 ≡ u64_at l 0 = field_join 4 4 l 0 (u32_at l 0) (u32_at l 4) (omega arith) refl refl in
-    let f : u32_at l 0 < 2 ^ 32 = field_fits 4 l 0 b in
-    let u : u64_at (take 8 l) 0 % 2 ^ 32 ≡ u32_at l 0 = omega arith in
-    let v : u64_at (take 8 l) 0 / 2 ^ 32 ≡ u32_at l 4 = omega arith in
-    let i : words r ≡ pair_words (first_chunks 8 k r) ++ words (drop (k * 8) r) = words_pairs r k (bytes_drop 8 l b) (rw length-drop (omega arith)) in
+    let v : u32_at (take 8 l) 0 ≡ u32_at l 0 = field_window 4 0 8 l 0 (omega arith) in
+    let u : u32_at (take 8 l) 4 ≡ u32_at l 4 = field_window 4 0 8 l 4 (omega arith) in
+    let i : words r ≡ pair_words (first_chunks 8 k r) ++ words (drop (k * 8) r) = words_pairs r k (rw length-drop (omega arith)) in
     let d : drop (k * 8) r ≡ drop (suc k * 8) l = drop-drop (k * 8) 8 l ∙ ap (λ (n : ℕ). drop n l) e in
     cc
 
 pub pair_turn_1 : (ps : List (List ℕ)) (k a : ℕ) → k < length ps
-    → s1 a (pair_words (drop k ps)) ≡ s1 (a + u64_at (get_or ps k []) 0 % 2 ^ 32 + u64_at (get_or ps k []) 0 / 2 ^ 32) (pair_words (drop (k + 1) ps))
+    → s1 a (pair_words (drop k ps)) ≡ s1 (a + u32_at (get_or ps k []) 0 + u32_at (get_or ps k []) 4) (pair_words (drop (k + 1) ps))
 unfolding pair_words s1
 pair_turn_1 ps k a h = rw (drop-cons ps k [] h, add-one)
 
 pub pair_turn_2 : (ps : List (List ℕ)) (k a b : ℕ) → k < length ps
     → s2 a b (pair_words (drop k ps))
-    ≡ s2 (a + u64_at (get_or ps k []) 0 % 2 ^ 32 + u64_at (get_or ps k []) 0 / 2 ^ 32)
-    (b + 2 * (a + u64_at (get_or ps k []) 0 % 2 ^ 32) + u64_at (get_or ps k []) 0 / 2 ^ 32) (pair_words (drop (k + 1) ps))
+    ≡ s2 (a + u32_at (get_or ps k []) 0 + u32_at (get_or ps k []) 4)
+    (b + 2 * (a + u32_at (get_or ps k []) 0) + u32_at (get_or ps k []) 4) (pair_words (drop (k + 1) ps))
 unfolding pair_words s2
 pair_turn_2 ps k a b h =
-    let v : ℕ = u64_at (get_or ps k []) 0 % 2 ^ 32 in
-    let u : ℕ = u64_at (get_or ps k []) 0 / 2 ^ 32 in
+    let v : ℕ = u32_at (get_or ps k []) 0 in
+    let u : ℕ = u32_at (get_or ps k []) 4 in
     let e : b + 2 * (a + v) + u ≡ b + (a + v) + (a + v + u) = omega arith in
     rw (e, drop-cons ps k [] h, add-one)
 
 pub ruleset pair_turns = (pair_turn_1, pair_turn_2)
 
 -- x and y are the two sums of all pairs: what is left goes on from them
-pairs_done : (l rest : List ℕ) (ps : List (List ℕ)) (k a b x y : ℕ) → AreBytes l → ps ≡ first_chunks 8 (length l / 8) l → length ps ≤ k
+pairs_done : (l rest : List ℕ) (ps : List (List ℕ)) (k a b x y : ℕ) → ps ≡ first_chunks 8 (length l / 8) l → length ps ≤ k
     → rest ≡ drop (length l / 8 * 8) l
     → s1 x (pair_words (drop k ps)) ≡ s1 a (pair_words ps) → s2 x y (pair_words (drop k ps)) ≡ s2 a b (pair_words ps)
     → (s1 x (words rest) ≡ s1 a (words l)) × (s2 x y (words rest) ≡ s2 a b (words l))
 unfolding pair_words s1 s2
-pairs_done l rest ps k a b x y c e h f p q =
+pairs_done l rest ps k a b x y e h f p q =
     let z : drop k ps ≡ [] = drop_of_length-le ps h in
-    let m : words l ≡ pair_words ps ++ words rest = rw (e, f) (words_pairs l (length l / 8) c (omega arith)) in
+    let m : words l ≡ pair_words ps ++ words rest = rw (e, f) (words_pairs l (length l / 8) (omega arith)) in
     let p' : x ≡ s1 a (pair_words ps) = rw z at p in
     let q' : y ≡ s2 a b (pair_words ps) = rw z at q in
     (rw (m, s1_append, ← p'), rw (m, s2_append, ← p', ← q'))
 
-pub none_left : (l rest : List ℕ) (ps : List (List ℕ)) (k a b x y : ℕ) → AreBytes l → ps ≡ first_chunks 8 (length l / 8) l → length ps ≤ k
+pub none_left : (l rest : List ℕ) (ps : List (List ℕ)) (k a b x y : ℕ) → ps ≡ first_chunks 8 (length l / 8) l → length ps ≤ k
     → rest ≡ drop (length l / 8 * 8) l → length rest < 4
     → s1 x (pair_words (drop k ps)) ≡ s1 a (pair_words ps) → s2 x y (pair_words (drop k ps)) ≡ s2 a b (pair_words ps)
     → (x ≡ s1 a (words l)) × (y ≡ s2 a b (words l))
 unfolding s1 s2
-none_left l rest ps k a b x y c e h f n p q =
-    let d = pairs_done l rest ps k a b x y c e h f p q in
+none_left l rest ps k a b x y e h f n p q =
+    let d = pairs_done l rest ps k a b x y e h f p q in
     (rw (words_short rest n) at d.0, rw (words_short rest n) at d.1)
 
-pub one_left : (l rest : List ℕ) (ps : List (List ℕ)) (k a b x y w : ℕ) → AreBytes l → ps ≡ first_chunks 8 (length l / 8) l → length ps ≤ k
+pub one_left : (l rest : List ℕ) (ps : List (List ℕ)) (k a b x y w : ℕ) → ps ≡ first_chunks 8 (length l / 8) l → length ps ≤ k
     → rest ≡ drop (length l / 8 * 8) l → 4 ≤ length rest → length rest < 8 → w ≡ u32_at rest 0
     → s1 x (pair_words (drop k ps)) ≡ s1 a (pair_words ps) → s2 x y (pair_words (drop k ps)) ≡ s2 a b (pair_words ps)
     → (x + w ≡ s1 a (words l)) × (y + (x + w) ≡ s2 a b (words l))
 unfolding s1 s2
-one_left l rest ps k a b x y w c e h f n m g p q =
-    let d = pairs_done l rest ps k a b x y c e h f p q in
+one_left l rest ps k a b x y w e h f n m g p q =
+    let d = pairs_done l rest ps k a b x y e h f p q in
     let o : words rest ≡ w ∷ [] = words_next rest 0 (omega arith) ∙ ap₂ (λ (v : ℕ) (r : List ℕ). v ∷ r) (sym g) (words_end rest 4 (omega arith)) in
     (rw o at d.0, rw o at d.1)
 
