@@ -1,5 +1,5 @@
 -- Lines of standard input: what becomes of the bytes that were read, and, where the reader's bytes are known, of those to come.
-use Rattle.std.specs.Prelude.{Option, Some, None, Result, Ok, Err, IsSome, IsNone, is_none, IfSome, IfOk, cond, ◌||◌, ◌^◌, ◌<◌, ◌≡◌, List, [], ◌∷◌, Bool, true, false, ℕ, ◌+◌, ◌-◌, ◌≤◌, length, take, drop, set, ltb, eqb}
+use Rattle.std.specs.Prelude.{Option, Some, None, Result, Ok, Err, IsSome, IsNone, is_none, IfSome, IfOk, cond, not, ◌&&◌, ◌||◌, ◌^◌, ◌<◌, ◌≡◌, List, [], ◌∷◌, Bool, true, false, ℕ, ◌+◌, ◌-◌, ◌≤◌, length, take, drop, set, ltb, eqb}
 use Rattle.std.specs.Io.KnownBytes.{prepend_known}
 use Rattle.script.specs.declared.input.Lines.{Lines}
 use Rattle.script.specs.declared.input.TooLong.{TooLong}
@@ -80,3 +80,10 @@ to_come remaining s = prepend_known (left_of s) (remaining s.from)
 abbrev pub ReadsKnown : {R : Type 0} → (R → Option (List ℕ)) → Lines R → List ℕ → Option (Result ℕ TooLong) → Lines R → List ℕ → Type 0
 ReadsKnown remaining o l r p room =
     (xs : List ℕ) → to_come remaining o ≡ Some xs → length xs < 2 ^ 64 - 1 → IsNone p.failed → Reads (empty_line l) xs r room (to_come remaining p)
+
+-- whether the input ends with a line: no line feed is to come, and the line's room has no byte of it. Where the bytes are not known
+-- or a read failed, this much is said: a whole line that is left of the bytes read does not end it, and one that does has no byte there
+pub record Ends {R : Type 0} (remaining : R → Option (List ℕ)) (o : Lines R) (l : Line) (ended : Bool) (p : Lines R) : Type 0 where
+  pub there : has_feed (left_of o) ≡ true → ended ≡ false
+  pub none : ended ≡ true → l.len ≡ 0
+  pub known : (xs : List ℕ) → to_come remaining o ≡ Some xs → length xs < 2 ^ 64 - 1 → IsNone p.failed → ended ≡ (not (has_feed xs) && eqb l.len 0)

@@ -58,7 +58,7 @@ impl<R> Lines<R> {
 }
 
 impl<R: Read> Lines<R> {
-    ghost use Rattle.script.specs.Input.{has_feed, left_of, Fits, Ahead, ReadsKnown};
+    ghost use Rattle.script.specs.Input.{has_feed, left_of, line_of, Fits, Ahead, ReadsKnown, Ends};
     ghost use Rattle.script.specs.internal.Coming.{Refills};
 
     // Reads some more bytes where none is left: there is none then at the end, and where a read failed.
@@ -79,11 +79,24 @@ impl<R: Read> Lines<R> {
     }
 
     // The next line, without its line feed: how many bytes of its room it takes.
-    #[tactic(auto, using(crate::specs::laws::ReadLaws::coming_start))]
     pub fn next(&mut self, line: &mut [u8]) -> Option<Result<usize, TooLong>>
         ensures fits { Fits result (length line.new) }
         ensures ahead { has_feed (left_of self.old) ≡ true → Ahead self.old line.old result self.new line.new }
         ensures reads { ReadsKnown R.remaining self.old line.old result self.new line.new }
+    {
+        self.next_or_end(line).0
+    }
+
+    // The next line, and whether the input ends with it: no line feed is to come, and its room has no byte of it. A room of no bytes
+    // never has one, so a last line that is too long for it ends the input as well. `next` repeats the body, and so does not pay for
+    // what it doesn't ask.
+    #[inline(always)]
+    #[tactic(auto, using(crate::specs::laws::ReadLaws::coming_start))]
+    pub fn next_or_end(&mut self, line: &mut [u8]) -> (Option<Result<usize, TooLong>>, bool)
+        ensures fits { Fits result.0 (length line.new) }
+        ensures ahead { has_feed (left_of self.old) ≡ true → Ahead self.old line.old result.0 self.new line.new }
+        ensures reads { ReadsKnown R.remaining self.old line.old result.0 self.new line.new }
+        ensures ends { Ends R.remaining self.old (line_of result.0 line.new) result.1 self.new }
     {
         let mut len = 0;
         for _turn in 0..u64::MAX {
@@ -96,7 +109,7 @@ impl<R: Read> Lines<R> {
                 Some(n) => {
                     len = put(line, len, &left[..n]);
                     self.start += n + 1;
-                    return Some(fitting(len, line.len()));
+                    return (Some(fitting(len, line.len())), false);
                 }
                 None => {
                     len = put(line, len, left);
@@ -104,7 +117,8 @@ impl<R: Read> Lines<R> {
                 }
             }
         }
-        last(len, line.len())
+        let held = len.min(line.len());
+        (last(len, line.len()), held == 0)
     }
 }
 

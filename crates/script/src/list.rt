@@ -32,9 +32,9 @@ impl<'a> Words<'a> {
         &self.list[..self.count]
     }
 
-    // One more, where there is room for it.
+    // One more, where there is room for it; else they stay as they are.
     pub fn push(&mut self, w: &'a [u8]) -> Option<()>
-        ensures { MatchOption result (length (listed self.old) ≡ MOST)
+        ensures { MatchOption result ((length (listed self.old) ≡ MOST) × (listed self.new ≡ listed self.old))
             (λ _. listed self.new ≡ listed self.old ++ w.entry ∷ []) }
     {
         if self.count == MOST {

@@ -1,5 +1,5 @@
 -- How far a line has come while its bytes are read.
-use Rattle.std.specs.Prelude.{◌≡◌, Option, Some, IsNone, true, List, [], ℕ, ◌+◌, ◌-◌, ◌^◌, ◌≤◌, ◌<◌, length, min, ltb}
+use Rattle.std.specs.Prelude.{◌≡◌, Option, Some, IsNone, true, false, List, [], ℕ, ◌+◌, ◌-◌, ◌^◌, ◌≤◌, ◌<◌, length, min, ltb}
 use Rattle.script.specs.declared.input.Lines.{Lines}
 use Rattle.script.specs.Input.{Line, empty_line, filled, after_line, has_feed, left_of, to_come}
 
@@ -21,6 +21,7 @@ pub record Rest (l xs m : List ℕ) (len turn : ℕ) (known : Option (List ℕ))
   pub there : known ≡ Some ys
   pub line : filled (line_at len m) ys ≡ filled (empty_line l) xs
   pub after : after_line ys ≡ after_line xs
+  pub feed : has_feed ys ≡ has_feed xs
   pub all : min (len + length ys) (2 ^ 64 - 1) ≡ min (length xs) (2 ^ 64 - 1)
   pub turns : length ys + turn ≤ length xs
 
@@ -35,6 +36,7 @@ pub record Last (l xs m : List ℕ) (len : ℕ) (known : Option (List ℕ)) : Ty
   pub rest : known ≡ Some []
   pub line : line_at len m ≡ filled (empty_line l) xs
   pub after : after_line xs ≡ []
+  pub feed : has_feed xs ≡ false
   pub all : min len (2 ^ 64 - 1) ≡ length xs
 
 -- the end of the bytes, which no whole line was left of

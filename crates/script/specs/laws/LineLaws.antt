@@ -94,6 +94,13 @@ after_append (b ∷ bs) ys h =
     let f = feed_cons b bs h in
     rw f.0 (after_append bs ys f.1)
 
+pub feed_append : (xs ys : List ℕ) → has_feed xs ≡ false → has_feed (xs ++ ys) ≡ has_feed ys
+unfolding has_feed
+feed_append [] ys h = refl
+feed_append (b ∷ bs) ys h =
+    let f = feed_cons b bs h in
+    rw f.0 (feed_append bs ys f.1)
+
 -- a line feed ends the line
 pub filled_feed : (m : Line) (bs : List ℕ) → filled m (10 ∷ bs) ≡ m
 unfolding filled
@@ -102,6 +109,10 @@ filled_feed m bs = refl
 pub after_feed : (bs : List ℕ) → after_line (10 ∷ bs) ≡ bs
 unfolding after_line
 after_feed bs = refl
+
+pub feed_first : (bs : List ℕ) → has_feed (10 ∷ bs) ≡ true
+unfolding has_feed
+feed_first bs = refl
 
 -- ---- where it is
 

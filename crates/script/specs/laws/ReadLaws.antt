@@ -1,6 +1,6 @@
 -- Laws of a reader while a line is read. Assumes nothing.
 use Rattle.std.specs.Prelude.{◌≡◌, refl, List, [], ◌∷◌, ◌++◌, Option, None, Some, Result, Ok, Err, IsNone, MatchOption, MatchResult, Bool, true, false, ℕ, suc, ◌+◌, ◌-◌, ◌^◌, ◌≤◌, ◌<◌, min, length, take, drop, eqb, position}
-use Rattle.std.proofs.Common.{sym, ap, ◌∙◌, arith, lt-ltb, le-ltb, length-append, append_assoc, drop_of_length-le, ne_eqb, eq-eqb, ⊎_elim}
+use Rattle.std.proofs.Common.{sym, ap, ◌∙◌, arith, lt-ltb, le-ltb, length-append, append_assoc, drop_of_length-le, ne_eqb, eq-eqb, eqb-true, ⊎_elim}
 use Rattle.std.proofs.lemmas.Bool.{cases_lt}
 use Rattle.std.proofs.Math.Seq.{drop-drop}
 use Rattle.std.proofs.lemmas.List.{drop-take, length-take}
@@ -8,10 +8,10 @@ use Rattle.std.proofs.lemmas.Grind.{common_steps}
 use Rattle.std.specs.Io.KnownBytes.{prepend_known}
 use Rattle.script.specs.declared.input.Lines.{Lines}
 use Rattle.script.specs.declared.input.TooLong.{TooLong}
-use Rattle.script.specs.Input.{Line, empty_line, line_of, filled, after_line, has_feed, left_of, to_come, Ahead, Reads}
+use Rattle.script.specs.Input.{Line, empty_line, line_of, filled, after_line, has_feed, left_of, to_come, Ahead, Reads, Ends}
 use Rattle.script.specs.internal.Written.{written}
 use Rattle.script.specs.internal.Coming.{line_at, Refills, Rest, Coming, Last, Ended}
-use Rattle.script.specs.laws.LineLaws.{filled_none, filled_append, after_append, filled_feed, after_feed, feed_at, feed_none}
+use Rattle.script.specs.laws.LineLaws.{filled_none, filled_append, after_append, feed_append, filled_feed, after_feed, feed_first, feed_at, feed_none}
 
 -- ---- lines
 
@@ -39,6 +39,11 @@ fitted (Err x) l k h = sym (line_long l k h)
 
 empty_at : (l : List ℕ) → line_at 0 l ≡ empty_line l
 empty_at l = line_short l 0 (omega arith)
+
+last_at : (f : Option (Result ℕ TooLong)) (l : List ℕ) (k : ℕ)
+    → MatchOption f (k ≡ 0) (λ r. (0 < k) × MatchResult r (λ n. (n ≡ k) × (k ≤ length l)) (λ _. length l < k)) → line_of f l ≡ line_at k l
+last_at None l k e = rw e (sym (empty_at l))
+last_at (Some f) l k h = fitted f l k h.1
 
 written_length : (l part : List ℕ) (len : ℕ) → length (written l len part) ≡ length l
 written_length l part len = grind (arith, common_steps)
@@ -77,6 +82,7 @@ rest_turn l xs m a n len turn k old known h f g e w r z =
       there = s.1;
       line = ap (λ (x : Line). filled x zs) q ∙ sym (filled_append a zs (line_at len m) f) ∙ ap (filled (line_at len m)) y ∙ r.line;
       after = sym (after_append a zs f) ∙ ap after_line y ∙ r.after;
+      feed = sym (feed_append a zs f) ∙ ap has_feed y ∙ r.feed;
       all = let t = r.all in omega arith;
       turns = let t = r.turns in omega arith;
     }
@@ -106,14 +112,22 @@ rest_found l xs m a b n len turn k old known h f e w r z =
       some = let t = r.turns in omega arith;
     }
 
+rest_feed : (l xs m a b : List ℕ) (len turn : ℕ) (old known : Option (List ℕ)) → has_feed a ≡ false → (r : Rest l xs m len turn old)
+    → prepend_known (a ++ (10 ∷ b)) known ≡ Some r.ys → has_feed xs ≡ true
+rest_feed l xs m a b len turn old known f r z =
+    let s = known_split (a ++ (10 ∷ b)) r.ys known z in
+    let y : a ++ (10 ∷ (b ++ s.0)) ≡ r.ys = sym (append_assoc a (10 ∷ b) s.0) ∙ s.2 in
+    sym r.feed ∙ sym (ap has_feed y) ∙ feed_append a (10 ∷ (b ++ s.0)) f ∙ feed_first (b ++ s.0)
+
 -- no byte is to come
 last_none : (l xs m : List ℕ) (len turn : ℕ) (old known : Option (List ℕ)) (r : Rest l xs m len turn old) → r.ys ≡ [] → known ≡ Some r.ys
     → length xs < 2 ^ 64 - 1 → Last l xs m len known
-unfolding filled after_line
+unfolding filled after_line has_feed
 last_none l xs m len turn old known r e k h = record {
   rest = k ∙ ap Some e;
   line = sym (ap (filled (line_at len m)) e) ∙ r.line;
   after = sym r.after ∙ ap after_line e;
+  feed = sym r.feed ∙ ap has_feed e;
   all =
       let a = r.all in
       let b : length r.ys ≡ 0 = ap length e in
@@ -149,6 +163,7 @@ module _ {R : Type 0} {remaining : R → Option (List ℕ)} where
       there = e;
       line = ap (λ (m : Line). filled m xs) (empty_at l);
       after = refl;
+      feed = refl;
       all = omega arith;
       turns = omega arith;
     };
@@ -191,6 +206,20 @@ module _ {R : Type 0} {remaining : R → Option (List ℕ)} where
         rest = rw u a.rest;
         ended = sym (ne_eqb (length xs) 0 (λ (y : length xs ≡ 0). let w = a.some in omega arith));
       }
+
+  pub ends_found : (o s p q : Lines R) (l m : List ℕ) (x : Line) (len turn n : ℕ) → Coming remaining o s l m len turn → Refills remaining s p
+      → position (λ b. eqb b 10) (left_of p) ≡ Some n → q.failed ≡ p.failed → Ends remaining o x false q
+  ends_found o s p q l m x len turn n c d e v = record {
+    there = λ _. refl;
+    none = λ (t : false ≡ true). cc;
+    known = λ (xs : List ℕ) (y : to_come remaining o ≡ Some xs) (_ : length xs < 2 ^ 64 - 1) (i : IsNone q.failed).
+        let j : IsNone p.failed = rw v at i in
+        let at = feed_at (left_of p) n e in
+        let b = c.coming (d.kept j) xs y in
+        let z : prepend_known (take n (left_of p) ++ (10 ∷ drop (n + 1) (left_of p))) (remaining p.from) ≡ Some b.ys =
+        rw at.1 at (d.same j b.ys b.there) in
+        rw (rest_feed l xs m (take n (left_of p)) (drop (n + 1) (left_of p)) len turn _ (remaining p.from) at.0 b z) refl;
+  }
 
   pub ahead_found : (o s p q : Lines R) (l m r : List ℕ) (len turn k n : ℕ) (f : Result ℕ TooLong) → Coming remaining o s l m len turn
       → Refills remaining s p → length m < 2 ^ 64 - 1 → position (λ b. eqb b 10) (left_of p) ≡ Some n
@@ -257,7 +286,7 @@ module _ {R : Type 0} {remaining : R → Option (List ℕ)} where
       let a = e.last i xs x h in
       let all = a.all in
       record {
-        line = sym (empty_at m) ∙ rw z at a.line;
+        line = last_at None m len z ∙ a.line;
         rest = a.rest ∙ ap Some (sym a.after);
         ended = sym (eq-eqb (length xs) 0 (omega arith));
       }
@@ -266,7 +295,17 @@ module _ {R : Type 0} {remaining : R → Option (List ℕ)} where
       let all = a.all in
       let some : 0 < len = z.0 in
       record {
-        line = fitted f m len z.1 ∙ a.line;
+        line = last_at (Some f) m len z ∙ a.line;
         rest = a.rest ∙ ap Some (sym a.after);
         ended = sym (ne_eqb (length xs) 0 (λ (y : length xs ≡ 0). omega arith));
       }
+
+  pub ends_last : (o p : Lines R) (l m : List ℕ) (len n : ℕ) (f : Option (Result ℕ TooLong)) → Ended remaining o p l m len
+      → MatchOption f (len ≡ 0) (λ r. (0 < len) × MatchResult r (λ n. (n ≡ len) × (len ≤ length m)) (λ _. length m < len))
+      → n ≡ min len (length m) → Ends remaining o (line_of f m) (eqb n 0) p
+  ends_last o p l m len n f e z u = rw (last_at f m len z, u) (record {
+    there = λ (t : has_feed (left_of o) ≡ true). absurd (e.none t);
+    none = λ (t : eqb (min len (length m)) 0 ≡ true). eqb-true (min len (length m)) 0 t;
+    known = λ (xs : List ℕ) (x : to_come remaining o ≡ Some xs) (h : length xs < 2 ^ 64 - 1) (i : IsNone p.failed).
+        rw (e.last i xs x h).feed refl;
+  })

@@ -1,9 +1,9 @@
 use Rattle.std.proofs.Common.{◌+◌, refl, sym, rules, tests, arith}
 use Rattle.script.specs.internal.Coming.{Ended}
-use Rattle.script.specs.laws.ReadLaws.{coming_turn, reads_found, ahead_found, left_drop, ended_empty, ended_turns, none_left, reads_last}
-use Rattle.script.proofs.input.Lines.next.Given as Given
-use Rattle.script.proofs.input.Lines.next.Goals as goal
-use Rattle.script.proofs.input.Lines.next.Goals.{else-loop-turn-test, then-loop-turn-test+then-is_empty}
+use Rattle.script.specs.laws.ReadLaws.{coming_turn, reads_found, ahead_found, left_drop, ends_found, ended_empty, ended_turns, none_left, reads_last, ends_last}
+use Rattle.script.proofs.input.Lines.next_or_end.Given as Given
+use Rattle.script.proofs.input.Lines.next_or_end.Goals as goal
+use Rattle.script.proofs.input.Lines.next_or_end.Goals.{else-loop-turn-test, then-loop-turn-test+then-is_empty}
 
 pub returns-in-Some-clause-ahead : goal.returns-in-Some-clause-ahead
 returns-in-Some-clause-ahead g c = λ t.
@@ -18,6 +18,11 @@ returns-in-Some-clause-reads g c = λ xs x h i.
     c.loop-turn.len c.loop-turn._turn c.put-len.result c.in-Some.n c.fitting.result xs c.loop-turn.invariant c.refill.ensures
     (omega arith) (sym c.in-Some.ensures) c.put-len.ensures.count c.put-len.ensures.room
     (left_drop c.refill.new.self.bytes c.refill.new.self.start c.refill.new.self.end (c.in-Some.n + 1)) c.fitting.ensures x i
+
+pub returns-in-Some-clause-ends : goal.returns-in-Some-clause-ends
+returns-in-Some-clause-ends g c =
+    ends_found c.args.self.now c.loop-turn.self c.refill.new.self _ c.args.line.now c.loop-turn.line _
+    c.loop-turn.len c.loop-turn._turn c.in-Some.n c.loop-turn.invariant c.refill.ensures (sym c.in-Some.ensures) refl
 
 pub loop-turn-preserved : goal.loop-turn-preserved
 loop-turn-preserved g c =
@@ -45,3 +50,8 @@ pub returns-clause-reads : goal.returns-clause-reads
 returns-clause-reads g c = λ xs x h i.
     reads_last c.args.self.now c.loop-turn-test.self c.args.line.now c.loop-turn.line c.loop-turn.len c.last.result xs
     (ended g c) c.last.ensures x h i
+
+pub returns-clause-ends : goal.returns-clause-ends
+returns-clause-ends g c =
+    ends_last c.args.self.now c.loop-turn-test.self c.args.line.now c.loop-turn.line c.loop-turn.len c.min-held.result c.last.result
+    (ended g c) c.last.ensures c.min-held.ensures
