@@ -44,25 +44,21 @@ impl Order {
     pub fn compare(self, a: &[u8], b: &[u8]) -> Ordering
         ensures { result ≡ compared self.code a.now b.now }
     {
-        if self.code != Self::PAIR {
-            return lead::byte_compare(a, b);
-        }
-        if a.len() == 16 && b.len() == 16 {
+        if self.code == Self::PAIR && a.len() == 16 && b.len() == 16 {
             return pair_compare(a, b);
         }
         lead::byte_compare(a, b)
     }
 
-    // Whether the key a stands before the key b.
+    // Whether the key a stands before the key b. Called in place, so that a loop which compares keys of one order asks for the order
+    // once, and not for each of its keys.
+    #[inline(always)]
     #[tactic(auto, using(crate::specs::laws::order::Compared::lesser))]
     pub fn less(self, a: &[u8], b: &[u8]) -> bool
         ensures { result ≡ less self.code a.now b.now }
     {
-        if self.code != Self::PAIR {
-            return byte_less(a, b);
-        }
-        if a.len() == 16 && b.len() == 16 {
-            return pair_compare(a, b).is_lt();
+        if self.code == Self::PAIR {
+            return pair_less(a, b);
         }
         byte_less(a, b)
     }
@@ -87,6 +83,17 @@ fn pair_compare(a: &[u8], b: &[u8]) -> Ordering
 {
     let ids = bytes::field_at::<8>(a, 0).cmp(&bytes::field_at::<8>(b, 0));
     ids.then_with(|| bytes::field_at::<8>(a, 8).cmp(&bytes::field_at::<8>(b, 8)))
+}
+
+// Whether a stands before b in the order of pairs, which compares what are no two pairs as bytes.
+#[tactic(auto, using(crate::specs::laws::order::Compared::lesser_pairs))]
+fn pair_less(a: &[u8], b: &[u8]) -> bool
+    ensures { result ≡ less pair a.now b.now }
+{
+    if a.len() == 16 && b.len() == 16 {
+        return pair_compare(a, b).is_lt();
+    }
+    byte_less(a, b)
 }
 
 // Whether a stands before b as bytes.

@@ -1,5 +1,5 @@
 // One record of a slot: an entry as it lies in the slot's bytes (specs/Records.antt).
-ghost use Rattle.std.specs.Prelude.{◌≡◌, false, ◌+◌, ◌≤◌, ◌<◌, ◌^◌, length, drop, leb, MatchOption};
+ghost use Rattle.std.specs.Prelude.{◌≡◌, false, ◌+◌, ◌≤◌, ◌<◌, ◌^◌, ◌++◌, length, drop, leb, MatchOption};
 ghost use Rattle.seal.specs.Bytes.{splice, bytes_of, u16_at};
 ghost use Rattle.node.specs.Entry.{value_length, value_bytes};
 ghost use Rattle.node.specs.Records.{mark_of, mark_length, record_bytes, record_of, record_length, entry_of};
@@ -233,15 +233,36 @@ pub fn put(slot: &mut [u8], at: usize, key: &[u8], mark: u64, value: &[u8])
     bytes::copy_to(value, slot, at + 4 + klen);
 }
 
-// A record stored at an offset: that of a key and a value.
-#[tactic(auto, using(crate::specs::laws::slot::Records::put_record_of))]
+// The start of a record stored at an offset: its key's length, its value's mark, its key.
+#[inline(always)]
+#[tactic(auto, using(crate::specs::laws::slot::Records::head_joined))]
+fn put_start(slot: &mut [u8], at: usize, value_mark: u64, key: &[u8])
+    requires { at + 4 + length key.now ≤ length slot.old }
+    ensures { slot.new ≡ splice slot.old at (bytes_of 2 (length key.now) ++ bytes_of 2 value_mark ++ key.now) }
+{
+    bytes::put_field::<2>(slot, at, key.len() as u64);
+    bytes::put_field::<2>(slot, at + 2, value_mark);
+    bytes::copy_to(key, slot, at + 4);
+}
+
+// A record stored at an offset: that of a key and a value. The kind of the value is asked once: with one test for its mark and
+// one, behind the key, for its bytes, to copy a node's entries takes longer.
+#[inline(always)]
+#[tactic(auto, using(crate::specs::laws::slot::Put::valued))]
 pub fn put_value(slot: &mut [u8], at: usize, key: &[u8], value: Val<'_>)
     requires { at + 4 + length key.now + value_length (value_means value) ≤ length slot.old }
     ensures { slot.new ≡ splice slot.old at (record_of (record { key = key.now; value = value_means value.entry })) }
 {
-    let klen = key.len();
-    bytes::put_field::<2>(slot, at, klen as u64);
-    bytes::put_field::<2>(slot, at + 2, value.mark());
-    bytes::copy_to(key, slot, at + 4);
-    value.store(slot, at + 4 + klen);
+    let end = at + 4 + key.len();
+    match value {
+        Val::Ghost => put_start(slot, at, GHOST, key),
+        Val::Leaf(bytes) => {
+            put_start(slot, at, bytes.len() as u64, key);
+            bytes::copy_to(bytes, slot, end);
+        }
+        Val::Child(c) => {
+            put_start(slot, at, c.mark(), key);
+            bytes::put_field::<8>(slot, end, c.number());
+        }
+    }
 }

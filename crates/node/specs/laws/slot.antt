@@ -9,4 +9,5 @@ pub mod Passed
 pub mod PassByLead
 pub mod Relink
 pub mod Stored
+pub mod Put
 pub mod Walk

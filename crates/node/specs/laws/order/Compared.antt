@@ -77,3 +77,10 @@ less_by_code o a b =
 
 -- what `Order::less` takes of these
 pub ruleset lesser = (compared_lt, less_by_code)
+
+-- the same of the order of pairs
+pub pair_by_length : (a b : List ℕ) → less pair a b ≡ cond (eqb (length a) 16 && eqb (length b) 16) (less pair a b) (less byte a b)
+pair_by_length a b = less_by_code pair a b
+
+-- what `pair_less` takes of these
+pub ruleset lesser_pairs = (compared_lt, pair_by_length)
