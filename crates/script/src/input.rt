@@ -87,9 +87,9 @@ impl<R: Read> Lines<R> {
         self.next_or_end(line).0
     }
 
-    // The next line, and whether the input ends with it: no line feed is to come, and its room has no byte of it. A room of no bytes
-    // never has one, so a last line that is too long for it ends the input as well. `next` repeats the body, and so does not pay for
-    // what it doesn't ask.
+    // The next line, and whether the input ends with it: no line feed is to come, and no byte of the line is in its room. A room of no
+    // bytes holds none, so a last line that is too long for it ends the input as well. Called in place, so that `next`, which asks for
+    // the line alone, does not pay for the other answer.
     #[inline(always)]
     #[tactic(auto, using(crate::specs::laws::ReadLaws::coming_start))]
     pub fn next_or_end(&mut self, line: &mut [u8]) -> (Option<Result<usize, TooLong>>, bool)
