@@ -26,8 +26,10 @@ impl<'a> Words<'a> {
         }
     }
 
+    // The words as a slice: never more than a line has.
     pub fn as_slice(&self) -> &[&'a [u8]]
-        ensures { result.now ≡ listed self.now }
+        ensures value { result.now ≡ listed self.now }
+        ensures fits { length result.now ≤ MOST }
     {
         &self.list[..self.count]
     }

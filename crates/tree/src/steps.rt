@@ -41,10 +41,11 @@ impl Steps {
         self.count += 1;
     }
 
-    // The steps as a slice, the root's first.
+    // The steps as a slice, the root's first: never more than a way has.
     #[tactic(auto, unfolding(crate::specs::internal::Steps::positions))]
     pub fn as_slice(&self) -> &[Position]
-        ensures { result.now ≡ positions self.now }
+        ensures value { result.now ≡ positions self.now }
+        ensures fits { length result.now ≤ 34 }
     {
         &self.all[..self.count]
     }
